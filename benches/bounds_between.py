@@ -118,7 +118,8 @@ class Layer:
             if k % 4 == 3:
                 yield from (f"%AMP{k}*", f"{self.outline(size)},{turn}*%", f"%ADD{k}P{k}*%")
             elif k % 4 == 0:
-                yield from (f"%AMP{k}*", f"21,1,{w},{h},0,0,{turn}*", f"1,1,{w},0,0,{turn}*", f"20,1,{h},0,0,{w},0,{turn}*%", f"%ADD{k}P{k}*%")
+                middle = self.rng.choice(("0,0", f"{left},-{right}"))
+                yield from (f"%AMP{k}*", f"21,1,{w},{h},0,0,{turn}*", f"1,1,{w},{middle},{turn}*", f"20,1,{h},0,0,{w},0,{turn}*%", f"%ADD{k}P{k}*%")
             elif k % 4 == 1:
                 yield f"%ADD{k}RotRect,{w}X{h}X{turn}*%"
             else:

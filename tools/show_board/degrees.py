@@ -1,6 +1,7 @@
-"""Convex figures of macros that are turned by no quarter turn, between contours of whole corners, as the crate `slants` takes them.
+"""Convex figures and discs of macros that are turned by no quarter turn, between contours of whole corners and discs about whole spots, as the crate
+`slants` takes them.
 
-How the corners were found does not matter: they are tested, at each turn of the cone of the angle.
+How these were found does not matter: they are tested, at each turn of the cone of the angle.
 """
 from fractions import Fraction as Q
 from functools import lru_cache
@@ -9,9 +10,10 @@ from .cones import DEGREE, RIGHT_ANGLE, cone_of, way_of
 from .exact import cos_sin, turned
 from .outlines import mitres, whole_corners
 from .rounds import is_convex
-from .spots import cross, edges
+from .spots import cross, dot, edges
 
 CORNERS = 500   # at most: each is compared with each edge
+FARTHEST = 400  # u that a centre within a metre comes off
 FURTHER = [Q(k, 2) for k in (1, 2, 3, 4, 6, 8, 12, 16, 32, 64, 128)]    # u that edges are tried further in or out
 ORIGIN = (0, 0)
 
@@ -21,16 +23,29 @@ def placed(kind, corners, degrees):
     return figure_of(corners, degrees) or (kind, [turned(p, cos_sin(degrees)) for p in corners])
 
 
+def placed_disc(centre, radius, degrees):
+    """A disc so: ("turned disc", whole centre, radius, angle) or ("disc", centre, radius)."""
+    found = turns_left([centre], degrees)
+    if found and radius.denominator == 1 and found[0] != (ORIGIN,) and turned_disc_bounds(found[0][0], int(radius), found[1]):
+        return "turned disc", found[0][0], int(radius), found[1]
+    return "disc", turned(centre, cos_sin(degrees)), radius
+
+
 def figure_of(corners, degrees):
     """Its corners after the whole quarter turns, and what is left; None where nothing is left, or the check takes no bounds of it."""
+    found = turns_left(corners, degrees) if len(corners) <= CORNERS else None
+    return ("turned", *found) if found and turned_bounds(*found) else None
+
+
+def turns_left(corners, degrees):
+    """Whole corners after the whole quarter turns, and what is left; None where nothing is, or one is not whole."""
     quarters, angle = divmod(degrees * DEGREE, RIGHT_ANGLE)
-    if not angle or angle.denominator != 1 or len(corners) > CORNERS:
-        return None
     spots, is_whole = whole_corners(corners)
+    if not angle or angle.denominator != 1 or not is_whole:
+        return None
     for _ in range(quarters % 4):
         spots = [(-y, x) for x, y in spots]
-    found = tuple(spots), int(angle)
-    return ("turned", *found) if is_whole and turned_bounds(*found) else None
+    return tuple(spots), int(angle)
 
 
 # ---- the check
@@ -65,6 +80,24 @@ def lies_within(figure, first, last, found):
     """The figure lies so round what was found, turned back."""
     (a, b), (c, d) = first, last
     return lies_round(found, (a, -b), (c, -d), figure)
+
+
+def stays_near(centre, first, last, spot, far):
+    """The centre comes at most so far from the spot, at both turns and where the tangents at them meet."""
+    still = far * far - dot(ORIGIN, centre, centre) - dot(ORIGIN, spot, spot)
+    headings = meet(first, first), meet(first, last), meet(last, last)
+    return all(still * n + 2 * dot(ORIGIN, centre, spot) * x + 2 * cross(ORIGIN, centre, spot) * y >= 0 for x, y, n in headings)
+
+
+# ---- the discs
+
+def turned_disc_bounds(centre, radius, angle):
+    """The discs within and round one that is turned about the origin by less than a right angle; None where there is none round it."""
+    cone, (x, y, n) = cone_of(angle), meet(way_of(angle), way_of(angle))
+    spot = round(Q(centre[0] * x - centre[1] * y, n)), round(Q(centre[0] * y + centre[1] * x, n))
+    by = next((far for far in range(1, FARTHEST) if stays_near(centre, *cone, spot, far)), None)
+    disc = lambda r: [("capsule", spot, spot, r)]
+    return (disc(radius - by) if by < radius else [], disc(radius + by)) if by else None
 
 
 # ---- the contours

@@ -3,7 +3,7 @@ import re
 from fractions import Fraction as Q
 
 from .clear import Object, whole
-from .degrees import placed, turned_bounds
+from .degrees import placed, placed_disc, turned_bounds, turned_disc_bounds
 from .exact import Refused, cos_sin, decimal, exact, limited, minus, plus, root, times, turned
 from .outlines import convex_bounds, disc_bounds, polygon_bounds, whole_corners
 from .slants import line_bounds
@@ -125,8 +125,8 @@ COUNTS = {1: (5, 6), 2: (8,), 20: (8,), 21: (7,), 22: (7,), 5: (7,)}
 
 
 def figures(body, parameters, scale):
-    """The real shapes of a macro's body, turned, in u: ("disc", centre, radius), ("line", start, end, width) and ("turned", corners, angle)
-    of whole numbers, ("convex", corners) or ("outline", corners)."""
+    """The real shapes of a macro's body, turned, in u: ("disc", centre, radius), ("line", start, end, width), ("turned", corners, angle)
+    and ("turned disc", centre, radius, angle) of whole numbers, ("convex", corners) or ("outline", corners)."""
     variables = {k + 1: value for k, value in enumerate(parameters)}
     for word in body:
         word = re.sub(r"\s", "", word)
@@ -155,7 +155,7 @@ def primitive(values, scale):
     u = [v * scale for v in values]
     degrees = values[-1] if code != 1 or len(values) == 6 else Q(0)
     if code == 1:
-        return sized(u[2]) and exposed(values[1], ("disc", turned((exact(u[3]), exact(u[4])), cos_sin(degrees)), u[2] / 2))
+        return sized(u[2]) and exposed(values[1], placed_disc((exact(u[3]), exact(u[4])), u[2] / 2, degrees))
     kind, corners = "convex", None
     if code in (2, 20):
         if sized(u[2]) and u[3:5] != u[5:7]:
@@ -218,7 +218,7 @@ def bounds_of(figure):
     return BOUNDS[figure[0]](*figure[1:])
 
 
-BOUNDS = {"disc": disc_bounds, "line": line_bounds, "turned": turned_bounds, "convex": convex_bounds, "outline": polygon_bounds}
+BOUNDS = {"disc": disc_bounds, "line": line_bounds, "turned": turned_bounds, "turned disc": turned_disc_bounds, "convex": convex_bounds, "outline": polygon_bounds}
 
 
 def without(figures_in_order):
@@ -242,6 +242,8 @@ def row(kind, *parts):
         return (len(line_bounds(*parts)[0]), 1) if parts[2] % 2 == 0 else None
     if kind == "turned":
         return len(turned_bounds(*parts)[0]), 1
+    if kind == "turned disc":
+        return len(turned_disc_bounds(*parts)[0]), 1
     if kind == "disc":
         return (1, 1) if whole_corners(parts[:1])[1] and parts[1].denominator == 1 else None
     return (1, 1) if kind in ("convex", "outline") and whole_corners(parts[0])[1] else None

@@ -20,15 +20,14 @@ use Rattle.aperture_macros.specs.declared.primitive.Turning.TheVariants.{Quarter
 use Rattle.aperture_macros.specs.BodyWord.{PlainPrimitive, ◌>>=◌, part, past}
 use Rattle.aperture_macros.specs.Degrees.{turn_at, turn_of}
 use Rattle.aperture_macros.specs.Flashes.{figure_turned, tell, told_figure, turn_behind}
-use Rattle.aperture_macros.specs.Images.{circle_at, figure_by, set_down, sketch_at}
-use Rattle.aperture_macros.specs.Laws.{IsTold, RealAreasAreTold}
-use Rattle.aperture_macros.specs.Seen.{is_circle}
+use Rattle.aperture_macros.specs.Images.{area_at, circle_at, figure_by, set_down, sketch_at}
+use Rattle.aperture_macros.specs.Laws.{IsRoundTold, IsTold, RealAreasAreTold}
 use Rattle.aperture_macros.specs.Sized.{IsSized}
-use Rattle.aperture_macros.specs.Telling.{told, told_in}
+use Rattle.aperture_macros.specs.Telling.{is_moved, round_told, told, told_in, told_round}
 use Rattle.aperture_macros.specs.Values.{coordinate_at, diameter_at, point_at}
 use Rattle.aperture_macros.proofs.Readings.{read_sized, real_turning}
 use Rattle.aperture_macros.proofs.Strokes.{then_ok}
-use Rattle.aperture_macros.proofs.Told.{area_is, area_points, no_round, told_is_found}
+use Rattle.aperture_macros.proofs.Told.{area_is, area_points, no_round, round_found, told_is_found}
 
 -- what quarter turns leave is less than one
 rest_below : (text : List ℕ) (given : List Fraction) (turn : Turn) → turn_at text given ≡ Ok turn → turn.rest < 900000000
@@ -41,28 +40,42 @@ rest_below text given turn h =
 
 -- ---- What a primitive that is turned by degrees tells
 
-telling : (p : PlainPrimitive) (given : List Fraction) (unit : Measure) (at : Spot) (points : List Spot) (turn : Turn) (o : Option Figure) → IsSized p.form → turn_behind p.form p.lengths given ≡ Ok turn → figure_by p.form turn.quarters p.lengths given unit at ≡ Ok o → tell at turn.rest o ≡ Ok (Some (filled points)) → IsTold p given unit at points
+abbrev IsEither : PlainPrimitive → List Fraction → Measure → Spot → List Spot → Type 0
+IsEither p given unit at points = IsTold p given unit at points ⊎ IsRoundTold p given unit at points
+
+telling : (p : PlainPrimitive) (given : List Fraction) (unit : Measure) (at : Spot) (points : List Spot) (turn : Turn) (o : Option Figure) → IsSized p.form → turn_behind p.form p.lengths given ≡ Ok turn → figure_by p.form turn.quarters p.lengths given unit at ≡ Ok o → tell at turn.rest o ≡ Ok (Some (filled points)) → IsEither p given unit at points
 telling p given unit at points turn None sized said flashed h = cc
-telling p given unit at points turn (Some (round s)) sized said flashed h = cc
+telling p given unit at points turn (Some (round s)) sized said flashed h = by (is_moved at turn.rest s) h
+  where
+    by : (b : Bool) → cond b (area_at (told_round at turn.rest s)) (Ok (Some (round s))) ≡ Ok (Some (filled points)) → IsEither p given unit at points
+    by false k = cc
+    by true k = inr (record {
+      turn = turn;
+      stroke = s;
+      said = said;
+      below = rest_below _ given turn said;
+      flashed = flashed;
+      found = ap round_told (sym (area_points (told_round at turn.rest s) points k)) ∙ round_found at turn.rest s;
+    })
 telling p given unit at points turn (Some (filled contour)) sized said flashed h =
     let is = area_is p.form turn.quarters p.lengths given unit at contour sized flashed in
-    record {
+    inl (record {
       turn = turn;
       contour = contour;
       said = said;
       below = rest_below _ given turn said;
       flashed = flashed;
       found = ap told_in (sym (area_points (told at turn.rest contour) points h)) ∙ told_is_found at turn.rest contour is.closed is.enough;
-    }
+    })
 
-by_degrees : (p : PlainPrimitive) (given : List Fraction) (unit : Measure) (at : Spot) (points : List Spot) → IsSized p.form → figure_turned Degrees p.form p.lengths given unit at ≡ Ok (Some (filled points)) → IsTold p given unit at points
+by_degrees : (p : PlainPrimitive) (given : List Fraction) (unit : Measure) (at : Spot) (points : List Spot) → IsSized p.form → figure_turned Degrees p.form p.lengths given unit at ≡ Ok (Some (filled points)) → IsEither p given unit at points
 unfolding figure_turned
 by_degrees p given unit at points sized h =
     let t = then_ok (turn_behind p.form p.lengths given) (λ turn. told_figure turn p.form p.lengths given unit at) (Some (filled points)) h in
     let f = then_ok (figure_by p.form t.0.quarters p.lengths given unit at) (λ figure. tell at t.0.rest figure) (Some (filled points)) t.2 in
     telling p given unit at points t.0 f.0 sized t.1 f.1 f.2
 
--- ---- A circle flashes no area
+-- ---- A circle that is turned by no degrees flashes no area
 
 no_area : {P : Type 0} (text : List ℕ) (given : List Fraction) (unit : Measure) (rotation : Rotation) (at : Spot) (points : List Spot) → figure_by Circle rotation text given unit at ≡ Ok (Some (filled points)) → P
 unfolding figure_by circle_at sketch_at
@@ -79,11 +92,7 @@ no_area {P = P} text given unit rotation at points h =
         let same : Some (Disc p d) ≡ o = cc in
         no_round (is_placed (set_down rotation at p)) _ points (subst (λ (x : Option Sketch). sketch_at rotation at x ≡ Ok (Some (filled points))) (sym same) h)
 
-pub circle_alone : {P : Type 0} (form : Form) (text : List ℕ) (given : List Fraction) (unit : Measure) (rotation : Rotation) (at : Spot) (points : List Spot) → is_circle form ≡ true → figure_by form rotation text given unit at ≡ Ok (Some (filled points)) → P
-circle_alone Circle text given unit rotation at points is h = no_area text given unit rotation at points h
-circle_alone other text given unit rotation at points is h = cc
-
-circle_tells : (turning : Turning) (p : PlainPrimitive) (given : List Fraction) (unit : Measure) (at : Spot) (points : List Spot) → IsSized p.form → p.form ≡ Circle → figure_turned turning p.form p.lengths given unit at ≡ Ok (Some (filled points)) → IsTold p given unit at points
+circle_tells : (turning : Turning) (p : PlainPrimitive) (given : List Fraction) (unit : Measure) (at : Spot) (points : List Spot) → IsSized p.form → p.form ≡ Circle → figure_turned turning p.form p.lengths given unit at ≡ Ok (Some (filled points)) → IsEither p given unit at points
 unfolding figure_turned
 circle_tells (Quarters rotation) p given unit at points sized is h = no_area p.lengths given unit rotation at points (subst (λ (f : Form). figure_by f rotation p.lengths given unit at ≡ Ok (Some (filled points))) is h)
 circle_tells Degrees p given unit at points sized is h = by_degrees p given unit at points sized h
@@ -91,6 +100,6 @@ circle_tells Degrees p given unit at points sized is h = by_degrees p given unit
 pub real_areas_are_told : RealAreasAreTold
 real_areas_are_told word p given unit at points read h = by (real_turning word p read)
   where
-    by : ((p.rotation ≡ Degrees) ⊎ (p.form ≡ Circle)) → IsTold p given unit at points
+    by : ((p.rotation ≡ Degrees) ⊎ (p.form ≡ Circle)) → IsEither p given unit at points
     by (inl is) = by_degrees p given unit at points (read_sized Real word p read) (subst (λ (t : Turning). figure_turned t p.form p.lengths given unit at ≡ Ok (Some (filled points))) is h)
     by (inr is) = circle_tells p.rotation p given unit at points (read_sized Real word p read) is h

@@ -27,7 +27,7 @@ use Rattle.aperture_macros.specs.Images.{area_at, circle_at, centre_at, centred,
 use Rattle.aperture_macros.specs.declared.primitive.Turning.{Turning}
 use Rattle.aperture_macros.specs.declared.primitive.Turning.TheVariants.{Quarters, Degrees}
 use Rattle.aperture_macros.specs.Flashes.{figure_turned, tell, told_figure, turn_behind, turn_judged}
-use Rattle.aperture_macros.specs.Telling.{told}
+use Rattle.aperture_macros.specs.Telling.{is_moved, told, told_round as told_as_round}
 use Rattle.aperture_macros.specs.Laws.{FlashesDiscsAlone, IsSlanted, StrokesAreSlantedLines}
 use Rattle.aperture_macros.specs.Values.{diameter_at, point_at, size_at}
 
@@ -232,7 +232,11 @@ discs_by CentreLine rotation text given unit at s j h = flat_by (centre_at text 
 
 told_round : (about : Spot) (rest : ℕ) (o : Option Figure) (s : Figured) → tell about rest o ≡ Ok (Some (round s)) → ◌≡◌ {A = Result (Option Figure) MacroFault} (Ok o) (Ok (Some (round s)))
 told_round about rest None s h = cc
-told_round about rest (Some (round t)) s h = h
+told_round about rest (Some (round t)) s h = by (is_moved about rest t) h
+  where
+    by : (b : Bool) → cond b (area_at (told_as_round about rest t)) (Ok (Some (round t))) ≡ Ok (Some (round s)) → ◌≡◌ {A = Result (Option Figure) MacroFault} (Ok (Some (round t))) (Ok (Some (round s)))
+    by true k = no_area (told_as_round about rest t) s k
+    by false k = k
 told_round about rest (Some (filled points)) s h = no_area (told about rest points) s h
 
 -- what tells no turn is as it is by quarter turns

@@ -5,6 +5,7 @@ use Rattle.std.proofs.lemmas.Int.{ints}
 use Rattle.std.proofs.lemmas.List.{length-map}
 use Rattle.std.specs.Prelude.{nat_le, nat_lt, slice_index_or, unsigned_abs, ◌&&◌}
 use Rattle.std.specs.List.{list_all}
+use Rattle.std.specs.Ordering.{int_eq}
 use Rattle.planar.specs.Plane.{is_placed}
 use Rattle.planar.specs.declared.Spot.{Spot}
 use Rattle.board_shapes.specs.Figures.{Figure, Stroke as Figured, filled, round}
@@ -28,8 +29,8 @@ use Rattle.aperture_macros.specs.Images.{area_at, centre_at, circle_at, figure_b
 use Rattle.aperture_macros.specs.Sized.{IsSized}
 use Rattle.aperture_macros.proofs.Closings.{closed_moved, outline_is}
 use Rattle.aperture_macros.specs.Flashes.{figure_turned, needs_quarters, tell, told_figure, turn_behind, turn_judged}
-use Rattle.aperture_macros.specs.Telling.{rest_of, tail_of, told, told_in, telling_at, way_of}
-use Rattle.aperture_macros.specs.Laws.{ToldIsFound}
+use Rattle.aperture_macros.specs.Telling.{is_moved, rest_of, round_told, tail_of, told, told_in, told_round, telling_at, way_of}
+use Rattle.aperture_macros.specs.Laws.{RoundToldIsFound, ToldIsFound}
 use Rattle.aperture_macros.proofs.Strokes.{then_ok}
 
 -- ---- A contour and its tail
@@ -71,7 +72,7 @@ way_back x y q r = omega (arith, ints)
 rest_back : (about : Spot) (rest : ℕ) → rest_of about (record { x = about.x +ℤ (way_of rest).x; y = about.y +ℤ (way_of rest).y }) ≡ rest
 rest_back about rest = let w = way_back about.x about.y (rest / 30000) (rest % 30000) in w ∙ omega arith
 
-spot_same : (p q : Spot) → p ≡ q → same_spot p q ≡ true
+pub spot_same : (p q : Spot) → p ≡ q → same_spot p q ≡ true
 spot_same p q h = rw (h, (Decides-int_eq q.x q.x).1 refl, (Decides-int_eq q.y q.y).1 refl) refl
 
 found : (about : Spot) (rest : ℕ) (p : Spot) (contour : List Spot) → is_closed (p ∷ contour) ≡ true → telling_at (p ∷ contour) (tail_of about rest p) ≡ Some (record { contour = p ∷ contour; about = about; rest = rest })
@@ -86,6 +87,24 @@ told_is_found about rest (p ∷ contour) closed h =
     let enough : nat_le 7 (length ((p ∷ contour) ++ tail_of about rest p)) ≡ true = le-leb 7 _ (omega (arith, long, h)) in
     rw (enough, taken (p ∷ contour) (tail_of about rest p) _ short, dropped (p ∷ contour) (tail_of about rest p) _ short) (found about rest p contour (spot_same (end_from p contour) p closed))
 
+-- ---- A disc or a stroke
+
+over_one : (x : ℤ) (n : ℕ) → unsigned_abs ((x +ℤ pos (n + 1)) -ℤ x) - 1 ≡ n
+over_one x n = let e : (x +ℤ pos (n + 1)) -ℤ x ≡ pos (n + 1) = omega (arith, ints) in ap (λ (z : ℤ). unsigned_abs z - 1) e ∙ omega arith
+
+further : (x : ℤ) (n : ℕ) → int_eq x (x +ℤ pos (n + 1)) ≡ false
+further x n = by (int_eq x (x +ℤ pos (n + 1))) refl
+  where
+    by : (b : Bool) → int_eq x (x +ℤ pos (n + 1)) ≡ b → b ≡ false
+    by true e = let same : x ≡ x +ℤ pos (n + 1) = (Decides-int_eq x (x +ℤ pos (n + 1))).0 e in absurd (omega (arith, ints, same))
+    by false e = refl
+
+pub round_found : (about : Spot) (rest : ℕ) (s : Figured) → round_told (told_round about rest s) ≡ Some (record { stroke = record { a = s.a; b = s.b; r = pos (unsigned_abs s.r) }; about = about; rest = rest })
+round_found about rest s = rw (further s.a.x (unsigned_abs s.r), over_one s.a.x (unsigned_abs s.r), rest_back about rest) refl
+
+pub round_told_is_found : RoundToldIsFound
+round_told_is_found about rest n a b = round_found about rest (record { a = a; b = b; r = pos n })
+
 -- ---- What has an image by quarter turns has one as it is turned
 
 pub blank_by : (turning : Turning) (form : Form) (text : List ℕ) (given : List Fraction) (unit : Measure) → turn_judged turning form text given unit ≡ Ok tt → ((rotation : Rotation) (at : Spot) → figure_by form rotation text given unit at ≡ Ok None) → (at : Spot) → figure_turned turning form text given unit at ≡ Ok None
@@ -98,7 +117,12 @@ blank_by Degrees form text given unit j none at =
 some_told : (about : Spot) (rest : ℕ) (r : Result (Option Figure) MacroFault) → r ≢ Ok None → (r >>= λ figure. tell about rest figure) ≢ Ok None
 some_told about rest (Err fault) some h = cc
 some_told about rest (Ok None) some h = some refl
-some_told about rest (Ok (Some (round s))) some h = cc
+some_told about rest (Ok (Some (round s))) some h = by (is_moved about rest s) (list_all is_placed (told_round about rest s)) h
+  where
+    by : (moved placed : Bool) → cond moved (cond placed (Ok (Some (filled (told_round about rest s)))) (Err OutOfRange)) (Ok (Some (round s))) ≡ Ok None → ⊥
+    by true true h = cc
+    by true false h = cc
+    by false placed h = cc
 some_told about rest (Ok (Some (filled points))) some h = by (list_all is_placed (told about rest points)) h
   where
     by : (b : Bool) → cond b (Ok (Some (filled (told about rest points)))) (Err OutOfRange) ≡ Ok None → ⊥

@@ -1,39 +1,37 @@
 -- What primitives flash as they are turned: by quarter turns, or in real copper by degrees.
-use Rattle.std.specs.Prelude.{◌≡◌, ◌≢◌, ℕ, Bool, true, false, ◌&&◌, not, nat_lt, if◌then◌else◌, List, pos, Option, Some, None, Result, Ok, Err}
+use Rattle.std.specs.Prelude.{◌≡◌, ◌≢◌, ℕ, Bool, true, false, ◌&&◌, nat_lt, if◌then◌else◌, List, Option, Some, None, Result, Ok, Err}
 use Rattle.planar.specs.declared.Spot.{Spot}
-use Rattle.board_shapes.specs.Figures.{Figure, filled}
+use Rattle.board_shapes.specs.Figures.{Figure, filled, round}
 use Rattle.lengths.specs.Decimal.{Fraction}
 use Rattle.lengths.specs.declared.decimal.Unit.{Unit as Measure}
 use Rattle.aperture_macros.specs.declared.degrees.Turn.{Turn}
 use Rattle.aperture_macros.specs.declared.primitive.Form.{Form}
-use Rattle.aperture_macros.specs.declared.primitive.Form.TheVariants.{Circle, VectorLine}
+use Rattle.aperture_macros.specs.declared.primitive.Form.TheVariants.{VectorLine}
 use Rattle.aperture_macros.specs.declared.primitive.Copper.{Copper}
 use Rattle.aperture_macros.specs.declared.primitive.Copper.TheVariants.{Real}
 use Rattle.aperture_macros.specs.declared.primitive.Turning.{Turning}
 use Rattle.aperture_macros.specs.declared.primitive.Turning.TheVariants.{Quarters, Degrees}
 use Rattle.aperture_macros.specs.declared.images.Sketch.{Sketch}
-use Rattle.aperture_macros.specs.declared.images.Sketch.TheVariants.{Disc, Stroke}
+use Rattle.aperture_macros.specs.declared.images.Sketch.TheVariants.{Stroke}
 use Rattle.aperture_macros.specs.declared.fault.MacroFault.{MacroFault}
 use Rattle.aperture_macros.specs.declared.fault.MacroFault.TheVariants.{Turn as Turned}
 use Rattle.aperture_macros.specs.BodyWord.{◌>>=◌, PlainPrimitive, count, part}
 use Rattle.aperture_macros.specs.Degrees.{turn_at}
-use Rattle.aperture_macros.specs.Images.{area_at, circle_at, figure_by, judged_by, line_at, same_spot}
-use Rattle.aperture_macros.specs.Telling.{told}
+use Rattle.aperture_macros.specs.Images.{area_at, figure_by, judged_by, line_at}
+use Rattle.aperture_macros.specs.Telling.{is_moved, told, told_round}
 
 -- the turn that the expression behind the lengths says
 abbrev pub turn_behind : Form → List ℕ → List Fraction → Result Turn MacroFault
 turn_behind form text parameters = turn_at (part (count form) text) parameters
 
--- a figure about the origin that other turns than quarter turns would move or slant: a disc off the origin, or a stroke
-abbrev pub is_moved : Result (Option Sketch) MacroFault → Bool
-is_moved (Ok (Some (Disc p d))) = not (same_spot p (record { x = pos 0; y = pos 0 }))
-is_moved (Ok (Some (Stroke p q w))) = true
-is_moved other = false
+-- a figure about the origin that other turns than quarter turns would slant: a stroke
+abbrev pub is_slanted : Result (Option Sketch) MacroFault → Bool
+is_slanted (Ok (Some (Stroke p q w))) = true
+is_slanted other = false
 
 -- the primitive flashes such a one
 unfoldable pub needs_quarters : Form → List ℕ → List Fraction → Measure → Bool
-needs_quarters Circle text parameters unit = is_moved (circle_at text parameters unit)
-needs_quarters VectorLine text parameters unit = is_moved (line_at Real text parameters unit)
+needs_quarters VectorLine text parameters unit = is_slanted (line_at Real text parameters unit)
 needs_quarters other text parameters unit = false
 
 -- what is judged of how a primitive is turned: such a one is turned by quarter turns alone
@@ -46,9 +44,10 @@ turn_judged Degrees form text parameters unit =
 abbrev pub judged : Copper → PlainPrimitive → List Fraction → Measure → Result (Unit {0}) MacroFault
 judged copper p parameters unit = judged_by copper p.form p.lengths parameters unit >>= λ done. turn_judged p.rotation p.form p.lengths parameters unit
 
--- an area is told with how far it is turned about a spot; discs and strokes are as they are
+-- an area is told with how far it is turned about a spot, and so is a disc or a stroke that this moves; others are as they are
 abbrev pub tell : Spot → ℕ → Option Figure → Result (Option Figure) MacroFault
 tell about rest (Some (filled points)) = area_at (told about rest points)
+tell about rest (Some (round s)) = if is_moved about rest s then area_at (told_round about rest s) else Ok (Some (round s))
 tell about rest other = Ok other
 
 -- in real copper quarter turns are made, and what is left is told

@@ -1,5 +1,5 @@
 -- Laws of the strokes and areas that primitives flash.
-use Rattle.std.specs.Prelude.{◌≡◌, ◌≢◌, ◌≤◌, ◌<◌, ℕ, List, length, Some, Ok}
+use Rattle.std.specs.Prelude.{◌≡◌, ◌≢◌, ◌≤◌, ◌<◌, ◌⊎◌, ℕ, List, length, pos, unsigned_abs, Some, Ok}
 use Rattle.area_contact.specs.Contour.{IsClosed}
 use Rattle.board_shapes.specs.Figures.{Stroke, filled, round}
 use Rattle.lengths.specs.Decimal.{Fraction}
@@ -11,7 +11,7 @@ use Rattle.aperture_macros.specs.declared.degrees.Turn.{Turn}
 use Rattle.aperture_macros.specs.BodyWord.{PlainPrimitive, primitive_at}
 use Rattle.aperture_macros.specs.Images.{figure_by}
 use Rattle.aperture_macros.specs.Flashes.{figure_at, judged, turn_behind}
-use Rattle.aperture_macros.specs.Telling.{told, told_in}
+use Rattle.aperture_macros.specs.Telling.{round_told, told, told_in, told_round}
 
 -- Where copper is taken exactly, each stroke that a primitive flashes is a disc.
 abbrev pub FlashesDiscsAlone : Type 0
@@ -29,6 +29,10 @@ StrokesAreSlantedLines = (p : PlainPrimitive) (parameters : List Fraction) (unit
 abbrev pub ToldIsFound : Type 0
 ToldIsFound = (about : Spot) (rest : ℕ) (contour : List Spot) → IsClosed contour → 4 ≤ length contour → told_in (told about rest contour) ≡ Some (record { contour = contour; about = about; rest = rest })
 
+-- And so is what it tells of a disc or a stroke.
+abbrev pub RoundToldIsFound : Type 0
+RoundToldIsFound = (about : Spot) (rest n : ℕ) (a b : Spot) → round_told (told_round about rest (record { a = a; b = b; r = pos n })) ≡ Some (record { stroke = record { a = a; b = b; r = pos n }; about = about; rest = rest })
+
 -- an area that is told as the law below says
 pub record IsTold (p : PlainPrimitive) (parameters : List Fraction) (unit : Measure) (at : Spot) (points : List Spot) : Type 0 where
   pub turn : Turn
@@ -38,6 +42,15 @@ pub record IsTold (p : PlainPrimitive) (parameters : List Fraction) (unit : Meas
   pub flashed : figure_by p.form turn.quarters p.lengths parameters unit at ≡ Ok (Some (filled contour))
   pub found : told_in points ≡ Some (record { contour = contour; about = at; rest = turn.rest })
 
--- Each area that a primitive of real copper flashes tells its contour by quarter turns, the spot, and what they leave of the rotation.
+-- a disc or a stroke that is told so
+pub record IsRoundTold (p : PlainPrimitive) (parameters : List Fraction) (unit : Measure) (at : Spot) (points : List Spot) : Type 0 where
+  pub turn : Turn
+  pub stroke : Stroke
+  pub said : turn_behind p.form p.lengths parameters ≡ Ok turn
+  pub below : turn.rest < 900000000
+  pub flashed : figure_by p.form turn.quarters p.lengths parameters unit at ≡ Ok (Some (round stroke))
+  pub found : round_told points ≡ Some (record { stroke = record { a = stroke.a; b = stroke.b; r = pos (unsigned_abs stroke.r) }; about = at; rest = turn.rest })
+
+-- Each area that a primitive of real copper flashes tells its contour, or its disc or stroke, by quarter turns, the spot, and what they leave of the rotation.
 abbrev pub RealAreasAreTold : Type 0
-RealAreasAreTold = (word : List ℕ) (p : PlainPrimitive) (parameters : List Fraction) (unit : Measure) (at : Spot) (points : List Spot) → primitive_at Real word ≡ Ok (Some p) → figure_at p parameters unit at ≡ Ok (Some (filled points)) → IsTold p parameters unit at points
+RealAreasAreTold = (word : List ℕ) (p : PlainPrimitive) (parameters : List Fraction) (unit : Measure) (at : Spot) (points : List Spot) → primitive_at Real word ≡ Ok (Some p) → figure_at p parameters unit at ≡ Ok (Some (filled points)) → IsTold p parameters unit at points ⊎ IsRoundTold p parameters unit at points

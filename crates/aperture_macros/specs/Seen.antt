@@ -1,8 +1,8 @@
 -- The answers as plain data.
-use Rattle.std.specs.Prelude.{Bool, true, false, List, ◌≡◌, Option, option_map, Result, Ok, Err}
+use Rattle.std.specs.Prelude.{Bool, true, false, List, ◌≡◌, ◌≢◌, Option, Some, option_map, Result, Ok, Err}
 use Rattle.planar.specs.declared.Spot.{Spot}
 use Rattle.board_shapes.specs.declared.shape.Shape.{Shape}
-use Rattle.board_shapes.specs.Figures.{Figure, seen_shape}
+use Rattle.board_shapes.specs.Figures.{Figure, filled, seen_shape}
 use Rattle.aperture_macros.specs.declared.primitive.Form.{Form}
 use Rattle.aperture_macros.specs.declared.primitive.Form.TheVariants.{Circle}
 use Rattle.aperture_macros.specs.declared.primitive.Primitive.{Primitive}
@@ -40,6 +40,10 @@ abbrev pub Makes : Result (Option Shape) FigureFault → Result (Option Figure) 
 Makes (Ok shape) figure = Ok (seen_shape shape) ≡ figure
 Makes (Err (Macro fault)) figure = Err fault ≡ figure
 Makes (Err NoMemory) figure = Unit {0}
+
+-- the figure is no area
+abbrev pub IsNoArea : Result (Option Figure) MacroFault → Type 0
+IsNoArea figure = (points : List Spot) → figure ≢ Ok (Some (filled points))
 
 -- why the points are not there
 abbrev pub IsRefusal : Result (List Spot) MacroFault → FigureFault → Type 0

@@ -1,24 +1,25 @@
 //! Primitives with their parameters: whether they are lawful, and what they flash.
-ghost use Rattle.std.specs.Prelude.{◌≡◌, ◌≢◌, ◌≤◌, false, true, IfOk, None, Ok, length, map};
+ghost use Rattle.std.specs.Prelude.{◌≡◌, ◌≢◌, ◌≤◌, false, true, IfOk, None, Ok, Some, length, map};
 ghost use Rattle.planar.specs.Plane.{IsPlaced};
 ghost use Rattle.contact.specs.declared.TheConstants.{MOST_DIAMETER};
 ghost use Rattle.area_contact.specs.Contour.{IsClosed};
+ghost use Rattle.board_shapes.specs.Figures.{capsule_figure};
 ghost use Rattle.board_shapes.specs.Rectangles.{IsReachable, rectangle};
 ghost use Rattle.aperture_macros.specs.Flashes as flashes;
 ghost use Rattle.aperture_macros.specs.Images as spec;
 ghost use Rattle.aperture_macros.specs.declared.primitive.Rotation.{Rotation as Turned};
 ghost use Rattle.planar.specs.declared.Spot.{Spot as At};
-ghost use Rattle.aperture_macros.specs.Seen.{IsMade, Makes, is_circle, plain};
+ghost use Rattle.aperture_macros.specs.Seen.{IsMade, IsNoArea, Makes, is_circle, plain};
 ghost use Rattle.aperture_macros.specs.Sketches.{IsNear, is_disc};
 
 use crate::body_word::part;
 use crate::degrees::{Turn, read_turn};
 use crate::fault::{FigureFault, MacroFault};
-use crate::images::{Sketch, centre_line, circle, line, same};
+use crate::images::{Sketch, centre_line, circle, line};
 use crate::outline::{Outline, bounded};
 use crate::placing::Placing;
 use crate::primitive::{Copper, Form, Primitive, Rotation, Turning};
-use crate::telling::told;
+use crate::telling::{is_moved, told, told_round};
 use board_shapes::{Shape, rectangle};
 use contact::Capsule;
 use lengths::decimal::{Decimal, Unit};
@@ -33,8 +34,7 @@ impl<'a> Primitive<'a> {
     /// `OutOfRange`, and then the length itself. Then comes `BadMacro`, where an outline's last point
     /// is not its first, or of a vector line along no axis `Slanted`, where copper is `Exact`, and else
     /// `OutOfRange`, where it is wider than `MOST_DIAMETER`. Then, where it is turned by degrees, the rotation, as a
-    /// length is judged with degrees for mm, and `Turn`, where a circle off the origin or a line along no axis is
-    /// turned by no quarter turns.
+    /// length is judged with degrees for mm, and `Turn`, where a line along no axis is turned by no quarter turns.
     pub fn judge(
         &self,
         copper: Copper,
@@ -119,14 +119,14 @@ impl<'a> Primitive<'a> {
         read_turn(part(self.form.row().count(), self.lengths), parameters)
     }
 
-    // Whether other turns than quarter turns would move its disc or slant its stroke.
+    // Whether other turns than quarter turns would slant its stroke.
     #[tactic(auto, unfolding(crate::specs::Flashes::needs_quarters))]
     fn needs_quarters(&self, parameters: &[Decimal], unit: Unit) -> bool
         ensures { result ≡ flashes.needs_quarters self.now.form self.now.lengths.now parameters.now unit }
     {
         match self.form {
-            Form::Circle => is_moved(circle(self.lengths, parameters, unit)),
-            Form::VectorLine => is_moved(line(Copper::Real, self.lengths, parameters, unit)),
+            Form::VectorLine => is_slanted(line(Copper::Real, self.lengths, parameters, unit)),
+            Form::Circle => false,
             Form::Outline(_) => false,
             Form::CentreLine => false,
         }
@@ -137,11 +137,12 @@ impl<'a> Primitive<'a> {
     /// origin of the macro, turned counterclockwise about it and moved to the spot. `None` stands
     /// exactly where a diameter, a width, a height or the length of a vector line is 0. For a vector line
     /// along no axis stands its stroke: the places at most half its width from the segment between its ends.
-    /// Where it is turned by degrees, whole quarter turns are made, and an area is told with what is left.
+    /// Where it is turned by degrees, whole quarter turns are made, and an area is told with what is left, as is a disc that
+    /// this moves.
     ///
     /// The fault of its rotation comes first, then that of the lengths as `judge` has it of `Real` copper, then
     /// `OutOfRange`, where the centre of a circle, a corner, an end or a spot that tells a turn is over 1 m from 0 in
-    /// x or y. `NoMemory` comes for outlines and lines alone: a circle takes no memory.
+    /// x or y. `NoMemory` comes for areas alone: a circle that tells no turn takes no memory.
     #[tactic(auto, unfolding(crate::specs::Flashes::figure_turned))]
     pub fn figure(
         &self,
@@ -152,7 +153,7 @@ impl<'a> Primitive<'a> {
     ) -> Result<Option<Shape>, FigureFault>
         requires placed { IsPlaced at }
         ensures shape { Makes result (flashes.figure_at (plain self.now) parameters.now unit at) }
-        ensures no_memory { is_circle self.now.form ≡ true → IsMade result (flashes.figure_at (plain self.now) parameters.now unit at) }
+        ensures no_memory { is_circle self.now.form ≡ true → IsNoArea (flashes.figure_at (plain self.now) parameters.now unit at) → IsMade result (flashes.figure_at (plain self.now) parameters.now unit at) }
     {
         match self.rotation {
             Turning::Quarters(rotation) => self.figure_by(alloc, parameters, unit, rotation, at),
@@ -174,11 +175,11 @@ impl<'a> Primitive<'a> {
     ) -> Result<Option<Shape>, FigureFault>
         requires placed { IsPlaced at }
         ensures shape { Makes result (flashes.told_figure turn self.now.form self.now.lengths.now parameters.now unit at) }
-        ensures no_memory { is_circle self.now.form ≡ true → IsMade result (flashes.told_figure turn self.now.form self.now.lengths.now parameters.now unit at) }
+        ensures no_memory { is_circle self.now.form ≡ true → IsNoArea (flashes.told_figure turn self.now.form self.now.lengths.now parameters.now unit at) → IsMade result (flashes.told_figure turn self.now.form self.now.lengths.now parameters.now unit at) }
     {
         match self.figure_by(alloc, parameters, unit, turn.quarters, at) {
             Ok(Some(Shape::Filled(area))) => told(alloc, at, turn.rest, &area.points),
-            Ok(Some(Shape::Round(capsule))) => Ok(Some(Shape::Round(capsule))),
+            Ok(Some(Shape::Round(capsule))) => turned_round(alloc, at, turn.rest, capsule),
             Ok(None) => Ok(None),
             Err(fault) => Err(fault),
         }
@@ -218,13 +219,31 @@ impl<'a> Primitive<'a> {
     }
 }
 
-// Whether another turn than quarter turns would move a disc or slant a stroke.
-fn is_moved(sketch: Result<Option<Sketch>, MacroFault>) -> bool
-    ensures { result ≡ flashes.is_moved sketch }
+// A disc or a stroke as it is, or told where its turn moves it.
+fn turned_round(
+    alloc: Global,
+    about: Spot,
+    rest: u32,
+    capsule: Capsule,
+) -> Result<Option<Shape>, FigureFault>
+    requires about { IsPlaced about }
+    ensures shape { Makes result (flashes.tell about rest (Some (capsule_figure capsule))) }
+    ensures no_memory { IsNoArea (flashes.tell about rest (Some (capsule_figure capsule))) → IsMade result (flashes.tell about rest (Some (capsule_figure capsule))) }
+{
+    if is_moved(about, rest, &capsule) {
+        told_round(alloc, about, rest, &capsule)
+    } else {
+        Ok(Some(Shape::Round(capsule)))
+    }
+}
+
+// Whether another turn than quarter turns would slant a stroke.
+fn is_slanted(sketch: Result<Option<Sketch>, MacroFault>) -> bool
+    ensures { result ≡ flashes.is_slanted sketch }
 {
     match sketch {
-        Ok(Some(Sketch::Disc(p, _))) => !same(p, Spot { x: 0, y: 0 }),
         Ok(Some(Sketch::Stroke(_, _, _))) => true,
+        Ok(Some(Sketch::Disc(_, _))) => false,
         Ok(Some(Sketch::Rectangle(_, _))) => false,
         Ok(None) => false,
         Err(_) => false,

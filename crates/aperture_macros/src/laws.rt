@@ -1,5 +1,5 @@
 //! Laws over the definitions alone.
-ghost use Rattle.aperture_macros.specs.Laws.{FlashesDiscsAlone, RealAreasAreTold, StrokesAreSlantedLines, ToldIsFound};
+ghost use Rattle.aperture_macros.specs.Laws.{FlashesDiscsAlone, RealAreasAreTold, RoundToldIsFound, StrokesAreSlantedLines, ToldIsFound};
 
 /// Where copper is taken exactly, each stroke that a primitive flashes is a disc.
 pub fn flashes_discs_alone()
@@ -16,8 +16,13 @@ pub fn told_is_found()
     ensures { ToldIsFound }
 {}
 
-/// Each area that a primitive of real copper flashes tells its contour by quarter turns, the spot, and what they leave
-/// of the rotation, which is below 90 degrees.
+/// What it tells of a disc or a stroke is found too.
+pub fn round_told_is_found()
+    ensures { RoundToldIsFound }
+{}
+
+/// Each area that a primitive of real copper flashes tells its contour, or its disc or stroke, by quarter turns, the spot,
+/// and what they leave of the rotation, which is below 90 degrees.
 pub fn real_areas_are_told()
     ensures { RealAreasAreTold }
 {}

@@ -1,17 +1,21 @@
-//! How an area is told with how far it is turned.
+//! How an area, a disc or a stroke is told with how far it is turned.
 ghost use Rattle.std.specs.Prelude.{◌≡◌, ◌≤◌, ◌+◌, IfErr, IfOk, length, slice_index_or};
 ghost use Rattle.planar.specs.Plane.{IsPlaced};
 ghost use Rattle.area_contact.specs.Contour.{IsClosed};
 ghost use Rattle.area_contact.specs.declared.TheConstants.{MOST_CONTOUR_POINTS};
+ghost use Rattle.board_shapes.specs.Figures.{Stroke};
 ghost use Rattle.aperture_macros.specs.Images.{area_at, set_down};
-ghost use Rattle.aperture_macros.specs.Seen.{Makes};
+ghost use Rattle.aperture_macros.specs.Seen.{IsMade, IsNoArea, Makes};
 ghost use Rattle.aperture_macros.specs.Telling as spec;
 ghost use Rattle.aperture_macros.specs.declared.primitive.Rotation.TheVariants as rotation;
 
 use crate::fault::{FigureFault, MacroFault};
 use crate::placing::Placing;
 use crate::primitive::Rotation;
+use crate::images::same;
+use crate::outline::bounded;
 use board_shapes::Shape;
+use contact::Capsule;
 use planar::{Spot, are_placed};
 use std::alloc::Global;
 
@@ -84,4 +88,57 @@ fn end_of_way(about: Spot, rest: u32) -> Spot
         x: i64::from(rest / 30_000),
         y: i64::from(rest % 30_000),
     })
+}
+
+/// Whether other turns than quarter turns about the spot move or slant the disc or the stroke.
+pub fn is_moved(about: Spot, rest: u32, capsule: &Capsule) -> bool
+    ensures { result ≡ spec.is_moved about rest (record { a = capsule.now.a; b = capsule.now.b; r = capsule.now.r }) }
+{
+    rest > 0 && !(same(capsule.a, about) && same(capsule.b, about))
+}
+
+/// The area that tells a disc or a stroke with its turn: both ends, the start again, a spot to its right as far as the
+/// radius and 1 u, and the three that tell a turn.
+///
+/// `OutOfRange` where one of them is over 1 m from 0 in x or y.
+pub fn told_round(
+    alloc: Global,
+    about: Spot,
+    rest: u32,
+    capsule: &Capsule,
+) -> Result<Option<Shape>, FigureFault>
+    requires about { IsPlaced about }
+    ensures shape { Makes result (area_at (spec.told_round about rest (record { a = capsule.now.a; b = capsule.now.b; r = capsule.now.r }))) }
+    ensures no_memory { IsNoArea (area_at (spec.told_round about rest (record { a = capsule.now.a; b = capsule.now.b; r = capsule.now.r }))) → IsMade result (area_at (spec.told_round about rest (record { a = capsule.now.a; b = capsule.now.b; r = capsule.now.r }))) }
+{
+    let spots = round_spots(about, rest, capsule);
+    if !are_placed(spots.as_slice()) {
+        return Err(FigureFault::Macro(MacroFault::OutOfRange));
+    }
+    match spots.as_slice().to_vec(alloc) {
+        Ok(points) => bounded(alloc, points),
+        Err(_) => Err(FigureFault::NoMemory),
+    }
+}
+
+// Its spots.
+fn round_spots(about: Spot, rest: u32, capsule: &Capsule) -> [Spot; 7]
+    requires about { IsPlaced about }
+    ensures value { result ≡ spec.told_round about rest (record { a = capsule.now.a; b = capsule.now.b; r = capsule.now.r }) }
+    ensures closed { IsClosed result }
+    ensures seven { length result ≡ 7 }
+{
+    let start = capsule.a;
+    let end = end_of_way(about, rest);
+    [start, capsule.b, start, rim(capsule), about, end, start]
+}
+
+// The spot to the right of the start.
+fn rim(capsule: &Capsule) -> Spot
+    ensures { result ≡ spec.rim_of (record { a = capsule.now.a; b = capsule.now.b; r = capsule.now.r }) }
+{
+    Spot {
+        x: capsule.a.x + (capsule.r + 1),
+        y: capsule.a.y,
+    }
 }

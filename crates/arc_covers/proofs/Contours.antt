@@ -1,13 +1,14 @@
--- Single contours.
-use Rattle.std.proofs.Common.{◌≡◌, ◌↔◌, ◌⊎◌, inl, inr, ◌≤◌, ◌<◌, length, List, [], ◌∷◌, Bool, false, IsTrue, get_or, refl, sym, ap, subst, arith}
+-- Single contours and discs.
+use Rattle.std.proofs.Common.{◌≡◌, ◌↔◌, ◌⊎◌, inl, inr, ℕ, ℤ, pos, unsigned_abs, ◌≤◌, ◌<◌, length, List, [], ◌∷◌, Bool, false, IsTrue, get_or, refl, sym, ap, subst, ◌∙◌, arith}
 use Rattle.planar.specs.declared.Spot.{Spot}
 use Rattle.board_shapes.specs.Figures.{Figure, Stroke, figure_of, filled, round}
 use Rattle.board_shapes.specs.Pieces.{plain_pieces}
 use Rattle.board_shapes.specs.declared.placed.Placed.{Placed}
 use Rattle.board_shapes.specs.declared.shape.Shape.{Shape}
-use Rattle.arc_covers.specs.Bounds.{ContourFor, OneContour, figures_of}
+use Rattle.arc_covers.specs.Bounds.{ContourFor, DiscFor, OneContour, OneDisc, OrNone, figures_of}
 use Rattle.arc_covers.specs.declared.side.Side.{Side}
 use Rattle.arc_covers.specs.declared.side.Side.TheVariants.{Above, Below}
+use Rattle.arc_covers.proofs.Figures.{round_parts}
 
 pub of_contour : (P : List Spot → Type 0) (points : List Spot) (b : Bool) → IsTrue b ↔ P points → IsTrue b ↔ OneContour P (filled points ∷ [])
 of_contour P points b told = (λ yes. (points, refl, told.0 yes), λ (other, same, taken). told.1 (let one : other ≡ points = cc in subst P one taken))
@@ -15,25 +16,56 @@ of_contour P points b told = (λ yes. (points, refl, told.0 yes), λ (other, sam
 pub of_capsule : (P : List Spot → Type 0) (s : Stroke) (b : Bool) → b ≡ false → IsTrue b ↔ OneContour P (round s ∷ [])
 of_capsule P s b off = (λ yes. absurd cc, λ (other, same, taken). absurd cc)
 
-pub of_one : (side : Side) (P : List Spot → Type 0) (f : Figure) (figures : List Figure) (b : Bool) → figures ≡ f ∷ [] → IsTrue b ↔ OneContour P (f ∷ []) → IsTrue b ↔ ContourFor side P figures
-of_one Above P f figures b is told = (λ yes. subst (OneContour P) (sym is) (told.0 yes), λ h. told.1 (subst (OneContour P) is h))
-of_one Below P f figures b is told = (λ yes. inr (subst (OneContour P) (sym is) (told.0 yes)), back)
+-- ---- a disc
+
+head_is : (f g : Figure) → f ∷ [] ≡ g ∷ [] → f ≡ g
+head_is f g e = cc
+
+pub of_disc : (P : Spot → ℕ → Type 0) (a b : Spot) (r : ℕ) (yes : Bool) → a ≡ b → IsTrue yes ↔ P a r → IsTrue yes ↔ OneDisc P (round (record { a = a; b = b; r = pos r }) ∷ [])
+of_disc P a b r yes one told = (
+  λ y. (a, r, ap (λ (s : Spot). round (record { a = a; b = s; r = pos r }) ∷ []) (sym one), told.0 y),
+  λ (s, q, same, taken).
+      let parts = round_parts a b s s (pos r) (pos q) (head_is _ _ same) in
+      let n : r ≡ q = ap unsigned_abs parts.2 in
+      told.1 (subst (λ (x : Spot). P x r) (sym parts.0) (subst (P s) (sym n) taken)),
+)
+
+pub of_line : (P : Spot → ℕ → Type 0) (a b : Spot) (r : ℤ) (yes : Bool) → yes ≡ false → (a ≡ b → ⊥) → IsTrue yes ↔ OneDisc P (round (record { a = a; b = b; r = r }) ∷ [])
+of_line P a b r yes off apart = (λ y. absurd cc, λ (s, q, same, taken). let parts = round_parts a b s s r (pos q) (head_is _ _ same) in absurd (apart (parts.0 ∙ sym parts.1)))
+
+pub of_area : (P : Spot → ℕ → Type 0) (points : List Spot) (b : Bool) → b ≡ false → IsTrue b ↔ OneDisc P (filled points ∷ [])
+of_area P points b off = (λ yes. absurd cc, λ (s, r, same, taken). absurd cc)
+
+-- ---- one figure of which something holds, or none
+
+pub or_one : (side : Side) (P : List Figure → Type 0) (f : Figure) (figures : List Figure) (b : Bool) → figures ≡ f ∷ [] → IsTrue b ↔ P (f ∷ []) → IsTrue b ↔ OrNone side P figures
+or_one Above P f figures b is told = (λ yes. subst P (sym is) (told.0 yes), λ h. told.1 (subst P is h))
+or_one Below P f figures b is told = (λ yes. inr (subst P (sym is) (told.0 yes)), back)
   where
-    back : (figures ≡ []) ⊎ OneContour P figures → IsTrue b
+    back : (figures ≡ []) ⊎ P figures → IsTrue b
     back (inl none) = absurd cc
-    back (inr h) = told.1 (subst (OneContour P) is h)
+    back (inr h) = told.1 (subst P is h)
+
+or_none : (side : Side) (P : List Figure → Type 0) (figures : List Figure) (b : Bool) → (P figures → ⊥) → figures ≡ [] → IsTrue b ↔ (side ≡ Below) → IsTrue b ↔ OrNone side P figures
+or_none Above P figures b never is told = (λ yes. absurd (let no : Above ≡ Below = told.0 yes in cc), λ h. absurd (never h))
+or_none Below P figures b never is told = (λ yes. inl is, λ h. told.1 refl)
+
+or_more : (side : Side) (P : List Figure → Type 0) (f g : Figure) (rest figures : List Figure) (b : Bool) → (P figures → ⊥) → b ≡ false → figures ≡ f ∷ g ∷ rest → IsTrue b ↔ OrNone side P figures
+or_more Above P f g rest figures b never off is = (λ yes. absurd cc, λ h. absurd (never h))
+or_more Below P f g rest figures b never off is = (λ yes. absurd cc, back)
+  where
+    back : (figures ≡ []) ⊎ P figures → IsTrue b
+    back (inl none) = absurd cc
+    back (inr h) = absurd (never h)
+
+pub of_one : (side : Side) (P : List Spot → Type 0) (f : Figure) (figures : List Figure) (b : Bool) → figures ≡ f ∷ [] → IsTrue b ↔ OneContour P (f ∷ []) → IsTrue b ↔ ContourFor side P figures
+of_one side P f figures b is told = or_one side (OneContour P) f figures b is told
 
 pub of_none : (side : Side) (P : List Spot → Type 0) (figures : List Figure) (b : Bool) → figures ≡ [] → IsTrue b ↔ (side ≡ Below) → IsTrue b ↔ ContourFor side P figures
-of_none Above P figures b is told = (λ yes. absurd (let no : Above ≡ Below = told.0 yes in cc), λ (points, same, taken). absurd cc)
-of_none Below P figures b is told = (λ yes. inl is, λ h. told.1 refl)
+of_none side P figures b is told = or_none side (OneContour P) figures b (λ (points, same, taken). absurd cc) is told
 
-pub of_more : (side : Side) (P : List Spot → Type 0) (f g : Figure) (rest figures : List Figure) (b : Bool) → b ≡ false → figures ≡ f ∷ g ∷ rest → IsTrue b ↔ ContourFor side P figures
-of_more Above P f g rest figures b off is = (λ yes. absurd cc, λ (points, same, taken). absurd cc)
-of_more Below P f g rest figures b off is = (λ yes. absurd cc, back)
-  where
-    back : (figures ≡ []) ⊎ OneContour P figures → IsTrue b
-    back (inl none) = absurd cc
-    back (inr (points, same, taken)) = absurd cc
+pub no_disc : (side : Side) (P : Spot → ℕ → Type 0) (figures : List Figure) (b : Bool) → figures ≡ [] → IsTrue b ↔ (side ≡ Below) → IsTrue b ↔ DiscFor side P figures
+no_disc side P figures b is told = or_none side (OneDisc P) figures b (λ (s, r, same, taken). absurd cc) is told
 
 -- ---- one piece, or more
 
@@ -45,4 +77,9 @@ one_piece (q ∷ r ∷ rest) p some few is = absurd (omega arith)
 pub more_pieces : (side : Side) (P : List Spot → Type 0) (pieces : List (Placed Shape)) → 2 ≤ length pieces → IsTrue false ↔ ContourFor side P (figures_of (plain_pieces pieces))
 more_pieces side P [] some = absurd (omega arith)
 more_pieces side P (p ∷ []) some = absurd (omega arith)
-more_pieces side P (p ∷ q ∷ rest) some = of_more side P (figure_of p.shape) (figure_of q.shape) (figures_of (plain_pieces rest)) (figures_of (plain_pieces (p ∷ q ∷ rest))) false refl refl
+more_pieces side P (p ∷ q ∷ rest) some = or_more side (OneContour P) (figure_of p.shape) (figure_of q.shape) (figures_of (plain_pieces rest)) (figures_of (plain_pieces (p ∷ q ∷ rest))) false (λ (points, same, taken). absurd cc) refl refl
+
+pub more_discs : (side : Side) (P : Spot → ℕ → Type 0) (pieces : List (Placed Shape)) → 2 ≤ length pieces → IsTrue false ↔ DiscFor side P (figures_of (plain_pieces pieces))
+more_discs side P [] some = absurd (omega arith)
+more_discs side P (p ∷ []) some = absurd (omega arith)
+more_discs side P (p ∷ q ∷ rest) some = or_more side (OneDisc P) (figure_of p.shape) (figure_of q.shape) (figures_of (plain_pieces rest)) (figures_of (plain_pieces (p ∷ q ∷ rest))) false (λ (s, r, same, taken). absurd cc) refl refl

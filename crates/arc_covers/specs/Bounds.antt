@@ -8,13 +8,15 @@ use Rattle.board_shapes.specs.declared.placed.Placed.{Placed}
 use Rattle.arcs.specs.Copper.{InChain, Possibly, Surely}
 use Rattle.arcs.specs.declared.Arc.{Arc}
 use Rattle.real_shapes.specs.declared.RealShape.{RealShape}
-use Rattle.real_shapes.specs.declared.RealShape.TheVariants.{Plain, ArcDraw, Slanted, Region, Turned}
+use Rattle.real_shapes.specs.declared.RealShape.TheVariants.{Plain, ArcDraw, Slanted, Region, Turned, TurnedDisc}
 use Rattle.slants.specs.Cones.{PossiblyTurned, SurelyTurned}
 use Rattle.slants.specs.Copper.{InSlant}
+use Rattle.slants.specs.Discs.{PossiblyInDisc, SurelyInDisc, disc_about}
 use Rattle.arc_regions.specs.Copper.{PossiblyIn, SurelyIn}
 use Rattle.arc_regions.specs.declared.Region.{Region as Contour}
 use Rattle.contact.specs.Solid.{SharePoint}
 use Rattle.slants.specs.declared.Slant.{Slant}
+use Rattle.slants.specs.declared.discs.TurnedDisc.{TurnedDisc as Disc}
 use Rattle.arc_covers.specs.declared.side.Side.{Side}
 use Rattle.arc_covers.specs.declared.side.Side.TheVariants.{Below, Above}
 
@@ -42,14 +44,30 @@ abbrev pub IsTurnedBound : Side → List Spot → Spot → ℕ → List Spot →
 IsTurnedBound Below contour about angle points = (p : Point) → InFigure (filled points) p → SurelyTurned contour about angle p
 IsTurnedBound Above contour about angle points = (p : Point) → PossiblyTurned contour about angle p → InFigure (filled points) p
 
+-- the disc about a spot lies in the turned disc at each turn of its cone, or holds it at each
+abbrev pub IsDiscBound : Side → Disc → Spot → ℕ → Type 0
+IsDiscBound Below disc s r = (p : Point) → InFigure (disc_about s r) p → SurelyInDisc disc p
+IsDiscBound Above disc s r = (p : Point) → PossiblyInDisc disc p → InFigure (disc_about s r) p
+
 -- the figures are one contour of which P holds
 abbrev pub OneContour : (List Spot → Type 0) → List Figure → Type 0
 OneContour P figures = (points : List Spot) × (figures ≡ filled points ∷ []) × P points
 
--- so they are, or below there are none
+-- the figures are one disc of which P holds
+abbrev pub OneDisc : (Spot → ℕ → Type 0) → List Figure → Type 0
+OneDisc P figures = (s : Spot) × (r : ℕ) × (figures ≡ disc_about s r ∷ []) × P s r
+
+-- P holds of the figures, or below there are none
+abbrev pub OrNone : Side → (List Figure → Type 0) → List Figure → Type 0
+OrNone Below P figures = (figures ≡ []) ⊎ P figures
+OrNone Above P figures = P figures
+
+-- they are so, or below there are none
 abbrev pub ContourFor : Side → (List Spot → Type 0) → List Figure → Type 0
-ContourFor Below P figures = (figures ≡ []) ⊎ OneContour P figures
-ContourFor Above P figures = OneContour P figures
+ContourFor side P figures = OrNone side (OneContour P) figures
+
+abbrev pub DiscFor : Side → (Spot → ℕ → Type 0) → List Figure → Type 0
+DiscFor side P figures = OrNone side (OneDisc P) figures
 
 -- the point lies in one of the figures
 abbrev pub InSome : List Figure → Point → Type 0
@@ -69,7 +87,7 @@ abbrev pub BoundRegion : Side → Contour → List Figure → Type 0
 BoundRegion Below area figures = ContourFor Below (λ points. (p : Point) → InFigure (filled points) p → SurelyIn area.start area.parts.items p) figures
 BoundRegion Above area figures = HoldTogether (PossiblyIn area.start area.parts.items) figures
 
--- for a figure stands the figure itself, for an arc draw the capsules of one chain of one radius that is a bound: below it maybe none; for a slanted line or a turned figure one contour that is: below it maybe none;
+-- for a figure stands the figure itself, for an arc draw the capsules of one chain of one radius that is a bound: below it maybe none; for a slanted line or a turned figure one contour that is: below it maybe none; for a turned disc one disc, or below it none;
 -- for a region below one contour that lies in it or none, above figures that hold it together
 abbrev pub StandFor : Side → RealShape → List Figure → Type 0
 StandFor side (Plain shape) figures = figures ≡ figure_of shape ∷ []
@@ -77,6 +95,7 @@ StandFor side (ArcDraw arc) figures = (chain : List Spot) × (r : ℕ) × (figur
 StandFor side (Slanted line) figures = ContourFor side (IsLineBound side line) figures
 StandFor side (Region area) figures = BoundRegion side area figures
 StandFor side (Turned t) figures = ContourFor side (IsTurnedBound side t.contour.items t.about t.angle) figures
+StandFor side (TurnedDisc disc) figures = DiscFor side (IsDiscBound side disc) figures
 
 -- the figures of the pieces
 abbrev pub figures_of : List PlainPiece → List Figure

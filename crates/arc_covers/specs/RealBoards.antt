@@ -6,18 +6,20 @@ use Rattle.board_shapes.specs.declared.placed.Placed.{Placed}
 use Rattle.arcs.specs.Copper.{IsCopper}
 use Rattle.covers.specs.Boards.{Layout, Span}
 use Rattle.real_shapes.specs.declared.RealShape.{RealShape}
-use Rattle.real_shapes.specs.declared.RealShape.TheVariants.{Plain, ArcDraw, Slanted, Region, Turned}
+use Rattle.real_shapes.specs.declared.RealShape.TheVariants.{Plain, ArcDraw, Slanted, Region, Turned, TurnedDisc}
 use Rattle.slants.specs.Cones.{IsTurnedCopper}
 use Rattle.slants.specs.Copper.{InSlant}
+use Rattle.slants.specs.Discs.{IsDiscCopper}
 use Rattle.arc_regions.specs.Copper as regions
 
--- the points are those of the figure or the slanted line, or a copper of the arc draw, the region or the turned figure
+-- the points are those of the figure or the slanted line, or a copper of the arc draw, the region or the turned figure or disc
 abbrev pub IsCopperOf : RealShape → (Point → Type 0) → Type 0
 IsCopperOf (Plain shape) holds = (p : Point) → InFigure (figure_of shape) p ↔ holds p
 IsCopperOf (ArcDraw arc) holds = IsCopper arc holds
 IsCopperOf (Slanted line) holds = (p : Point) → InSlant line p ↔ holds p
 IsCopperOf (Region area) holds = regions.IsCopper area.start area.parts.items holds
 IsCopperOf (Turned t) holds = IsTurnedCopper t.contour.items t.about t.angle holds
+IsCopperOf (TurnedDisc disc) holds = IsDiscCopper disc holds
 
 -- the layers of the piece
 abbrev pub real_span : Placed RealShape → Span

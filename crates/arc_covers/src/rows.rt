@@ -1,20 +1,20 @@
 //! Rows of pieces: chains of capsules, and single figures.
-ghost use Rattle.arc_covers.specs.Bounds.{IsOn, OneContour, capsules_from, capsules_of, figures_of};
-ghost use Rattle.arc_covers.specs.Taken.{IsLineTaken, IsTurnedTaken, StandTaken};
+ghost use Rattle.arc_covers.specs.Bounds.{IsOn, OneContour, OneDisc, capsules_from, capsules_of, figures_of};
+ghost use Rattle.arc_covers.specs.Taken.{IsDiscTaken, IsLineTaken, IsTurnedTaken, StandTaken};
 ghost use Rattle.arc_covers.specs.declared.side.Side.TheVariants.{Below};
-ghost use Rattle.real_shapes.specs.declared.RealShape.TheVariants.{ArcDraw, Slanted, Turned};
+ghost use Rattle.real_shapes.specs.declared.RealShape.TheVariants.{ArcDraw, Slanted, Turned, TurnedDisc as AnyDisc};
 ghost use Rattle.board_shapes.specs.Figures.{Figure, area_figure, capsule_figure, figure_of, round};
 ghost use Rattle.board_shapes.specs.Pieces.{plain_piece, plain_pieces};
 ghost use Rattle.planar.specs.declared.Spot.{Spot};
 ghost use Rattle.std.specs.Prelude.{All, IfNone, IfOk, IfSome, IsTrue, List, length, pos, ◌≡◌, ◌↔◌, ◌∷◌, []};
 
-use crate::side::{Side, is_line_taken, is_taken, is_turned_taken};
+use crate::side::{Side, is_disc_taken, is_line_taken, is_taken, is_turned_taken};
 use arcs::{Arc, Spot};
 use area_contact::Area;
 use board_shapes::{Piece, Shape};
 use contact::Capsule;
 use lengths::rows::NoMemory;
-use slants::{Slant, TurnedFigure};
+use slants::{Slant, TurnedDisc, TurnedFigure};
 use std::alloc::Global;
 
 /// Whether the piece is on the layers from `top` to `bottom` and on no others.
@@ -192,6 +192,34 @@ pub fn are_turned(side: Side, figure: &TurnedFigure, pieces: &[Piece]) -> bool
     match pieces {
         [] => is_lower(side),
         [only] => is_turned(side, figure, &only.shape),
+        _ => false,
+    }
+}
+
+/// Whether the capsule is a disc that is taken for the turned disc.
+fn is_disc(side: Side, disc: &TurnedDisc, capsule: &Capsule) -> bool
+    ensures { IsTrue result ↔ OneDisc (IsDiscTaken side disc.now) (capsule_figure capsule.now ∷ []) }
+{
+    capsule.a == capsule.b && is_disc_taken(side, disc, capsule.a, capsule.r.unsigned_abs())
+}
+
+/// Whether the shape is.
+fn is_round(side: Side, disc: &TurnedDisc, shape: &Shape) -> bool
+    ensures { IsTrue result ↔ OneDisc (IsDiscTaken side disc.now) (figure_of shape.now ∷ []) }
+{
+    match shape {
+        Shape::Round(capsule) => is_disc(side, disc, capsule),
+        Shape::Filled(_) => false,
+    }
+}
+
+/// Whether the pieces are one disc that is taken for the turned disc; below, none are taken too.
+pub fn are_disc(side: Side, disc: &TurnedDisc, pieces: &[Piece]) -> bool
+    ensures { IsTrue result ↔ StandTaken side (AnyDisc disc.now) (figures_of (plain_pieces pieces.now)) }
+{
+    match pieces {
+        [] => is_lower(side),
+        [only] => is_round(side, disc, &only.shape),
         _ => false,
     }
 }

@@ -1,9 +1,9 @@
 //! The board below a real one, and the board above.
-ghost use Rattle.arc_covers.specs.Taken.{IsLineTaken, IsTaken, IsTurnedTaken};
+ghost use Rattle.arc_covers.specs.Taken.{IsDiscTaken, IsLineTaken, IsTaken, IsTurnedTaken};
 ghost use Rattle.std.specs.Prelude.{IsTrue, ◌↔◌};
 
 use arcs::{Arc, Spot, is_above, is_below};
-use slants::{Slant, TurnedFigure};
+use slants::{Slant, TurnedDisc, TurnedFigure};
 
 /// On which side of a real board another lies.
 #[derive(Clone, Copy, Debug, PartialEq, Eq)]
@@ -41,5 +41,15 @@ pub fn is_turned_taken(side: Side, figure: &TurnedFigure, points: &[Spot]) -> bo
     match side {
         Side::Below => slants::is_below_figure(figure, points),
         Side::Above => slants::is_above_figure(figure, points),
+    }
+}
+
+/// Whether the disc about `s` of radius `r` is taken as a bound of the turned disc.
+pub fn is_disc_taken(side: Side, disc: &TurnedDisc, s: Spot, r: u64) -> bool
+    ensures { IsTrue result ↔ IsDiscTaken side disc.now s r }
+{
+    match side {
+        Side::Below => slants::is_below_disc(disc, s, r),
+        Side::Above => slants::is_above_disc(disc, s, r),
     }
 }

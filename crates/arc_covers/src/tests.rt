@@ -11,7 +11,7 @@ use contact::Capsule;
 use lengths::rows::NoMemory;
 use planar::are_placed;
 use real_shapes::{RealPiece, RealShape};
-use slants::{Slant, TurnedFigure};
+use slants::{Slant, TurnedDisc, TurnedFigure};
 use std::alloc::Global;
 use std::test::Fail;
 
@@ -374,6 +374,64 @@ fn a_turned_pad(rt: HostRuntime) -> Result<(), Fail> {
         let real = turned_pad(alloc, angle)?;
         let lower = polygon(alloc, lower)?;
         let upper = polygon(alloc, upper)?;
+        let found = check_between(alloc, &real, &lower, &[1], &upper, &[1]);
+        assert!(rt; found == told, "at {angle}");
+        let none = check_between(alloc, &real, &[], &[0], &upper, &[1]);
+        assert!(rt; none == Ok(()) || told != Ok(()));
+        let nothing = check_between(alloc, &real, &[], &[0], &[], &[0]);
+        assert!(rt; nothing == above);
+    }
+    Ok(())
+}
+
+/// A disc of radius 3,000 u about (10000, 0), turned about 0.
+fn turned_disc(alloc: Global, angle: u32) -> Result<Vec<RealPiece>, Fail> {
+    let mut real = Vec::new(alloc);
+    real.push(Placed {
+        shape: RealShape::TurnedDisc(TurnedDisc {
+            centre: spot((10_000, 0)),
+            radius: 3000,
+            about: spot((0, 0)),
+            angle,
+        }),
+        top: 1,
+        bottom: 1,
+        origin: ORIGIN,
+    })?;
+    Ok(real)
+}
+
+fn only(alloc: Global, a: (i16, i16), b: (i16, i16), r: u16) -> Result<Vec<Piece>, Fail> {
+    let mut pieces = Vec::new(alloc);
+    pieces.push(on(1, capsule(a, b, r)))?;
+    Ok(pieces)
+}
+
+/// Discs about spots near its centre at 30 degrees, as large as they may be, and one u more.
+#[test]
+fn a_turned_disc(rt: HostRuntime) -> Result<(), Fail> {
+    let alloc = rt.alloc();
+    let below = Err(BoundsFault::Piece(Side::Below, 0));
+    let above = Err(BoundsFault::Piece(Side::Above, 0));
+    let near = (8660, 5000);
+    for (angle, (start, end, small), large, told) in [
+        (300_000_000, (near, near, 2999), 3001, Ok(())),
+        (300_000_000, (near, near, 3000), 3001, below),
+        (300_000_000, (near, near, 2999), 3000, above),
+        (
+            300_000_000,
+            ((8660, 5001), (8660, 5001), 2998),
+            3001,
+            Ok(()),
+        ),
+        (300_000_000, ((8660, 5001), (8660, 5001), 2999), 3001, below),
+        (300_000_000, (near, (8660, 4999), 2000), 3001, below),
+        (299_000_000, (near, near, 2999), 3001, below),
+        (900_000_000, (near, near, 2999), 3001, below),
+    ] {
+        let real = turned_disc(alloc, angle)?;
+        let lower = only(alloc, start, end, small)?;
+        let upper = only(alloc, near, near, large)?;
         let found = check_between(alloc, &real, &lower, &[1], &upper, &[1]);
         assert!(rt; found == told, "at {angle}");
         let none = check_between(alloc, &real, &[], &[0], &upper, &[1]);

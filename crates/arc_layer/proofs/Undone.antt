@@ -1,27 +1,49 @@
 -- Turns that are told come back as figures before them.
-use Rattle.std.proofs.Common.{◌≡◌, ℕ, ◌-◌, ◌<◌, ◌≤◌, ◌==◌, nat_lt, Bool, true, false, cond, List, length, take, All, Option, Some, None, option_map, refl, sym, ap, ◌∙◌, subst, arith}
+use Rattle.std.proofs.Common.{◌≡◌, ℕ, ◌-◌, ◌<◌, ◌≤◌, ◌==◌, pos, nat_lt, Bool, true, false, cond, List, length, take, All, Option, Some, None, option_map, refl, sym, ap, ◌∙◌, subst, arith, le-leb, ◌+◌, [], ◌∷◌}
+use Rattle.std.specs.Prelude.{unsigned_abs}
 use Rattle.std.proofs.lemmas.List.{length-take-le}
 use Rattle.std.proofs.lemmas.List.Elements.{All-take}
 use Rattle.planar.specs.Plane.{IsPlaced}
 use Rattle.planar.specs.declared.Spot.{Spot}
 use Rattle.area_contact.specs.Contour.{IsClosed, IsContour}
-use Rattle.aperture_macros.specs.Laws.{ToldIsFound}
-use Rattle.aperture_macros.specs.Telling.{Telling, told, told_in}
-use Rattle.aperture_macros.proofs.Told.{told_length}
+use Rattle.aperture_macros.specs.Laws.{RoundToldIsFound, ToldIsFound}
+use Rattle.aperture_macros.specs.Telling.{RoundTelling, Telling, round_told, told, told_in, told_round}
+use Rattle.aperture_macros.proofs.Told.{spot_same, told_length}
 use Rattle.apertures.specs.Telling.{Frame, Ring, frame_told, ring_told}
 use Rattle.board_shapes.specs.Figures.{filled}
-use Rattle.arc_layer.specs.Laws.{TurnedAreContours, TurnsAreUndone}
-use Rattle.arc_layer.specs.Real.{bent_or, frame_or, plain, ring_draw, told_area, turned}
+use Rattle.arc_layer.specs.Laws.{DiscsAreUndone, TurnedAreContours, TurnsAreUndone}
+use Rattle.arc_layer.specs.Real.{bent_or, disc_area, disc_or, frame_or, plain, ring_draw, told_area, turned, turned_disc}
 use Rattle.slants.specs.declared.cones.TheConstants.{RIGHT_ANGLE}
 use Rattle.arc_layer.proofs.Rings.{no_frame, no_ring}
 use Rattle.arc_layer.proofs.Tails.{IsTold, is_told}
+
+-- what is told of a contour tells no disc
+no_round : (about : Spot) (rest : ℕ) (contour : List Spot) → IsClosed contour → 4 ≤ length contour → round_told (told about rest contour) ≡ None
+unfolding told
+no_round about rest [] closed long = absurd (omega (arith, long))
+no_round about rest (a ∷ []) closed long = absurd (omega (arith, long))
+no_round about rest (a ∷ b ∷ []) closed long = absurd (omega (arith, long))
+no_round about rest (a ∷ b ∷ c ∷ []) closed long = absurd (omega (arith, long))
+no_round about rest (a ∷ b ∷ c ∷ d ∷ []) closed long = rw (spot_same a d (sym closed)) refl
+no_round about rest (a ∷ b ∷ c ∷ d ∷ e ∷ []) closed long = refl
+no_round about rest (a ∷ b ∷ c ∷ d ∷ e ∷ f ∷ []) closed long = refl
+no_round about rest (a ∷ b ∷ c ∷ d ∷ e ∷ f ∷ g ∷ []) closed long = refl
+no_round about rest (a ∷ b ∷ c ∷ d ∷ e ∷ f ∷ g ∷ h ∷ more) closed long = refl
+
+pub discs : RoundToldIsFound → DiscsAreUndone
+discs law about a rest n some below =
+    let points = told_round about rest (record { a = a; b = a; r = pos n }) in
+    let more : nat_lt 0 rest ≡ true = le-leb 1 rest some in
+    let less : nat_lt rest RIGHT_ANGLE ≡ true = le-leb (rest + 1) RIGHT_ANGLE (omega (arith, below)) in
+    ap (λ (r : Option RoundTelling). disc_or points r (told_area points (told_in points))) (law about rest n a a) ∙ rw (more, less, spot_same a a refl) refl
 
 pub undone : ToldIsFound → TurnsAreUndone
 undone law about rest contour closed long below =
     let points = told about rest contour in
     let more : 7 ≤ length points = omega (arith, long, told_length about rest contour long) in
-    ap (λ (r : Option Ring). bent_or (option_map ring_draw r) (frame_or (frame_told points) (told_area points (told_in points)))) (no_ring points more) ∙
-    ap (λ (f : Option Frame). frame_or f (told_area points (told_in points))) (no_frame points more) ∙
+    ap (λ (r : Option Ring). bent_or (option_map ring_draw r) (frame_or (frame_told points) (disc_or points (round_told points) (told_area points (told_in points))))) (no_ring points more) ∙
+    ap (λ (f : Option Frame). frame_or f (disc_or points (round_told points) (told_area points (told_in points)))) (no_frame points more) ∙
+    ap (λ (r : Option RoundTelling). disc_or points r (told_area points (told_in points))) (no_round about rest contour closed long) ∙
     ap (λ (t : Option Telling). told_area points t) (law about rest contour closed long) ∙ by (rest == 0) (nat_lt rest RIGHT_ANGLE) refl
   where
     by : (none less : Bool) → nat_lt rest RIGHT_ANGLE ≡ less
@@ -68,7 +90,15 @@ lawful points contour about rest is h = past_ring (ring_told points) (frame_told
     by None e k = absurd cc
     by (Some t) e k = inside t (t.rest == 0) (nat_lt t.rest RIGHT_ANGLE) (is_told points t e) refl refl k
 
-    past_ring : (r : Option Ring) (f : Option Frame) → bent_or (option_map ring_draw r) (frame_or f (told_area points (told_in points))) ≡ turned contour about rest → IsLawful contour about rest
+    no_disc : (t : RoundTelling) (v : Bool) → cond v (turned_disc (record { centre = t.stroke.a; radius = unsigned_abs t.stroke.r; about = t.about; angle = t.rest })) (plain (filled points)) ≡ turned contour about rest → ⊥
+    no_disc t true k = cc
+    no_disc t false k = cc
+
+    past_disc : (d : Option RoundTelling) → disc_or points d (told_area points (told_in points)) ≡ turned contour about rest → IsLawful contour about rest
+    past_disc (Some t) k = absurd (no_disc t _ k)
+    past_disc None k = by (told_in points) refl k
+
+    past_ring : (r : Option Ring) (f : Option Frame) → bent_or (option_map ring_draw r) (frame_or f (disc_or points (round_told points) (told_area points (told_in points)))) ≡ turned contour about rest → IsLawful contour about rest
     past_ring (Some ring) f k = cc
     past_ring None (Some frame) k = cc
-    past_ring None None k = by (told_in points) refl k
+    past_ring None None k = past_disc (round_told points) k

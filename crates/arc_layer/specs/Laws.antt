@@ -1,9 +1,9 @@
 -- Laws over the definitions.
-use Rattle.std.specs.Prelude.{◌≡◌, ℕ, ◌+◌, ◌-◌, ◌/◌, ◌==◌, ◌<◌, ◌≤◌, if◌then◌else◌, List, length, ℤ, unsigned_abs, Option, Some, Ok}
+use Rattle.std.specs.Prelude.{◌≡◌, ℕ, ◌+◌, ◌-◌, ◌/◌, ◌==◌, ◌<◌, ◌≤◌, if◌then◌else◌, List, length, ℤ, pos, unsigned_abs, Option, Some, Ok}
 use Rattle.planar.specs.Plane.{IsPlaced}
 use Rattle.planar.specs.declared.Spot.{Spot}
 use Rattle.area_contact.specs.Contour.{IsClosed, IsContour}
-use Rattle.aperture_macros.specs.Telling.{told}
+use Rattle.aperture_macros.specs.Telling.{told, told_round}
 use Rattle.apertures.specs.Flash.{IsLawful, flash_of}
 use Rattle.apertures.specs.declared.aperture.Aperture.TheVariants.{Frame, Ring}
 use Rattle.board_shapes.specs.Figures.{Figure, filled}
@@ -12,7 +12,7 @@ use Rattle.regions.specs.Contours.{close_of}
 use Rattle.gerber_layer.specs.CommandEffects.{edges_in}
 use Rattle.gerber_layer.specs.Settings.{contour_before}
 use Rattle.arc_layer.specs.Marks.{contour, edges_before, flash, mark_behind}
-use Rattle.arc_layer.specs.Real.{bent, flashed, frame_region, plain, turned, with_mark}
+use Rattle.arc_layer.specs.Real.{bent, flashed, frame_region, plain, turned, turned_disc, with_mark}
 use Rattle.arc_layer.specs.State.{commands_of}
 use Rattle.arc_layer.specs.Words.{Saying}
 use Rattle.arc_layer.specs.declared.draws.Bend.{Bend}
@@ -29,6 +29,10 @@ MarksFitAreas = (earlier : List Saying) (w : Saying) (bends : List (Option Bend)
 -- An area that is told is its contour again, turned by what is left where something is.
 abbrev pub TurnsAreUndone : Type 0
 TurnsAreUndone = (about : Spot) (rest : ℕ) (contour : List Spot) → IsClosed contour → 4 ≤ length contour → rest < RIGHT_ANGLE → flashed (told about rest contour) ≡ (if rest == 0 then plain (filled contour) else turned contour about rest)
+
+-- A disc that is told is that disc before the turn.
+abbrev pub DiscsAreUndone : Type 0
+DiscsAreUndone = (about a : Spot) (rest n : ℕ) → 1 ≤ rest → rest < RIGHT_ANGLE → flashed (told_round about rest (record { a = a; b = a; r = pos n })) ≡ turned_disc (record { centre = a; radius = n; about = about; angle = rest })
 
 -- A flash of a circle with a hole is a draw once round the spot. The middle of its pen lies halfway between the hole and the outside, at a quarter of the sum of both diameters; the pen is as wide as the copper, half their difference.
 abbrev pub RingsAreUndone : Type 0

@@ -1,5 +1,5 @@
 -- Real copper: the pieces of a copper file in which draws may be arcs, circles and rectangles may have round holes, and macros may have slanted lines and turned figures.
-use Rattle.std.specs.Prelude.{◌≡◌, ℕ, ◌*◌, ◌<◌, ◌≤◌, Bool, false, ◌||◌, not, ◌==◌, nat_lt, if◌then◌else◌, List, [], ◌∷◌, drop, map, Option, Some, None, option_map, unsigned_abs, Result, Ok, Err}
+use Rattle.std.specs.Prelude.{◌≡◌, ℕ, ◌*◌, ◌<◌, ◌≤◌, Bool, false, ◌&&◌, ◌||◌, not, ◌==◌, nat_lt, if◌then◌else◌, List, [], ◌∷◌, drop, map, Option, Some, None, option_map, unsigned_abs, Result, Ok, Err}
 use Rattle.std.specs.Ordering.{int_eq}
 use Rattle.planar.specs.declared.Spot.{Spot}
 use Rattle.board_shapes.specs.Figures.{Figure, Stroke, round, filled, figure_of}
@@ -8,6 +8,7 @@ use Rattle.board_shapes.specs.declared.placed.Origin.{Origin}
 use Rattle.board_shapes.specs.declared.placed.Placed.{Placed}
 use Rattle.arcs.specs.declared.Arc.{Arc}
 use Rattle.slants.specs.declared.Slant.{Slant}
+use Rattle.slants.specs.declared.discs.TurnedDisc.{TurnedDisc}
 use Rattle.arc_regions.specs.declared.Part.{Part}
 use Rattle.arc_regions.specs.declared.Part.TheVariants.{Straight, Curved}
 use Rattle.file_reading.specs.Faults.{IsFault}
@@ -19,9 +20,9 @@ use Rattle.gerber_layer.specs.Dialect.{IsReadBy, IsRefusedBy}
 use Rattle.gerber_layer.specs.MacroLayer.{loose as loose_words}
 use Rattle.gerber_layer.specs.declared.macro_kind.FlattenKind.{FlattenKind}
 use Rattle.apertures.specs.Telling.{Frame, Ring, frame_told, ring_told}
-use Rattle.aperture_macros.specs.Telling.{Telling, told_in}
+use Rattle.aperture_macros.specs.Telling.{RoundTelling, Telling, round_told, told_in}
 use Rattle.arc_layer.specs.Marks.{AreMarks, IsBendRefused, PlainMark, arc, contour, flash}
-use Rattle.arc_layer.specs.Centres.{moved}
+use Rattle.arc_layer.specs.Centres.{moved, same_spot}
 use Rattle.arc_layer.specs.declared.draws.Bend.{Bend}
 use Rattle.arc_layer.specs.declared.kind.RealKind.{RealKind}
 use Rattle.arc_layer.specs.declared.kind.RealKind.TheVariants.{Copper}
@@ -29,13 +30,14 @@ use Rattle.slants.specs.declared.cones.TheConstants.{RIGHT_ANGLE}
 use Rattle.real_shapes.specs.declared.RealShape.{RealShape}
 use Rattle.real_shapes.specs.declared.RealShape.TheVariants as shape
 
--- a figure, an arc draw, the rectangle of a slanted line, a region whose contour has arcs, or a contour that is turned about a spot, counterclockwise, by so many parts of 10^-7 degrees
+-- a figure, an arc draw, the rectangle of a slanted line, a region whose contour has arcs, a contour that is turned about a spot, counterclockwise, by so many parts of 10^-7 degrees, or a disc that is
 pub data RealFigure : Type 0 where
   plain : Figure → RealFigure
   bent : Arc → RealFigure
   slanted : Slant → RealFigure
   curved : Spot → List Part → RealFigure
   turned : List Spot → Spot → ℕ → RealFigure
+  turned_disc : TurnedDisc → RealFigure
 
 -- one on a span of layers
 pub record PlainReal : Type 0 where
@@ -51,6 +53,7 @@ real_figure (shape.ArcDraw a) = bent a
 real_figure (shape.Slanted a) = slanted a
 real_figure (shape.Region area) = curved area.start area.parts.items
 real_figure (shape.Turned t) = turned t.contour.items t.about t.angle
+real_figure (shape.TurnedDisc disc) = turned_disc disc
 
 abbrev pub plain_real : Placed RealShape → PlainReal
 plain_real p = record { figure = real_figure p.shape; top = p.top; bottom = p.bottom; origin = p.origin }
@@ -97,6 +100,16 @@ told_area points (Some t) =
     if t.rest == 0 then plain (filled t.contour)
     else (if nat_lt t.rest RIGHT_ANGLE then turned t.contour t.about t.rest else plain (filled points))
 
+-- A disc of a macro as it is told: that before its turn. What tells a stroke, a right angle or more, or nothing to turn, is as it is; no macro's does.
+abbrev pub disc_area : List Spot → RoundTelling → RealFigure
+disc_area points t =
+    if nat_lt 0 t.rest && nat_lt t.rest RIGHT_ANGLE && same_spot t.stroke.a t.stroke.b then turned_disc (record { centre = t.stroke.a; radius = unsigned_abs t.stroke.r; about = t.about; angle = t.rest })
+    else plain (filled points)
+
+abbrev pub disc_or : List Spot → Option RoundTelling → RealFigure → RealFigure
+disc_or points (Some t) area = disc_area points t
+disc_or points None area = area
+
 -- A circle with a round hole (4.4.2) has the copper of a round pen that is drawn once round its middle (4.7.2).
 abbrev pub ring_draw : Ring → Arc
 ring_draw ring = record { centre = ring.centre; start = ring.start; end = ring.start; width = ring.pen }
@@ -122,7 +135,7 @@ bent_or (Some a) area = bent a
 bent_or None area = area
 
 abbrev pub flashed : List Spot → RealFigure
-flashed points = bent_or (ring_in points) (frame_or (frame_told points) (told_area points (told_in points)))
+flashed points = bent_or (ring_in points) (frame_or (frame_told points) (disc_or points (round_told points) (told_area points (told_in points))))
 
 -- A draw with a bend is its arc, and an area behind the bends of its contour the region that they bound. A stroke along no axis that a flash makes is the vector line of a macro (Gerber Layer Format Specification,
 -- 4.5.1, code 20): other primitives make none, and obrounds run along an axis. An area that a flash makes is what it tells. Each other figure is what it is.

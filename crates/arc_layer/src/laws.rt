@@ -1,11 +1,11 @@
 //! Laws over the definitions alone.
 ghost use Rattle.arc_layer.specs.Kinds.{RealKindsHaveOwnNumbers};
-ghost use Rattle.arc_layer.specs.Laws.{EachEdgeHasABend, FramesAreUndone, MarksFitAreas, RingsAreUndone, TurnedAreContours, TurnsAreUndone};
+ghost use Rattle.arc_layer.specs.Laws.{DiscsAreUndone, EachEdgeHasABend, FramesAreUndone, MarksFitAreas, RingsAreUndone, TurnedAreContours, TurnsAreUndone};
 ghost use Rattle.arc_layer.specs.Real.{HasOneRealAnswer};
 ghost use Rattle.gerber_layer.specs.declared.place.Place.{Place};
 ghost use Rattle.std.specs.Prelude.{ℕ, List};
 
-use aperture_macros::laws::told_is_found;
+use aperture_macros::laws::{round_told_is_found, told_is_found};
 use gerber_layer::laws::{kinds_have_own_numbers, one_loose_answer};
 use gerber_words::laws::words_lie_ahead;
 
@@ -32,12 +32,14 @@ pub fn each_edge_has_a_bend()
 {}
 
 /// A macro's area is its contour again, turned by what is left to turn where something is; and what is turned is a contour,
-/// by an angle below a right one.
+/// by an angle below a right one. A disc is that disc, so turned.
 pub fn turns_are_told()
     ensures undone { TurnsAreUndone }
     ensures lawful { TurnedAreContours }
+    ensures discs { DiscsAreUndone }
 {
     told_is_found();
+    round_told_is_found();
 }
 
 /// What a flash of a circle with a hole tells is the draw of its copper, and what one of a rectangle tells is that region.

@@ -1,14 +1,15 @@
-//! Areas of flashes that tell more than they show: circles and rectangles with a hole, and areas of macros that are turned by degrees.
+//! Areas of flashes that tell more than they show: circles and rectangles with a hole, and areas and discs of macros that are turned by degrees.
 ghost use Rattle.aperture_macros.specs.Telling as telling;
 ghost use Rattle.apertures.specs.Telling.{frame_told};
 ghost use Rattle.arc_layer.specs.Real as spec;
 ghost use Rattle.arc_layer.specs.Real.{real_figure};
-ghost use Rattle.arc_layer.specs.Telling.{telling_by, told_of};
+ghost use Rattle.arc_layer.specs.Telling.{round_by, telling_by, told_of};
 ghost use Rattle.board_shapes.specs.Figures.{filled};
 ghost use Rattle.file_reading.specs.declared.fault.FileFault.TheVariants as fault;
 ghost use Rattle.planar.specs.Plane.{IsPlaced};
 ghost use Rattle.std.specs.Prelude.{◌≡◌, ◌≤◌, ◌*◌, ◌-◌, ◌-ℤ◌, unsigned_abs, All, length, option_map, take, IfErr, IfOk, Some};
 
+use crate::centres::same_spot;
 use crate::kind::RealFault;
 use arc_regions::{Bend, Part, Region};
 use arcs::Arc;
@@ -16,7 +17,7 @@ use area_contact::Area;
 use board_shapes::Shape;
 use planar::Spot;
 use real_shapes::RealShape;
-use slants::{RIGHT_ANGLE, TurnedFigure, is_closed};
+use slants::{RIGHT_ANGLE, TurnedDisc, TurnedFigure, is_closed};
 use std::alloc::Global;
 
 /// What the spots behind a contour say: what it is turned about, and how far in 10^-7 degrees.
@@ -97,6 +98,64 @@ fn told_area(alloc: Global, area: Area, turning: Turning) -> Result<RealShape, R
         about: turning.about,
         angle: turning.rest as u32,
     }))
+}
+
+// A disc, or a stroke, with its turn.
+#[derive(Clone, Copy)]
+struct Round {
+    start: Spot,
+    end: Spot,
+    radius: u64,
+    turning: Turning,
+}
+
+// The radius, by a spot that is as far to the right of the start and 1 u further.
+fn radius_of(start: Spot, rim: Spot) -> u64
+    requires start { IsPlaced start }
+    requires rim { IsPlaced rim }
+    ensures { result ≡ unsigned_abs (rim.x -ℤ start.x) - 1 }
+{
+    rim.x.abs_diff(start.x).saturating_sub(1)
+}
+
+/// The disc or the stroke, and its turn, where the spots of an area tell one.
+fn round_in(points: &[Spot]) -> Option<Round>
+    requires { All IsPlaced points.now }
+    ensures { option_map round_by result ≡ telling.round_told points.now }
+{
+    let [start, end, _, rim, about, to, _] = points else {
+        return None;
+    };
+    if same_spot(*start, *rim) {
+        return None;
+    }
+    Some(Round {
+        start: *start,
+        end: *end,
+        radius: radius_of(*start, *rim),
+        turning: Turning {
+            about: *about,
+            rest: rest_of(*about, *to),
+        },
+    })
+}
+
+/// The disc before its turn, where it tells one.
+fn turned_disc(area: Area, round: Round) -> RealShape
+    ensures { real_figure result ≡ spec.disc_area area.points.items (round_by round) }
+{
+    let turning = round.turning;
+    let below = turning.rest > 0 && turning.rest < u64::from(RIGHT_ANGLE);
+    if below && same_spot(round.start, round.end) {
+        RealShape::TurnedDisc(TurnedDisc {
+            centre: round.start,
+            radius: round.radius,
+            about: turning.about,
+            angle: turning.rest as u32,
+        })
+    } else {
+        RealShape::Plain(Shape::Filled(area))
+    }
 }
 
 // How wide a pen is whose middle starts at a spot, and which reaches another at its left or right.
@@ -192,8 +251,8 @@ fn region_of(alloc: Global, frame: Frame) -> Result<RealShape, RealFault>
     }
 }
 
-/// What the area is that a flash makes behind a macro or a hole: a circle's draw, a rectangle's region, or the area before its
-/// turn, where its contour tells one.
+/// What the area is that a flash makes behind a macro or a hole: a circle's draw, a rectangle's region, or the disc or
+/// the area before its turn, where it tells one.
 pub fn flashed(alloc: Global, area: Area) -> Result<RealShape, RealFault>
     ensures value { IfOk result (λ made. real_figure made ≡ spec.flashed area.points.items) }
     ensures fault { IfErr result (λ why. why ≡ fault.NoMemory) }
@@ -203,6 +262,9 @@ pub fn flashed(alloc: Global, area: Area) -> Result<RealShape, RealFault>
     }
     if let Some(frame) = frame_in(&area.points) {
         return region_of(alloc, frame);
+    }
+    if let Some(round) = round_in(&area.points) {
+        return Ok(turned_disc(area, round));
     }
     match told_in(&area.points) {
         None => Ok(RealShape::Plain(Shape::Filled(area))),

@@ -397,10 +397,16 @@ fn of_turns() -> [Flash; 16] {
             0,
             "[-10000000 -5000000][10000000 -5000000][10000000 5000000][-10000000 5000000][-10000000 -5000000][0 0][29999 29999]",
         ),
-        // A turn leaves a disc about the origin what it is; others, and lines along no axis, turn by quarters alone.
+        // A turn leaves a disc about the origin what it is; of others four spots tell it. Lines along no axis turn by quarters alone.
         ("1,1,1.0,0,0,45", "", 0, 0, "0 0, 5000000"),
         ("1,1,1.0,1.0,0,450", "", 0, 0, "0 10000000, 5000000"),
-        ("1,1,1.0,1.0,0,45", "", 0, 0, "Turn"),
+        (
+            "1,1,1.0,1.0,0,135",
+            "",
+            7,
+            9,
+            "[7 10000009][7 10000009][7 10000009][5000008 10000009][7 9][15007 9][7 10000009]",
+        ),
         ("20,1,0.2,0,0,1.0,1.0,-270", "", 0, 0, "0 0, 1000000"),
         ("20,1,0.2,0,0,1.0,1.0,45", "", 0, 0, "Turn"),
         // Terms are judged one by one, then the sum, behind the lengths.

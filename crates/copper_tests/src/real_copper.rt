@@ -64,6 +64,14 @@ fn shown(alloc: Global, piece: &RealPiece) -> Result<String, AllocError> {
             write!(line, "turned {angle} about {} {}", about.x, about.y)?;
             push_spots(&mut line, &figure.contour)?;
         },
+        RealShape::TurnedDisc(disc) => {
+            let (about, centre) = (disc.about, disc.centre);
+            write!(
+                line,
+                "disc {} about {} {}, {} {}, {}",
+                disc.angle, about.x, about.y, centre.x, centre.y, disc.radius
+            )?;
+        },
     }
     write!(line, " by {}.{}", piece.origin.command, piece.origin.copy)?;
     Ok(line)
@@ -363,8 +371,8 @@ fn of_turns() -> [(&'static str, &'static str); 9] {
             "0 0, 0 0, 5000000 by 11.0\nturned 450000000 about 0 0, -5000000 5000000, -5000000 -5000000, 5000000 -5000000, 5000000 5000000, -5000000 5000000 by 11.0\nan area, -5000000 -10000000, 5000000 -10000000, 5000000 10000000, -5000000 10000000, -5000000 -10000000 by 13.0",
         ),
         (
-            "%AMV*1,1,1.0,1,0,45*%%ADD11V*%D11*X0Y0D03*M02*",
-            "Copper(Turn) at command 7",
+            "%AMV*1,1,1.0,1,0,-240*%%ADD11V*%D11*X1000000Y0D03*M02*",
+            "disc 300000000 about 10000000 0, 10000000 10000000, 5000000 by 9.0",
         ),
         (
             "%AMRotRect*21,1,$1,$2,0,0,$3*%%ADD11RotRect,1.0X0.5X30.0*%D11*X999999999Y0D03*M02*",

@@ -24,7 +24,7 @@ use Rattle.aperture_macros.specs.declared.primitive.Turning.{Turning}
 use Rattle.aperture_macros.specs.declared.primitive.Turning.TheVariants.{Quarters, Degrees}
 use Rattle.aperture_macros.specs.BodyWord.{PlainPrimitive, ◌>>=◌, part, past}
 use Rattle.aperture_macros.specs.Flashes.{figure_at, figure_turned, tell, told_figure, turn_behind}
-use Rattle.aperture_macros.specs.Telling.{told}
+use Rattle.aperture_macros.specs.Telling.{is_moved, told, told_round}
 use Rattle.aperture_macros.specs.Images.{area_at, circle_at, centre_at, centred, disc_at, figure_by, line_at, line_between, outline_at, set_down, sketch_at, sketched, slanted, stroke_at, outlined, strip}
 use Rattle.aperture_macros.specs.Outlines.{closing_at, moved_from}
 use Rattle.aperture_macros.specs.Sized.{IsSized}
@@ -199,7 +199,11 @@ figure_by_drawn CentreLine rotation text given unit at f sized h = sketched_draw
 -- an area that is told with how far it is turned is closed too
 told_drawn : (about : Spot) (rest : ℕ) (o : Option Figure) (f : Figure) → ((g : Figure) → o ≡ Some g → IsDrawn g) → ((points : List Spot) → o ≡ Some (filled points) → length points ≤ 5001) → tell about rest o ≡ Ok (Some f) → IsDrawn f
 told_drawn about rest None f drawn few h = cc
-told_drawn about rest (Some (round s)) f drawn few h = same_figure (round s) f h (drawn (round s) refl)
+told_drawn about rest (Some (round s)) f drawn few h = by (is_moved about rest s) h
+  where
+    by : (b : Bool) → cond b (area_at (told_round about rest s)) (Ok (Some (round s))) ≡ Ok (Some f) → IsDrawn f
+    by true k = area_drawn (told_round about rest s) f refl (omega arith) (omega arith) k
+    by false k = same_figure (round s) f k (drawn (round s) refl)
 told_drawn about rest (Some (filled points)) f drawn few h =
     let c = drawn (filled points) refl in
     let long = told_length about rest points c.enough in

@@ -34,6 +34,7 @@ fn edges_of(shape: &RealShape) -> u32
         RealShape::Slanted(_) => 0,
         RealShape::Region(region) => counted(region.parts.len()),
         RealShape::Turned(figure) => counted(figure.contour.len().saturating_sub(1)),
+        RealShape::TurnedDisc(_) => 0,
     }
 }
 

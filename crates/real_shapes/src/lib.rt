@@ -6,10 +6,10 @@
 use arc_regions::Region;
 use arcs::Arc;
 use board_shapes::{Placed, Shape};
-use slants::{RegularPolygon, Slant, TurnedFigure};
+use slants::{RegularPolygon, Slant, TurnedDisc, TurnedFigure};
 
 /// A figure of ours, an arc draw with a round pen, a rectangle about a slanted line, a region whose
-/// contour has arcs, a figure turned by degrees, or a regular polygon in any direction.
+/// contour has arcs, a figure or a disc turned by degrees, or a regular polygon in any direction.
 #[derive(Drop)]
 pub enum RealShape {
     Plain(Shape),
@@ -17,6 +17,7 @@ pub enum RealShape {
     Slanted(Slant),
     Region(Region),
     Turned(TurnedFigure),
+    TurnedDisc(TurnedDisc),
     Polygon(RegularPolygon),
 }
 

@@ -1,6 +1,6 @@
 use Rattle.std.proofs.Common.{refl}
 use Rattle.arc_covers.proofs.Figures.{answer_taken, layers_refused, pieces_taken}
-use Rattle.real_shapes.specs.declared.RealShape.TheVariants.{ArcDraw, Plain, Region, Slanted, Turned}
+use Rattle.real_shapes.specs.declared.RealShape.TheVariants.{ArcDraw, Plain, Region, Slanted, Turned, TurnedDisc}
 use Rattle.arc_covers.proofs.between.stand.Goals as goal
 
 pub returns-then-not-are_on : goal.returns-then-not-are_on
@@ -20,3 +20,6 @@ returns-in-Region c = answer_taken c.args.side c.args.real.now (Region c.in-Regi
 
 pub returns-in-Turned : goal.returns-in-Turned
 returns-in-Turned c = pieces_taken c.args.side c.args.real.now (Turned c.in-Turned.figure) c.args.pieces.now c.are_turned.result c.in-Turned.is (c.are_on.ensures.0 c.if-not-are_on.false) c.are_turned.ensures
+
+pub returns-in-TurnedDisc : goal.returns-in-TurnedDisc
+returns-in-TurnedDisc c = pieces_taken c.args.side c.args.real.now (TurnedDisc c.in-TurnedDisc.disc) c.args.pieces.now c.are_disc.result c.in-TurnedDisc.is (c.are_on.ensures.0 c.if-not-are_on.false) c.are_disc.ensures
