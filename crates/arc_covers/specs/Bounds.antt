@@ -8,10 +8,12 @@ use Rattle.board_shapes.specs.declared.placed.Placed.{Placed}
 use Rattle.arcs.specs.Copper.{InChain, Possibly, Surely}
 use Rattle.arcs.specs.declared.Arc.{Arc}
 use Rattle.real_shapes.specs.declared.RealShape.{RealShape}
-use Rattle.real_shapes.specs.declared.RealShape.TheVariants.{Plain, ArcDraw, Slanted, Region, Turned, TurnedDisc}
+use Rattle.real_shapes.specs.declared.RealShape.TheVariants.{Plain, ArcDraw, Slanted, Region, Turned, TurnedDisc, Polygon}
 use Rattle.slants.specs.Cones.{PossiblyTurned, SurelyTurned}
 use Rattle.slants.specs.Copper.{InSlant}
 use Rattle.slants.specs.Discs.{PossiblyInDisc, SurelyInDisc, disc_about}
+use Rattle.slants.specs.Polygons.{PossiblyInPolygon, SurelyInPolygon}
+use Rattle.slants.specs.declared.polygons.RegularPolygon.{RegularPolygon}
 use Rattle.arc_regions.specs.Copper.{PossiblyIn, SurelyIn}
 use Rattle.arc_regions.specs.declared.Region.{Region as Contour}
 use Rattle.contact.specs.Solid.{SharePoint}
@@ -48,6 +50,11 @@ IsTurnedBound Above contour about angle points = (p : Point) → PossiblyTurned 
 abbrev pub IsDiscBound : Side → Disc → Spot → ℕ → Type 0
 IsDiscBound Below disc s r = (p : Point) → InFigure (disc_about s r) p → SurelyInDisc disc p
 IsDiscBound Above disc s r = (p : Point) → PossiblyInDisc disc p → InFigure (disc_about s r) p
+
+-- what a contour bounds lies in the polygon at all turns of its cones, or holds it at each
+abbrev pub IsPolygonBound : Side → RegularPolygon → List Spot → Type 0
+IsPolygonBound Below g points = (p : Point) → InFigure (filled points) p → SurelyInPolygon g p
+IsPolygonBound Above g points = (p : Point) → PossiblyInPolygon g p → InFigure (filled points) p
 
 -- the figures are one contour of which P holds
 abbrev pub OneContour : (List Spot → Type 0) → List Figure → Type 0
@@ -87,7 +94,7 @@ abbrev pub BoundRegion : Side → Contour → List Figure → Type 0
 BoundRegion Below area figures = ContourFor Below (λ points. (p : Point) → InFigure (filled points) p → SurelyIn area.start area.parts.items p) figures
 BoundRegion Above area figures = HoldTogether (PossiblyIn area.start area.parts.items) figures
 
--- for a figure stands the figure itself, for an arc draw the capsules of one chain of one radius that is a bound: below it maybe none; for a slanted line or a turned figure one contour that is: below it maybe none; for a turned disc one disc, or below it none;
+-- for a figure stands the figure itself, for an arc draw the capsules of one chain of one radius that is a bound: below it maybe none; for a slanted line, a turned figure or a polygon one contour that is: below it maybe none; for a turned disc one disc, or below it none;
 -- for a region below one contour that lies in it or none, above figures that hold it together
 abbrev pub StandFor : Side → RealShape → List Figure → Type 0
 StandFor side (Plain shape) figures = figures ≡ figure_of shape ∷ []
@@ -96,6 +103,7 @@ StandFor side (Slanted line) figures = ContourFor side (IsLineBound side line) f
 StandFor side (Region area) figures = BoundRegion side area figures
 StandFor side (Turned t) figures = ContourFor side (IsTurnedBound side t.contour.items t.about t.angle) figures
 StandFor side (TurnedDisc disc) figures = DiscFor side (IsDiscBound side disc) figures
+StandFor side (Polygon g) figures = ContourFor side (IsPolygonBound side g) figures
 
 -- the figures of the pieces
 abbrev pub figures_of : List PlainPiece → List Figure

@@ -7,12 +7,14 @@ use Rattle.board_shapes.specs.declared.placed.Placed.{Placed}
 use Rattle.arcs.specs.Taken.{TakenAbove, TakenBelow}
 use Rattle.arcs.specs.declared.Arc.{Arc}
 use Rattle.real_shapes.specs.declared.RealShape.{RealShape}
-use Rattle.real_shapes.specs.declared.RealShape.TheVariants.{Plain, ArcDraw, Slanted, Region, Turned, TurnedDisc}
+use Rattle.real_shapes.specs.declared.RealShape.TheVariants.{Plain, ArcDraw, Slanted, Region, Turned, TurnedDisc, Polygon}
 use Rattle.slants.specs.Cones.{FigureAbove, FigureBelow}
 use Rattle.slants.specs.Discs.{DiscAbove, DiscBelow}
+use Rattle.slants.specs.Polygons.{PolygonAbove, PolygonBelow}
 use Rattle.slants.specs.Taken as slants
 use Rattle.slants.specs.declared.Slant.{Slant}
 use Rattle.slants.specs.declared.discs.TurnedDisc.{TurnedDisc as Disc}
+use Rattle.slants.specs.declared.polygons.RegularPolygon.{RegularPolygon}
 use Rattle.arc_regions.specs.declared.Region.{Region as Contour}
 use Rattle.arc_covers.specs.Eighths.{LiesBelow}
 use Rattle.arc_covers.specs.Regions.{RegionAbove}
@@ -40,12 +42,17 @@ abbrev pub IsDiscTaken : Side → Disc → Spot → ℕ → Type 0
 IsDiscTaken Below disc s r = DiscBelow disc s r
 IsDiscTaken Above disc s r = DiscAbove disc s r
 
+-- and for the regular polygon
+abbrev pub IsPolygonTaken : Side → RegularPolygon → List Spot → Type 0
+IsPolygonTaken Below g points = PolygonBelow g points
+IsPolygonTaken Above g points = PolygonAbove g points
+
 -- below they are one contour that is taken, or none; above the polygon and the capsules of chains that are
 abbrev pub RegionTaken : Side → Contour → List Figure → Type 0
 RegionTaken Below area figures = ContourFor Below (LiesBelow area.start area.parts.items) figures
 RegionTaken Above area figures = RegionAbove area.start area.parts.items figures
 
--- For a figure that figure, for a slanted line or a turned figure one contour that is taken or below none. For an arc draw the capsules of one chain of one radius that is taken. Capsules have one chain; no capsules are those of none and of each single
+-- For a figure that figure, for a slanted line, a turned figure or a polygon one contour that is taken or below none. For an arc draw the capsules of one chain of one radius that is taken. Capsules have one chain; no capsules are those of none and of each single
 -- spot, of which the former is taken below and nothing above. For a region what its own check takes, for a turned disc one disc that is taken or below none
 abbrev pub StandTaken : Side → RealShape → List Figure → Type 0
 StandTaken side (Plain shape) figures = figures ≡ figure_of shape ∷ []
@@ -54,6 +61,7 @@ StandTaken side (Slanted line) figures = ContourFor side (IsLineTaken side line)
 StandTaken side (Region area) figures = RegionTaken side area figures
 StandTaken side (Turned t) figures = ContourFor side (IsTurnedTaken side t.contour.items t.about t.angle) figures
 StandTaken side (TurnedDisc disc) figures = DiscFor side (IsDiscTaken side disc) figures
+StandTaken side (Polygon g) figures = ContourFor side (IsPolygonTaken side g) figures
 
 -- the pieces are taken for the real piece, all on its layers
 pub record PiecesAreTaken (side : Side) (real : Placed RealShape) (pieces : List PlainPiece) : Type 0 where

@@ -5,7 +5,7 @@ use arc_regions::laws::{taken_holds, taken_lies};
 use board_shapes::laws::tables_are_unique;
 use covers::Copper;
 use covers::laws::verdicts_decide;
-use slants::laws::{discs_are_between, turned_is_between};
+use slants::laws::{discs_are_between, polygon_is_between, turned_is_between};
 
 /// Pieces that are taken for those of a real board stand for them.
 pub fn taken_are_bounds()
@@ -15,6 +15,7 @@ pub fn taken_are_bounds()
     slants::laws::taken_is_between();
     turned_is_between();
     discs_are_between();
+    polygon_is_between();
     taken_holds();
     taken_lies();
 }

@@ -1,20 +1,20 @@
 //! Rows of pieces: chains of capsules, and single figures.
 ghost use Rattle.arc_covers.specs.Bounds.{IsOn, OneContour, OneDisc, capsules_from, capsules_of, figures_of};
-ghost use Rattle.arc_covers.specs.Taken.{IsDiscTaken, IsLineTaken, IsTurnedTaken, StandTaken};
+ghost use Rattle.arc_covers.specs.Taken.{IsDiscTaken, IsLineTaken, IsPolygonTaken, IsTurnedTaken, StandTaken};
 ghost use Rattle.arc_covers.specs.declared.side.Side.TheVariants.{Below};
-ghost use Rattle.real_shapes.specs.declared.RealShape.TheVariants.{ArcDraw, Slanted, Turned, TurnedDisc as AnyDisc};
+ghost use Rattle.real_shapes.specs.declared.RealShape.TheVariants.{ArcDraw, Polygon, Slanted, Turned, TurnedDisc as AnyDisc};
 ghost use Rattle.board_shapes.specs.Figures.{Figure, area_figure, capsule_figure, figure_of, round};
 ghost use Rattle.board_shapes.specs.Pieces.{plain_piece, plain_pieces};
 ghost use Rattle.planar.specs.declared.Spot.{Spot};
 ghost use Rattle.std.specs.Prelude.{All, IfNone, IfOk, IfSome, IsTrue, List, length, pos, ◌≡◌, ◌↔◌, ◌∷◌, []};
 
-use crate::side::{Side, is_disc_taken, is_line_taken, is_taken, is_turned_taken};
+use crate::side::{Side, is_disc_taken, is_line_taken, is_polygon_taken, is_taken, is_turned_taken};
 use arcs::{Arc, Spot};
 use area_contact::Area;
 use board_shapes::{Piece, Shape};
 use contact::Capsule;
 use lengths::rows::NoMemory;
-use slants::{Slant, TurnedDisc, TurnedFigure};
+use slants::{RegularPolygon, Slant, TurnedDisc, TurnedFigure};
 use std::alloc::Global;
 
 /// Whether the piece is on the layers from `top` to `bottom` and on no others.
@@ -220,6 +220,27 @@ pub fn are_disc(side: Side, disc: &TurnedDisc, pieces: &[Piece]) -> bool
     match pieces {
         [] => is_lower(side),
         [only] => is_round(side, disc, &only.shape),
+        _ => false,
+    }
+}
+
+/// Whether the shape is a contour that is taken for the regular polygon.
+fn is_polygon(side: Side, polygon: &RegularPolygon, shape: &Shape) -> bool
+    ensures { IsTrue result ↔ OneContour (IsPolygonTaken side polygon.now) (figure_of shape.now ∷ []) }
+{
+    match shape {
+        Shape::Filled(area) => is_polygon_taken(side, polygon, &area.points),
+        Shape::Round(_) => false,
+    }
+}
+
+/// Whether the pieces are one contour that is taken for the regular polygon; below, none are taken too.
+pub fn are_polygon(side: Side, polygon: &RegularPolygon, pieces: &[Piece]) -> bool
+    ensures { IsTrue result ↔ StandTaken side (Polygon polygon.now) (figures_of (plain_pieces pieces.now)) }
+{
+    match pieces {
+        [] => is_lower(side),
+        [only] => is_polygon(side, polygon, &only.shape),
         _ => false,
     }
 }

@@ -1,9 +1,9 @@
 //! The board below a real one, and the board above.
-ghost use Rattle.arc_covers.specs.Taken.{IsDiscTaken, IsLineTaken, IsTaken, IsTurnedTaken};
+ghost use Rattle.arc_covers.specs.Taken.{IsDiscTaken, IsLineTaken, IsPolygonTaken, IsTaken, IsTurnedTaken};
 ghost use Rattle.std.specs.Prelude.{IsTrue, ◌↔◌};
 
 use arcs::{Arc, Spot, is_above, is_below};
-use slants::{Slant, TurnedDisc, TurnedFigure};
+use slants::{RegularPolygon, Slant, TurnedDisc, TurnedFigure};
 
 /// On which side of a real board another lies.
 #[derive(Clone, Copy, Debug, PartialEq, Eq)]
@@ -51,5 +51,15 @@ pub fn is_disc_taken(side: Side, disc: &TurnedDisc, s: Spot, r: u64) -> bool
     match side {
         Side::Below => slants::is_below_disc(disc, s, r),
         Side::Above => slants::is_above_disc(disc, s, r),
+    }
+}
+
+/// Whether the contour is taken as a bound of the regular polygon.
+pub fn is_polygon_taken(side: Side, polygon: &RegularPolygon, points: &[Spot]) -> bool
+    ensures { IsTrue result ↔ IsPolygonTaken side polygon.now points.now }
+{
+    match side {
+        Side::Below => slants::is_below_polygon(polygon, points),
+        Side::Above => slants::is_above_polygon(polygon, points),
     }
 }
