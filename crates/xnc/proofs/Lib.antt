@@ -1,6 +1,7 @@
 pub mod KindNumbers
 pub mod Bridge
 pub mod LawfulAfter
+mod Fronts
 pub mod Numbers
 pub mod OneAnswer
 mod Ending
