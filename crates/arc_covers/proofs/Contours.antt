@@ -1,5 +1,5 @@
 -- Single contours and discs.
-use Rattle.std.proofs.Common.{◌≡◌, ◌↔◌, ◌⊎◌, inl, inr, ℕ, ℤ, pos, unsigned_abs, ◌≤◌, ◌<◌, length, List, [], ◌∷◌, Bool, false, IsTrue, get_or, refl, sym, ap, subst, ◌∙◌, arith}
+use Rattle.std.proofs.Common.{◌≡◌, ◌↔◌, ◌⊎◌, inl, inr, ℕ, ◌≤◌, ◌<◌, length, List, [], ◌∷◌, Bool, false, IsTrue, get_or, refl, sym, ap, subst, arith}
 use Rattle.planar.specs.declared.Spot.{Spot}
 use Rattle.board_shapes.specs.Figures.{Figure, Stroke, figure_of, filled, round}
 use Rattle.board_shapes.specs.Pieces.{plain_pieces}
@@ -8,33 +8,12 @@ use Rattle.board_shapes.specs.declared.shape.Shape.{Shape}
 use Rattle.arc_covers.specs.Bounds.{ContourFor, DiscFor, OneContour, OneDisc, OrNone, figures_of}
 use Rattle.arc_covers.specs.declared.side.Side.{Side}
 use Rattle.arc_covers.specs.declared.side.Side.TheVariants.{Above, Below}
-use Rattle.arc_covers.proofs.Figures.{round_parts}
 
 pub of_contour : (P : List Spot → Type 0) (points : List Spot) (b : Bool) → IsTrue b ↔ P points → IsTrue b ↔ OneContour P (filled points ∷ [])
 of_contour P points b told = (λ yes. (points, refl, told.0 yes), λ (other, same, taken). told.1 (let one : other ≡ points = cc in subst P one taken))
 
 pub of_capsule : (P : List Spot → Type 0) (s : Stroke) (b : Bool) → b ≡ false → IsTrue b ↔ OneContour P (round s ∷ [])
 of_capsule P s b off = (λ yes. absurd cc, λ (other, same, taken). absurd cc)
-
--- ---- a disc
-
-head_is : (f g : Figure) → f ∷ [] ≡ g ∷ [] → f ≡ g
-head_is f g e = cc
-
-pub of_disc : (P : Spot → ℕ → Type 0) (a b : Spot) (r : ℕ) (yes : Bool) → a ≡ b → IsTrue yes ↔ P a r → IsTrue yes ↔ OneDisc P (round (record { a = a; b = b; r = pos r }) ∷ [])
-of_disc P a b r yes one told = (
-  λ y. (a, r, ap (λ (s : Spot). round (record { a = a; b = s; r = pos r }) ∷ []) (sym one), told.0 y),
-  λ (s, q, same, taken).
-      let parts = round_parts a b s s (pos r) (pos q) (head_is _ _ same) in
-      let n : r ≡ q = ap unsigned_abs parts.2 in
-      told.1 (subst (λ (x : Spot). P x r) (sym parts.0) (subst (P s) (sym n) taken)),
-)
-
-pub of_line : (P : Spot → ℕ → Type 0) (a b : Spot) (r : ℤ) (yes : Bool) → yes ≡ false → (a ≡ b → ⊥) → IsTrue yes ↔ OneDisc P (round (record { a = a; b = b; r = r }) ∷ [])
-of_line P a b r yes off apart = (λ y. absurd cc, λ (s, q, same, taken). let parts = round_parts a b s s r (pos q) (head_is _ _ same) in absurd (apart (parts.0 ∙ sym parts.1)))
-
-pub of_area : (P : Spot → ℕ → Type 0) (points : List Spot) (b : Bool) → b ≡ false → IsTrue b ↔ OneDisc P (filled points ∷ [])
-of_area P points b off = (λ yes. absurd cc, λ (s, r, same, taken). absurd cc)
 
 -- ---- one figure of which something holds, or none
 
@@ -63,9 +42,6 @@ of_one side P f figures b is told = or_one side (OneContour P) f figures b is to
 
 pub of_none : (side : Side) (P : List Spot → Type 0) (figures : List Figure) (b : Bool) → figures ≡ [] → IsTrue b ↔ (side ≡ Below) → IsTrue b ↔ ContourFor side P figures
 of_none side P figures b is told = or_none side (OneContour P) figures b (λ (points, same, taken). absurd cc) is told
-
-pub no_disc : (side : Side) (P : Spot → ℕ → Type 0) (figures : List Figure) (b : Bool) → figures ≡ [] → IsTrue b ↔ (side ≡ Below) → IsTrue b ↔ DiscFor side P figures
-no_disc side P figures b is told = or_none side (OneDisc P) figures b (λ (s, r, same, taken). absurd cc) is told
 
 -- ---- one piece, or more
 
