@@ -3,6 +3,7 @@ use Rattle.std.specs.Prelude.{◌≡◌, ℕ, ◌+◌, ◌^◌, ◌<◌, ◌≤�
 use Rattle.std.specs.HashMap.{get, get_by, hash_map_len}
 use Rattle.texts.specs.Words.{is_word}
 use Rattle.planar.specs.declared.Spot.{Spot}
+use Rattle.contact.specs.declared.Capsule.{Capsule}
 use Rattle.planar.specs.Plane.{IsPlaced}
 use Rattle.board_shapes.specs.declared.shape.Shape.TheVariants.{Round}
 use Rattle.board_shapes.specs.Figures.{Figure, figure_of}
@@ -169,6 +170,12 @@ shown k seen.Leaves = closing k >>= λ area. Ok (leaves area)
 abbrev pub showing : Known → Result Seen GerberKind → Result Effect GerberKind
 showing k (Ok e) = shown k e
 showing k (Err fault) = Err fault
+
+-- what a draw comes to, by its stroke
+abbrev pub drawn_by : Known → Spot → Result (Option Capsule) GerberKind → Result Effect GerberKind
+drawn_by k to (Ok None) = Ok (performs to [])
+drawn_by k to (Ok (Some stroke)) = room_for k (Some (figure_of (Round stroke))) >>= λ figure. Ok (performs to (listed figure))
+drawn_by k to (Err fault) = Err fault
 
 -- where an effect leads, and the block that it opens
 abbrev pub leads : Seen → Option Spot

@@ -19,7 +19,7 @@ use apertures::FlashFault;
 use board_shapes::MOST_LAYERS;
 use file_reading::Halt;
 use gerber_words::is_field;
-use lengths::decimal::{Len, LenFault, Unit, scaled};
+use lengths::decimal::{Len, Unit, whole_position};
 use planar::Spot;
 use step_repeat::{CopyFault, Repeat};
 use texts::is_word;
@@ -95,11 +95,9 @@ fn position(format: Format, unit: Unit, digits: &[u8]) -> Result<Len, GerberKind
     requires whole { is_whole digits.now ≡ true }
     ensures { result ≡ spec.gridded (position_of (over_power digits.now format.decimals) unit) }
 {
-    match scaled(digits, format.decimals, unit) {
+    match whole_position(digits, format.decimals, unit) {
         Ok(len) => Ok(len),
-        Err(LenFault::NotANumber) => unreachable!(),
-        Err(LenFault::OffGrid) => Err(GerberKind::OffGrid),
-        Err(LenFault::OutOfRange) => Err(GerberKind::OutOfRange),
+        Err(fault) => Err(fault.choose(GerberKind::OffGrid, GerberKind::OutOfRange)),
     }
 }
 

@@ -72,8 +72,7 @@ impl Dialect for Plain {
         alloc: Global,
         command: &Command<'a>,
     ) -> Result<(), Halt<GerberKind>> {
-        let effect = reader.effect(command)?;
-        reader.go_on(alloc, command, effect)
+        reader.obey(alloc, command)
     }
 }
 

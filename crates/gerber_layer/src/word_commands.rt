@@ -15,7 +15,7 @@ use crate::kind::GerberKind;
 use aperture_macros::Copper;
 use gerber_words::{Attribute, AttributeKind, Word, is_field};
 use lengths::decimal::{Unit, read_decimal, small_value, unsigned};
-use texts::{ByteClass, Digit, all_digits, begins, is_digit, is_word, run_len};
+use texts::{ByteClass, all_digits, begins, digits_len, is_digit, is_word, run_len};
 
 #[tactic(auto, unfolding(crate::specs::WordCommands::code_in))]
 pub fn code_in(text: &[u8]) -> Option<Code>
@@ -101,7 +101,7 @@ fn number_front(text: &[u8]) -> (usize, bool)
     ensures number { result.1 ≡ spec.is_number (take result.0 text.now) }
 {
     let body = unsigned(text);
-    let digits = run_len::<Digit>(body);
+    let digits = digits_len(body);
     if is_signed(behind(body, digits)) {
         let len = run_len::<Numeric>(text);
         return (len, is_number(&text[..len]));
