@@ -8,3 +8,4 @@ pub mod Limits
 pub mod Laws
 pub mod ReportReading
 pub mod Stored
+pub mod LineNumbers

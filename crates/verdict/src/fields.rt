@@ -5,6 +5,7 @@ ghost use Rattle.std.specs.Option.{option_map};
 ghost use Rattle.texts.specs.Digits.{is_decimal_digit};
 ghost use Rattle.verdict.specs.ReportReading as spec;
 
+use crate::line_number::LineNumber;
 use crate::report_reading::ReadFault;
 use std::str;
 use texts::{Numeral, is_digit};
@@ -144,7 +145,9 @@ pub fn wide(bytes: &[u8]) -> Result<(u64, &[u8]), ReadFault>
     }
 }
 
-/// A number below 2^32. One of two to eighteen digits, as most are, is told with few tests.
+/// A number below 2^32. One of two to eighteen digits, as most are, is told with few tests. It is inlined, so that what it gives is
+/// not stored to be read again.
+#[inline(always)]
 pub fn number(bytes: &[u8]) -> Result<(u32, &[u8]), ReadFault>
     ensures reads { spec.Gives (λ x. (x.0, x.1.now)) result (spec.number_at bytes.now) }
     ensures cause { IfErr result (λ fault. fault ≡ ReadFault.NotAReport) }
@@ -172,17 +175,18 @@ fn any_number(bytes: &[u8]) -> Result<(u32, &[u8]), ReadFault>
     }
 }
 
-/// The bytes behind the text of a number, where it has to stand there. Where it does, to read it is cheaper than to write it.
-pub fn expect_number(bytes: &[u8], number: u64) -> Result<&[u8], ReadFault>
-    ensures { spec.Gives (λ rest. rest.now) result (spec.behind (decimal number) bytes.now) }
+/// The bytes behind the text of a line's number, where it has to stand there.
+#[inline(always)]
+pub fn expect_line_number(bytes: &[u8], line: LineNumber) -> Result<&[u8], ReadFault>
+    ensures { spec.Gives (λ rest. rest.now) result (spec.behind (decimal line.number) bytes.now) }
 {
-    match wide(bytes) {
-        Ok((n, rest)) if n == number => Ok(rest),
-        _ => expect_written(bytes, number),
+    match line.behind(bytes) {
+        Some(rest) => Ok(rest),
+        None => expect_written(bytes, line.number),
     }
 }
 
-// The same by writing the number. No text of a verdict comes here.
+// The same by writing the number. No text of a verdict with a line behind this one comes here.
 #[cold]
 #[inline(never)]
 fn expect_written(bytes: &[u8], number: u64) -> Result<&[u8], ReadFault>
@@ -192,6 +196,7 @@ fn expect_written(bytes: &[u8], number: u64) -> Result<&[u8], ReadFault>
 }
 
 /// A blank and a number below 2^32.
+#[inline(always)]
 #[tactic(auto, unfolding(crate::specs::ReportReading::word_at))]
 pub fn word(bytes: &[u8]) -> Result<(u32, &[u8]), ReadFault>
     ensures reads { spec.Gives (λ x. (x.0, x.1.now)) result (spec.word_at bytes.now) }

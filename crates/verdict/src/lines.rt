@@ -7,9 +7,10 @@ ghost use Rattle.verdict.specs.ReportReading as spec;
 ghost use Rattle.verdict.specs.ReportText as report;
 
 use crate::fields::{
-    begins_blank, count, expect, expect_byte, expect_number, layer, line_end, net_number, parent,
-    short_word, signed_word, titled, word,
+    begins_blank, count, expect, expect_byte, expect_line_number, layer, line_end, net_number,
+    parent, short_word, signed_word, titled, word,
 };
+use crate::line_number::LineNumber;
 use crate::report_reading::ReadFault;
 use crate::verdict::{Branch, Open, PointLine, Short, SourceLine, SpotLine, Tree, Twig};
 use lengths::rows::Rows;
@@ -49,9 +50,9 @@ pub trait Line: Drop {
     /// Its numbers and names are in the ranges of their types.
     ghost is_lawful: { Self → Type 0 };
 
-    /// What stands in front as the item of this number, and the bytes behind it.
-    fn read(alloc: Global, number: u64, bytes: &[u8]) -> Result<(Self, &[u8]), ReadFault>
-        ensures { spec.Gives (λ x. (x.0, x.1.now)) result (at number bytes.now) };
+    /// What stands in front as the item of a line of this number, and the bytes behind it.
+    fn read(alloc: Global, line: LineNumber, bytes: &[u8]) -> Result<(Self, &[u8]), ReadFault>
+        ensures { spec.Gives (λ x. (x.0, x.1.now)) result (at line.number bytes.now) };
 
     /// Puts its text behind others. Whoever does learns that the item is lawful.
     fn write(&self, number: u64, out: &mut Vec<u8>) -> Result<(), AllocError>
@@ -132,12 +133,12 @@ fn write_words<T: Word>(out: &mut Vec<u8>, words: &[T]) -> Result<(), AllocError
 // A title and the number of a line. It is inlined, so that a title that is known is compared at once.
 #[inline(always)]
 #[tactic(auto, unfolding(crate::specs::ReportReading::heading_at))]
-fn heading<'a>(bytes: &'a [u8], title: &[u8], number: u64) -> Result<&'a [u8], ReadFault>
-    ensures { spec.Gives (λ rest. rest.now) result (spec.heading_at title.now number bytes.now) }
+fn heading<'a>(bytes: &'a [u8], title: &[u8], line: LineNumber) -> Result<&'a [u8], ReadFault>
+    ensures { spec.Gives (λ rest. rest.now) result (spec.heading_at title.now line.number bytes.now) }
 {
     let rest = expect(bytes, title)?;
     let rest = expect_byte(rest, b' ')?;
-    expect_number(rest, number)
+    expect_line_number(rest, line)
 }
 
 // Writes a title and the number of a line. It is inlined, so that a title that is known is stored directly.
@@ -191,8 +192,8 @@ impl Line for Tree {
     ghost is_lawful = { AllByRecursion IsTwig };
 
     #[tactic(auto, unfolding(crate::specs::ReportReading::net_at))]
-    fn read(alloc: Global, number: u64, bytes: &[u8]) -> Result<(Tree, &[u8]), ReadFault> {
-        let rest = heading(bytes, b"net", number)?;
+    fn read(alloc: Global, line: LineNumber, bytes: &[u8]) -> Result<(Tree, &[u8]), ReadFault> {
+        let rest = heading(bytes, b"net", line)?;
         let (net, rest) = words(alloc, rest)?;
         line_end(net, rest)
     }
@@ -212,8 +213,8 @@ impl Line for Text {
     ghost is_lawful = { IsText };
 
     #[tactic(auto, unfolding(crate::specs::ReportReading::name_at))]
-    fn read(alloc: Global, number: u64, bytes: &[u8]) -> Result<(Text, &[u8]), ReadFault> {
-        let rest = heading(bytes, b"name", number)?;
+    fn read(alloc: Global, line: LineNumber, bytes: &[u8]) -> Result<(Text, &[u8]), ReadFault> {
+        let rest = heading(bytes, b"name", line)?;
         let rest = expect_byte(rest, b' ')?;
         text(alloc, rest)
     }
@@ -234,8 +235,8 @@ impl Line for PointLine {
     ghost is_lawful = { IsPointLine };
 
     #[tactic(auto, unfolding(crate::specs::ReportReading::point_at))]
-    fn read(_: Global, number: u64, bytes: &[u8]) -> Result<(PointLine, &[u8]), ReadFault> {
-        let rest = heading(bytes, b"point", number)?;
+    fn read(_: Global, line: LineNumber, bytes: &[u8]) -> Result<(PointLine, &[u8]), ReadFault> {
+        let rest = heading(bytes, b"point", line)?;
         let (number, rest) = word(rest)?;
         let (layer, rest) = layer(rest)?;
         let (name, rest) = word(rest)?;
@@ -267,7 +268,7 @@ impl Line for Open {
     ghost is_lawful = { IsOpen };
 
     #[tactic(auto, unfolding(crate::specs::ReportReading::open_at))]
-    fn read(_: Global, _: u64, bytes: &[u8]) -> Result<(Open, &[u8]), ReadFault> {
+    fn read(_: Global, _: LineNumber, bytes: &[u8]) -> Result<(Open, &[u8]), ReadFault> {
         let rest = expect(bytes, b"open")?;
         let (name, rest) = word(rest)?;
         let (home, rest) = word(rest)?;
@@ -297,7 +298,7 @@ impl Line for Branch {
     ghost is_lawful = { IsBranchLine };
 
     #[tactic(auto, unfolding(crate::specs::ReportReading::branch_at))]
-    fn read(alloc: Global, _: u64, bytes: &[u8]) -> Result<(Branch, &[u8]), ReadFault> {
+    fn read(alloc: Global, _: LineNumber, bytes: &[u8]) -> Result<(Branch, &[u8]), ReadFault> {
         let rest = expect(bytes, b"branch")?;
         let (name, rest) = word(rest)?;
         let (probe, rest) = word(rest)?;
@@ -326,7 +327,7 @@ impl Line for Short {
     ghost is_lawful = { IsShort };
 
     #[tactic(auto, unfolding(crate::specs::ReportReading::short_at))]
-    fn read(alloc: Global, _: u64, bytes: &[u8]) -> Result<(Short, &[u8]), ReadFault> {
+    fn read(alloc: Global, _: LineNumber, bytes: &[u8]) -> Result<(Short, &[u8]), ReadFault> {
         let rest = expect(bytes, b"short")?;
         let (net, rest) = word(rest)?;
         let (count, rest) = count(rest)?;
@@ -351,7 +352,7 @@ impl Line for u32 {
 
     ghost is_lawful = { IsNumber };
 
-    fn read(_: Global, _: u64, bytes: &[u8]) -> Result<(u32, &[u8]), ReadFault> {
+    fn read(_: Global, _: LineNumber, bytes: &[u8]) -> Result<(u32, &[u8]), ReadFault> {
         titled(bytes, b"bare")
     }
 
@@ -377,8 +378,8 @@ impl Line for SpotLine {
     ghost is_lawful = { IsSpotLine };
 
     #[tactic(auto, unfolding(crate::specs::ReportReading::spot_at))]
-    fn read(_: Global, number: u64, bytes: &[u8]) -> Result<(SpotLine, &[u8]), ReadFault> {
-        let rest = heading(bytes, b"spot", number)?;
+    fn read(_: Global, line: LineNumber, bytes: &[u8]) -> Result<(SpotLine, &[u8]), ReadFault> {
+        let rest = heading(bytes, b"spot", line)?;
         let (x, rest) = signed_word(rest)?;
         let (y, rest) = signed_word(rest)?;
         line_end(SpotLine { x, y }, rest)
@@ -430,8 +431,8 @@ impl Line for SourceLine {
     ghost is_lawful = { IsSourceLine };
 
     #[tactic(auto, unfolding(crate::specs::ReportReading::source_at))]
-    fn read(_: Global, number: u64, bytes: &[u8]) -> Result<(SourceLine, &[u8]), ReadFault> {
-        let rest = heading(bytes, b"source", number)?;
+    fn read(_: Global, line: LineNumber, bytes: &[u8]) -> Result<(SourceLine, &[u8]), ReadFault> {
+        let rest = heading(bytes, b"source", line)?;
         let (file, rest) = short_word(rest)?;
         let (command, rest) = word(rest)?;
         let (copy, rest) = short_word(rest)?;
@@ -463,10 +464,12 @@ fn items<T: Line>(alloc: Global, count: u64, bytes: &[u8]) -> Result<(Rows<T>, &
 {
     let mut items = Rows::new(alloc);
     let mut rest = bytes;
-    for number in 0..count {
-        let (item, behind) = T::read(alloc, number, rest)?;
+    let mut line = LineNumber::of(0);
+    for _ in 0..count {
+        let (item, behind) = T::read(alloc, line, rest)?;
         items.push(item)?;
         rest = behind;
+        line = line.next();
     }
     Ok((items, rest))
 }

@@ -3,5 +3,5 @@ use Rattle.verdict.specs.ReportReading.{items_at}
 use Rattle.verdict.proofs.ReadLists.{with_front}
 use Rattle.verdict.proofs.lines.items.Given as goal
 
-abbrev pub invariant-loop-number : goal.invariant-loop-number
-invariant-loop-number g l = with_front l.items (items_at g.T.Line.at (l.count - l.number) l.number l.rest) ≡ items_at g.T.Line.at l.count 0 l.bytes
+abbrev pub invariant-loop : goal.invariant-loop
+invariant-loop g l = (with_front l.items (items_at g.T.Line.at (l.count - l.counter) l.counter l.rest) ≡ items_at g.T.Line.at l.count 0 l.bytes) × (l.line.number ≡ l.counter)

@@ -1,0 +1,189 @@
+-- Texts of numbers as the low bytes of a word.
+use Rattle.std.proofs.Common.{◌≡◌, ℕ, zero, suc, ◌+◌, ◌-◌, ◌*◌, ◌/◌, ◌%◌, ◌^◌, ◌<◌, ◌≤◌, true, List, [], ◌∷◌, ◌++◌, length, take, drop, get_or, Some, refl, sym, ap, subst, ◌∙◌, arith, inl, inr}
+use Rattle.std.specs.Prelude.{bit_and, decimal}
+use Rattle.std.specs.Int.{w64, from_le_bytes}
+use Rattle.std.specs.List.{list_all}
+use Rattle.std.proofs.Math.Nat.{mul_assoc, pow-le-pow_right}
+use Rattle.std.proofs.lemmas.Bool.{cases_lt}
+use Rattle.std.proofs.lemmas.Fmt.{decimal_digit, decimal_step, digits_decimal}
+use Rattle.std.proofs.lemmas.List.{take-append-drop, take-take, length-append, length-take-le, length-drop}
+use Rattle.std.proofs.lemmas.Nat.{one_shl, and_mask, div-add-mod', mod-mul-add, mod_below, pow_pos, pow-add}
+use Rattle.lengths.proofs.Digits.{digit_of}
+use Rattle.texts.specs.Digits.{is_decimal_digit}
+use Rattle.verdict.specs.LineNumbers.{worth}
+use Rattle.verdict.specs.ReportReading.{behind}
+use Rattle.verdict.proofs.Steps.{and_both, behind_again, own}
+
+abbrev pub AreBytes : List ℕ → Type 0
+AreBytes [] = Unit {0}
+AreBytes (b ∷ bs) = (b < 256) × AreBytes bs
+
+bytes_of : (bs : List ℕ) → ((i : ℕ) → get_or bs i 0 < 256) → AreBytes bs
+bytes_of [] h = tt
+bytes_of (b ∷ bs) h = (h 0, bytes_of bs (λ i. h (suc i)))
+
+first_bytes : (k : ℕ) (bs : List ℕ) → AreBytes bs → AreBytes (take k bs)
+first_bytes zero bs h = tt
+first_bytes (suc k) [] h = tt
+first_bytes (suc k) (b ∷ bs) h = (h.0, first_bytes k bs h.1)
+
+last_bytes : (k : ℕ) (bs : List ℕ) → AreBytes bs → AreBytes (drop k bs)
+last_bytes zero bs h = h
+last_bytes (suc k) [] h = tt
+last_bytes (suc k) (b ∷ bs) h = last_bytes k bs h.1
+
+digits_are_bytes : (ds : List ℕ) → list_all is_decimal_digit ds ≡ true → AreBytes ds
+digits_are_bytes [] e = tt
+digits_are_bytes (d ∷ ds) e =
+    let both = and_both (is_decimal_digit d) (list_all is_decimal_digit ds) e in
+    let digit = digit_of d both.0 in
+    (omega (arith, digit.high), digits_are_bytes ds both.1)
+
+-- one byte more
+pub power_more : (k : ℕ) → 2 ^ (8 * suc k) ≡ 2 ^ (8 * k) * 256
+power_more k = let e : 8 * suc k ≡ 8 * k + 8 = omega arith in ap (λ (n : ℕ). 2 ^ n) e ∙ pow-add 2 (8 * k) 8
+
+-- the low bytes of a word are worth what its first bytes are
+front_worth : (k : ℕ) (bs : List ℕ) → AreBytes bs → worth bs % 2 ^ (8 * k) ≡ worth (take k bs)
+front_worth zero bs h = omega arith
+front_worth (suc k) [] h = let p = pow_pos (8 * suc k) in omega (arith, p)
+front_worth (suc k) (b ∷ bs) h =
+    let p : ℕ = 2 ^ (8 * k) in
+    let w : ℕ = worth bs in
+    let some : 0 < p = pow_pos (8 * k) in
+    let parts : w / p * p + w % p ≡ w = div-add-mod' w p in
+    let low : w % p < p = mod_below w p some in
+    let joined : w / p * (p * 256) ≡ w / p * p * 256 = sym (mul_assoc (w / p) p 256) in
+    let whole : b + 256 * w ≡ w / p * (p * 256) + (b + 256 * (w % p)) = omega (arith, parts, joined) in
+    let small : b + 256 * (w % p) < p * 256 = omega (arith, low, h.0) in
+    ap (λ (m : ℕ). (b + 256 * w) % m) (power_more k)
+    ∙ ap (λ (n : ℕ). n % (p * 256)) whole
+    ∙ mod-mul-add (w / p) (p * 256) (b + 256 * (w % p)) small
+    ∙ ap (λ (r : ℕ). b + 256 * r) (front_worth k bs h.1)
+
+pub worth_below : (bs : List ℕ) → AreBytes bs → worth bs < 2 ^ (8 * length bs)
+worth_below [] h = omega arith
+worth_below (b ∷ bs) h = let less = worth_below bs h.1 in omega (arith, less, h.0, power_more (length bs))
+
+same_bytes : (xs ys : List ℕ) → length xs ≡ length ys → AreBytes xs → AreBytes ys → worth xs ≡ worth ys → xs ≡ ys
+same_bytes [] [] l h k e = refl
+same_bytes [] (y ∷ ys) l h k e = absurd (omega (arith, l))
+same_bytes (x ∷ xs) [] l h k e = absurd (omega (arith, l))
+same_bytes (x ∷ xs) (y ∷ ys) l h k e =
+    let first : x ≡ y = omega (arith, h.0, k.0, e) in
+    let others : worth xs ≡ worth ys = omega (arith, h.0, k.0, e) in
+    let more : xs ≡ ys = same_bytes xs ys (omega (arith, l)) h.1 k.1 others in
+    cc
+
+eight : (bs : List ℕ) → length bs ≡ 8 → from_le_bytes w64 bs ≡ worth bs
+eight [] e = absurd (omega (arith, e))
+eight (a ∷ []) e = absurd (omega (arith, e))
+eight (a ∷ b ∷ []) e = absurd (omega (arith, e))
+eight (a ∷ b ∷ c ∷ []) e = absurd (omega (arith, e))
+eight (a ∷ b ∷ c ∷ d ∷ []) e = absurd (omega (arith, e))
+eight (a ∷ b ∷ c ∷ d ∷ f ∷ []) e = absurd (omega (arith, e))
+eight (a ∷ b ∷ c ∷ d ∷ f ∷ g ∷ []) e = absurd (omega (arith, e))
+eight (a ∷ b ∷ c ∷ d ∷ f ∷ g ∷ i ∷ []) e = absurd (omega (arith, e))
+eight (a ∷ b ∷ c ∷ d ∷ f ∷ g ∷ i ∷ j ∷ []) e = omega arith
+eight (a ∷ b ∷ c ∷ d ∷ f ∷ g ∷ i ∷ j ∷ k ∷ bs) e = absurd (omega (arith, e))
+
+-- the number stands in front, where the low bytes of the first word are its text
+pub number_stands : (bytes front : List ℕ) (x mask word len number : ℕ) → front ≡ take 8 bytes → 8 ≤ length bytes → ((i : ℕ) → get_or bytes i 0 < 256) → x ≡ from_le_bytes w64 front → bit_and x mask ≡ word
+    → mask + 1 ≡ 2 ^ (8 * len) → len ≤ 7 → (0 < len → worth (decimal number) ≡ word) → (0 < len → length (decimal number) ≡ len) → (len ≡ 0 → word ≡ 1) → number < 2 ^ 64
+    → behind (decimal number) bytes ≡ Some (drop len bytes)
+number_stands bytes front x mask word zero number first enough fit read same masks few spelled long unknown small =
+    let none : mask ≡ 2 ^ 0 - 1 = omega (arith, masks) in
+    let all : bit_and x mask ≡ x % 2 ^ 0 = ap (bit_and x) none ∙ and_mask x 0 in
+    absurd (omega (arith, all, same, unknown refl))
+number_stands bytes front x mask word (suc k) number first enough fit read same masks few spelled long unknown small =
+    let len : ℕ = suc k in
+    let some : 0 < len = omega arith in
+    let is_mask : mask ≡ 2 ^ (8 * len) - 1 = omega (arith, masks) in
+    let low : x % 2 ^ (8 * len) ≡ word = sym (and_mask x (8 * len)) ∙ ap (bit_and x) (sym is_mask) ∙ same in
+    let bytes_front : AreBytes front = subst AreBytes (sym first) (first_bytes 8 bytes (bytes_of bytes fit)) in
+    let wide : length front ≡ 8 = ap length first ∙ length-take-le 8 bytes enough in
+    let is_x : x ≡ worth front = read ∙ eight front wide in
+    let digits : AreBytes (decimal number) = digits_are_bytes (decimal number) (digits_decimal own number small) in
+    let equal : worth (take len front) ≡ worth (decimal number) = sym (front_worth len front bytes_front) ∙ ap (λ (n : ℕ). n % 2 ^ (8 * len)) (sym is_x) ∙ low ∙ sym (spelled some) in
+    let taken : length (take len front) ≡ length (decimal number) = length-take-le len front (omega (arith, wide, few)) ∙ sym (long some) in
+    let text : take len front ≡ decimal number = same_bytes (take len front) (decimal number) taken (first_bytes len front bytes_front) digits equal in
+    let stands : take len bytes ≡ decimal number = sym (ap (take len) first ∙ take-take len 8 bytes (omega (arith, few))) ∙ text in
+    let whole : bytes ≡ decimal number ++ drop len bytes = sym (take-append-drop len bytes) ∙ ap (λ (t : List ℕ). t ++ drop len bytes) stands in
+    ap (behind (decimal number)) whole ∙ behind_again (decimal number) (drop len bytes)
+
+-- the last digit rises
+raised : (front : List ℕ) (d : ℕ) → worth (front ++ suc d ∷ []) ≡ worth (front ++ d ∷ []) + 2 ^ (8 * length front)
+raised [] d = omega arith
+raised (x ∷ front) d = let more = raised front d in omega (arith, more, power_more (length front))
+
+-- what rising gives a text
+pub record Rises (number : ℕ) : Type 0 where
+  pub long : length (decimal (number + 1)) ≡ length (decimal number)
+  pub word : (len : ℕ) → length (decimal number) ≡ suc len → worth (decimal (number + 1)) ≡ worth (decimal number) + 2 ^ (8 * len)
+
+pub rises : (number : ℕ) → number + 1 < 2 ^ 64 → number % 10 < 9 → Rises number
+rises number small low = elim (cases_lt number 10) [
+  | inl one ↦ (
+      let here : decimal number ≡ (48 + number) ∷ [] = decimal_digit number one in
+      let there : decimal (number + 1) ≡ (48 + (number + 1)) ∷ [] = decimal_digit (number + 1) (omega (arith, one, low)) in
+      by [] (48 + number) (48 + (number + 1)) here there (omega arith)
+      )
+  | inr many ↦ (
+      let front : List ℕ = decimal (number / 10) in
+      let same : (number + 1) / 10 ≡ number / 10 = omega (arith, low) in
+      let here : decimal number ≡ front ++ (48 + number % 10) ∷ [] = decimal_step number many (omega (arith, small)) in
+      let there : decimal (number + 1) ≡ front ++ (48 + (number + 1) % 10) ∷ [] = decimal_step (number + 1) (omega (arith, many)) small ∙ ap (λ (n : ℕ). decimal n ++ (48 + (number + 1) % 10) ∷ []) same in
+      by front (48 + number % 10) (48 + (number + 1) % 10) here there (omega (arith, low))
+      )
+]
+  where
+    by : (front : List ℕ) (d e : ℕ) → decimal number ≡ front ++ d ∷ [] → decimal (number + 1) ≡ front ++ e ∷ [] → e ≡ suc d → Rises number
+    by front d e here there next =
+        let longs : length (front ++ d ∷ []) ≡ length front + 1 = length-append front (d ∷ []) in
+        let longer : length (front ++ e ∷ []) ≡ length front + 1 = length-append front (e ∷ []) in
+        record {
+          long = ap length there ∙ longer ∙ sym longs ∙ ap length (sym here);
+          word = λ len is.
+              let size : len ≡ length front = omega (arith, is, ap length here, longs) in
+              ap worth there ∙ ap (λ (k : ℕ). worth (front ++ k ∷ [])) next ∙ raised front d ∙ ap (λ (t : List ℕ). worth t + 2 ^ (8 * length front)) (sym here) ∙ ap (λ (k : ℕ). worth (decimal number) + 2 ^ (8 * k)) (sym size);
+        }
+
+-- ---- The word of a text, from its last byte on
+
+-- there is room for one byte more
+pub room : (bytes : List ℕ) (at : ℕ) → ((i : ℕ) → get_or bytes i 0 < 256) → length bytes ≤ 7 → 1 ≤ at → worth (drop at bytes) < 2 ^ 48
+room bytes at fit few some =
+    let below = worth_below (drop at bytes) (last_bytes at bytes (bytes_of bytes fit)) in
+    let long = length-drop at bytes in
+    let powers : 2 ^ (8 * length (drop at bytes)) ≤ 2 ^ 48 = pow-le-pow_right {n = 2} (omega arith) {i = 8 * length (drop at bytes)} {j = 48} (omega (arith, long, few, some)) in
+    omega (arith, below, powers)
+
+-- ---- The next number
+
+pub mask_is : (len : ℕ) → len ≤ 7 → 1 * 2 ^ (8 * len) % 2 ^ 64 - 1 + 1 ≡ 2 ^ (8 * len)
+mask_is len few =
+    let whole : 1 * 2 ^ (8 * len) % 2 ^ 64 ≡ 2 ^ (8 * len) = one_shl (8 * len) 64 (omega (arith, few)) in
+    let some = pow_pos (8 * len) in
+    omega (arith, whole, some)
+
+-- what the last digit of a number is worth in its word
+unit_is : (mask len : ℕ) → mask + 1 ≡ 2 ^ (8 * suc len) → mask / 256 + 1 ≡ 2 ^ (8 * len)
+unit_is mask len masks =
+    let more = power_more len in
+    let some = pow_pos (8 * len) in
+    omega (arith, masks, more, some)
+
+pub stepped : (number len word mask : ℕ) → number + 1 < 2 ^ 64 → number % 10 < 9 → 0 < len → length (decimal number) ≡ len → worth (decimal number) ≡ word → mask + 1 ≡ 2 ^ (8 * len)
+    → (worth (decimal (number + 1)) ≡ word + mask / 256 + 1) × (length (decimal (number + 1)) ≡ len)
+stepped number zero word mask small low some long spelled masks = absurd (omega (arith, some))
+stepped number (suc k) word mask small low some long spelled masks =
+    let r = rises number small low in
+    let unit = unit_is mask k masks in
+    (r.word k long ∙ omega (arith, unit, spelled), r.long ∙ long)
+
+pub word_fits : (number len word mask : ℕ) → number < 2 ^ 64 → len ≤ 7 → length (decimal number) ≡ len → worth (decimal number) ≡ word → mask + 1 ≡ 2 ^ (8 * len) → word + mask / 256 + 1 < 2 ^ 64
+word_fits number len word mask small few long spelled masks =
+    let below = worth_below (decimal number) (digits_are_bytes (decimal number) (digits_decimal own number small)) in
+    let same : 2 ^ (8 * length (decimal number)) ≡ 2 ^ (8 * len) = ap (λ (k : ℕ). 2 ^ (8 * k)) long in
+    let powers : 2 ^ (8 * len) ≤ 2 ^ 56 = pow-le-pow_right {n = 2} (omega arith) {i = 8 * len} {j = 56} (omega (arith, few)) in
+    omega (arith, below, same, powers, spelled, masks)
