@@ -1,4 +1,4 @@
--- How real copper tells circles and rectangles with a round hole: by an area of three spots, or of five, and the first again. Areas that are flashed otherwise have four, or more.
+-- How real copper tells circles and rectangles with a round hole: by an area of three spots, or of five, and the first again. Areas that are flashed otherwise have four spots, or six and more, and the first again.
 use Rattle.std.specs.Prelude.{ℕ, ◌+◌, ◌*◌, ◌/◌, ◌-ℤ◌, unsigned_abs, List, [], ◌∷◌, Option, Some, None}
 use Rattle.planar.specs.declared.Spot.{Spot}
 use Rattle.board_shapes.specs.Rectangles.{lower, upper}
