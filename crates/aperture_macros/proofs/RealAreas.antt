@@ -1,6 +1,7 @@
 -- What the areas of real copper tell.
-use Rattle.std.proofs.Common.{◌≡◌, ℕ, ◌<◌, ◌==◌, Bool, true, false, cond, List, pos, ◌+ℤ◌, Option, Some, None, Result, Ok, sym, ap, subst, ◌∙◌, arith, inl, inr}
+use Rattle.std.proofs.Common.{◌≡◌, ℕ, ◌<◌, ◌==◌, Bool, true, false, cond, List, pos, ◌+ℤ◌, Option, Some, None, Result, Ok, refl, sym, ap, subst, ◌∙◌, arith, inl, inr}
 use Rattle.std.specs.Prelude.{◌⊎◌, unsigned_abs}
+use Rattle.std.specs.List.{list_all}
 use Rattle.planar.specs.Plane.{is_placed}
 use Rattle.planar.specs.declared.Spot.{Spot}
 use Rattle.board_shapes.specs.Figures.{Figure, filled, round}
@@ -22,6 +23,7 @@ use Rattle.aperture_macros.specs.Degrees.{turn_at, turn_of}
 use Rattle.aperture_macros.specs.Flashes.{figure_turned, tell, told_figure, turn_behind}
 use Rattle.aperture_macros.specs.Images.{area_at, circle_at, figure_by, set_down, sketch_at}
 use Rattle.aperture_macros.specs.Laws.{IsRoundTold, IsTold, RealAreasAreTold}
+use Rattle.aperture_macros.specs.Seen.{IsNoArea, is_circle}
 use Rattle.aperture_macros.specs.Sized.{IsSized}
 use Rattle.aperture_macros.specs.Telling.{is_moved, round_told, told, told_in, told_round}
 use Rattle.aperture_macros.specs.Values.{coordinate_at, diameter_at, point_at}
@@ -92,6 +94,10 @@ no_area {P = P} text given unit rotation at points h =
         let same : Some (Disc p d) ≡ o = cc in
         no_round (is_placed (set_down rotation at p)) _ points (subst (λ (x : Option Sketch). sketch_at rotation at x ≡ Ok (Some (filled points))) (sym same) h)
 
+pub circle_alone : {P : Type 0} (form : Form) (text : List ℕ) (given : List Fraction) (unit : Measure) (rotation : Rotation) (at : Spot) (points : List Spot) → is_circle form ≡ true → figure_by form rotation text given unit at ≡ Ok (Some (filled points)) → P
+circle_alone Circle text given unit rotation at points is h = no_area text given unit rotation at points h
+circle_alone other text given unit rotation at points is h = cc
+
 circle_tells : (turning : Turning) (p : PlainPrimitive) (given : List Fraction) (unit : Measure) (at : Spot) (points : List Spot) → IsSized p.form → p.form ≡ Circle → figure_turned turning p.form p.lengths given unit at ≡ Ok (Some (filled points)) → IsEither p given unit at points
 unfolding figure_turned
 circle_tells (Quarters rotation) p given unit at points sized is h = no_area p.lengths given unit rotation at points (subst (λ (f : Form). figure_by f rotation p.lengths given unit at ≡ Ok (Some (filled points))) is h)
@@ -103,3 +109,10 @@ real_areas_are_told word p given unit at points read h = by (real_turning word p
     by : ((p.rotation ≡ Degrees) ⊎ (p.form ≡ Circle)) → IsEither p given unit at points
     by (inl is) = by_degrees p given unit at points (read_sized Real word p read) (subst (λ (t : Turning). figure_turned t p.form p.lengths given unit at ≡ Ok (Some (filled points))) is h)
     by (inr is) = circle_tells p.rotation p given unit at points (read_sized Real word p read) is h
+
+-- ---- Spots that are placed flash an area
+
+pub placed_area : (points xs : List Spot) (placed : Bool) → placed ≡ list_all is_placed xs → placed ≡ true → xs ≡ points → IsNoArea (area_at points) → ⊥
+placed_area points xs placed is there same none =
+    let all : list_all is_placed points ≡ true = ap (λ (ps : List Spot). list_all is_placed ps) (sym same) ∙ sym is ∙ there in
+    none points (rw all refl)

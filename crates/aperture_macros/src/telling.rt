@@ -10,10 +10,10 @@ ghost use Rattle.aperture_macros.specs.Telling as spec;
 ghost use Rattle.aperture_macros.specs.declared.primitive.Rotation.TheVariants as rotation;
 
 use crate::fault::{FigureFault, MacroFault};
-use crate::placing::Placing;
-use crate::primitive::Rotation;
 use crate::images::same;
 use crate::outline::bounded;
+use crate::placing::Placing;
+use crate::primitive::Rotation;
 use board_shapes::Shape;
 use contact::Capsule;
 use planar::{Spot, are_placed};
