@@ -1,5 +1,5 @@
 -- Turns that are told come back as figures before them.
-use Rattle.std.proofs.Common.{◌≡◌, ℕ, ◌-◌, ◌<◌, ◌≤◌, ◌==◌, pos, nat_lt, Bool, true, false, cond, List, length, take, All, Option, Some, None, option_map, refl, sym, ap, ◌∙◌, subst, arith, le-leb, ◌+◌, [], ◌∷◌}
+use Rattle.std.proofs.Common.{◌≡◌, ℕ, ◌-◌, ◌<◌, ◌≤◌, ◌==◌, pos, nat_lt, Bool, true, false, cond, List, length, take, All, Option, Some, None, option_map, refl, sym, ap, ◌∙◌, subst, arith, le-leb, suc, [], ◌∷◌}
 use Rattle.std.specs.Prelude.{unsigned_abs}
 use Rattle.std.proofs.lemmas.List.{length-take-le}
 use Rattle.std.proofs.lemmas.List.Elements.{All-take}
@@ -34,7 +34,7 @@ pub discs : RoundToldIsFound → DiscsAreUndone
 discs law about a rest n some below =
     let points = told_round about rest (record { a = a; b = a; r = pos n }) in
     let more : nat_lt 0 rest ≡ true = le-leb 1 rest some in
-    let less : nat_lt rest RIGHT_ANGLE ≡ true = le-leb (rest + 1) RIGHT_ANGLE (omega (arith, below)) in
+    let less : nat_lt rest RIGHT_ANGLE ≡ true = le-leb (suc rest) RIGHT_ANGLE (omega (arith, below)) in
     ap (λ (r : Option RoundTelling). disc_or points r (told_area points (told_in points))) (law about rest n a a) ∙ rw (more, less, spot_same a a refl) refl
 
 pub undone : ToldIsFound → TurnsAreUndone
