@@ -1,4 +1,4 @@
-use Rattle.std.proofs.Common.{Ok, Err, sym, ap, ◌∙◌}
+use Rattle.std.proofs.Common.{Ok, Err, sym, ◌∙◌}
 use Rattle.gerber_layer.proofs.Coordinates.{fault_named, placed}
 use Rattle.gerber_layer.proofs.command_effects.position.Goals as goal
 

@@ -1,4 +1,4 @@
-use Rattle.std.proofs.Common.{ℕ, not, cond, eqb, leb, length, ap, ◌∙◌, w8, arith}
+use Rattle.std.proofs.Common.{ℕ, not, cond, eqb, leb, ap, ◌∙◌, w8, arith}
 use Rattle.std.proofs.lemmas.List.Sums.{prefix_len-le-length}
 use Rattle.std.proofs.lemmas.Simd.{bitmask_splat, first_set_mask_l}
 use lib.Count.{count_trailing_zeros}
