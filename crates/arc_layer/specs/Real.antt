@@ -27,10 +27,11 @@ use Rattle.arc_layer.specs.declared.draws.Bend.{Bend}
 use Rattle.arc_layer.specs.declared.kind.RealKind.{RealKind}
 use Rattle.arc_layer.specs.declared.kind.RealKind.TheVariants.{Copper}
 use Rattle.slants.specs.declared.cones.TheConstants.{RIGHT_ANGLE}
+use Rattle.slants.specs.declared.polygons.RegularPolygon.{RegularPolygon}
 use Rattle.real_shapes.specs.declared.RealShape.{RealShape}
 use Rattle.real_shapes.specs.declared.RealShape.TheVariants as shape
 
--- a figure, an arc draw, the rectangle of a slanted line, a region whose contour has arcs, a contour that is turned about a spot, counterclockwise, by so many parts of 10^-7 degrees, or a disc that is
+-- a figure, an arc draw, the rectangle of a slanted line, a region whose contour has arcs, a contour that is turned about a spot, counterclockwise, by so many parts of 10^-7 degrees, a disc that is, or a regular polygon, of which no file tells yet
 pub data RealFigure : Type 0 where
   plain : Figure → RealFigure
   bent : Arc → RealFigure
@@ -38,6 +39,7 @@ pub data RealFigure : Type 0 where
   curved : Spot → List Part → RealFigure
   turned : List Spot → Spot → ℕ → RealFigure
   turned_disc : TurnedDisc → RealFigure
+  regular : RegularPolygon → RealFigure
 
 -- one on a span of layers
 pub record PlainReal : Type 0 where
@@ -54,6 +56,7 @@ real_figure (shape.Slanted a) = slanted a
 real_figure (shape.Region area) = curved area.start area.parts.items
 real_figure (shape.Turned t) = turned t.contour.items t.about t.angle
 real_figure (shape.TurnedDisc disc) = turned_disc disc
+real_figure (shape.Polygon g) = regular g
 
 abbrev pub plain_real : Placed RealShape → PlainReal
 plain_real p = record { figure = real_figure p.shape; top = p.top; bottom = p.bottom; origin = p.origin }

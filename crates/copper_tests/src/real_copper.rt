@@ -72,6 +72,14 @@ fn shown(alloc: Global, piece: &RealPiece) -> Result<String, AllocError> {
                 disc.angle, about.x, about.y, centre.x, centre.y, disc.radius
             )?;
         },
+        RealShape::Polygon(g) => {
+            let (c, n) = (g.centre, g.corners);
+            write!(
+                line,
+                "{n} corners about {} {} by {} at {}",
+                c.x, c.y, g.diameter, g.angle
+            )?;
+        },
     }
     write!(line, " by {}.{}", piece.origin.command, piece.origin.copy)?;
     Ok(line)
