@@ -9,13 +9,13 @@ use Rattle.aperture_macros.specs.Expression.{is_expression}
 use Rattle.aperture_macros.specs.declared.fault.MacroFault.{MacroFault}
 use Rattle.aperture_macros.specs.declared.fault.MacroFault.TheVariants.{BadMacro, ExposureOff}
 use Rattle.aperture_macros.specs.declared.primitive.Copper.{Copper}
-use Rattle.aperture_macros.specs.declared.primitive.Copper.TheVariants.{Real}
+use Rattle.aperture_macros.specs.declared.primitive.Copper.TheVariants.{Exact, Real}
 use Rattle.aperture_macros.specs.declared.primitive.Form.{Form}
-use Rattle.aperture_macros.specs.declared.primitive.Form.TheVariants.{Circle, Outline, VectorLine, CentreLine}
+use Rattle.aperture_macros.specs.declared.primitive.Form.TheVariants.{Circle, Outline, VectorLine, CentreLine, Polygon}
 use Rattle.aperture_macros.specs.declared.primitive.Rotation.TheVariants.{Unturned}
 use Rattle.aperture_macros.specs.declared.primitive.Turning.{Turning}
 use Rattle.aperture_macros.specs.declared.primitive.Turning.TheVariants.{Quarters, Degrees}
-use Rattle.aperture_macros.specs.BodyWord.{PlainPrimitive, are_expressions, commas, count, fits, form_at, form_in, form_of, has_rotation, is_number, outline_of, part, past, primitive_at, rotation_text, row, some_form, turned_at, turning_at}
+use Rattle.aperture_macros.specs.BodyWord.{PlainPrimitive, are_expressions, commas, count, fits, form_at, form_in, form_of, has_rotation, is_number, outline_of, part, past, polygon_of, regular_of, primitive_at, rotation_text, row, some_form, turned_at, turning_at}
 use Rattle.aperture_macros.specs.Sized.{IsSized}
 use Rattle.aperture_macros.proofs.Strokes.{then_ok}
 
@@ -50,15 +50,33 @@ fitting_sized n (Some form) h = by (fits form n) refl
     by true e = (h, e)
     by false e = tt
 
-form_sized : (word : List ℕ) (n : ℕ) → IfSome (form_of word n) IsSized
+regular_sized : (d : Fraction) → IfSome (regular_of d) IsSized
+unfolding regular_of
+regular_sized d =
+    let by = λ (n : ℕ). is_number d n in
+    let twelve = either_sized (by 12) (Some (Polygon 12)) None (omega arith, omega arith) tt in
+    let ten = either_sized (by 10) (Some (Polygon 10)) _ (omega arith, omega arith) twelve in
+    let nine = either_sized (by 9) (Some (Polygon 9)) _ (omega arith, omega arith) ten in
+    let eight = either_sized (by 8) (Some (Polygon 8)) _ (omega arith, omega arith) nine in
+    let six = either_sized (by 6) (Some (Polygon 6)) _ (omega arith, omega arith) eight in
+    either_sized (by 5) (Some (Polygon 5)) _ (omega arith, omega arith) six
+
+polygon_sized : (copper : Copper) (word : List ℕ) → IfSome (polygon_of copper word) IsSized
+unfolding polygon_of
+polygon_sized Exact word = tt
+polygon_sized Real word = either_sized (not (is_decimal (part 2 word))) None (regular_of (fraction (part 2 word))) tt (regular_sized (fraction (part 2 word)))
+
+form_sized : (copper : Copper) (word : List ℕ) (n : ℕ) → IfSome (form_of copper word n) IsSized
 unfolding form_of
-form_sized word n =
+form_sized copper word n =
     let code = λ (text : List ℕ). is_word (part 0 word) text in
     let edges = outline_of word ((n - 5) / 2) in
-    let centre : Option Form = cond (code (codes "21")) (Some CentreLine) None in
+    let regular : Option Form = cond (code (codes "5")) (polygon_of copper word) None in
+    let centre : Option Form = cond (code (codes "21")) (Some CentreLine) regular in
     let vector : Option Form = cond (code (codes "20")) (Some VectorLine) centre in
     let outline : Option Form = cond (code (codes "4")) edges vector in
-    let fourth = either_sized (code (codes "21")) (Some CentreLine) None (omega arith, omega arith) tt in
+    let fifth = either_sized (code (codes "5")) (polygon_of copper word) None (polygon_sized copper word) tt in
+    let fourth = either_sized (code (codes "21")) (Some CentreLine) regular (omega arith, omega arith) fifth in
     let third = either_sized (code (codes "20")) (Some VectorLine) centre (omega arith, omega arith) fourth in
     let second = either_sized (code (codes "4")) edges vector (outline_sized word ((n - 5) / 2)) third in
     either_sized (code (codes "1")) (Some Circle) outline (omega arith, omega arith) second
@@ -98,7 +116,7 @@ form_is copper form word p sized fitting h =
 
 pub read_is : (copper : Copper) (word : List ℕ) (p : PlainPrimitive) → primitive_at copper word ≡ Ok (Some p) → IsRead copper word p
 unfolding primitive_at IsFitting
-read_is copper word p h = by (begins word (codes "0")) (form_at word (commas word)) (fitting_sized (commas word) (form_of word (commas word)) (form_sized word (commas word))) h
+read_is copper word p h = by (begins word (codes "0")) (form_at copper word (commas word)) (fitting_sized (commas word) (form_of copper word (commas word)) (form_sized copper word (commas word))) h
   where
     by : (b : Bool) (o : Option Form) → IfSome o (λ g. IsSized g × (fits g (commas word) ≡ true)) → cond b (Ok None) (some_form copper o (commas word) word) ≡ Ok (Some p) → IsRead copper word p
     by true o s h = cc
@@ -123,6 +141,7 @@ written Circle n h = inr refl
 written (Outline m) n h = inl (or_written (has_rotation (Outline m) n) (has_rotation (Outline m) (n + 1)) h)
 written VectorLine n h = inl (or_written (has_rotation VectorLine n) (has_rotation VectorLine (n + 1)) h)
 written CentreLine n h = inl (or_written (has_rotation CentreLine n) (has_rotation CentreLine (n + 1)) h)
+written (Polygon m) n h = inl (or_written (has_rotation (Polygon m) n) (has_rotation (Polygon m) (n + 1)) h)
 
 by_degrees : (exposure : Fraction) (b : Bool) (rotation : List ℕ) (turning : Turning) → b ≡ true → turning_at Real exposure b rotation ≡ Ok turning → turning ≡ Degrees
 unfolding turning_at

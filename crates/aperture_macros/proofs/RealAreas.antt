@@ -25,7 +25,7 @@ use Rattle.aperture_macros.specs.Images.{area_at, circle_at, figure_by, set_down
 use Rattle.aperture_macros.specs.Laws.{IsRoundTold, IsTold, RealAreasAreTold}
 use Rattle.aperture_macros.specs.Seen.{IsNoArea, is_circle}
 use Rattle.aperture_macros.specs.Sized.{IsSized}
-use Rattle.aperture_macros.specs.Telling.{is_moved, round_told, told, told_in, told_round}
+use Rattle.aperture_macros.specs.Telling.{is_moved, round_told, told, told_in, told_rest, told_round}
 use Rattle.aperture_macros.specs.Values.{coordinate_at, diameter_at, point_at}
 use Rattle.aperture_macros.proofs.Readings.{read_sized, real_turning}
 use Rattle.aperture_macros.proofs.Strokes.{then_ok}
@@ -45,7 +45,7 @@ rest_below text given turn h =
 abbrev IsEither : PlainPrimitive → List Fraction → Measure → Spot → List Spot → Type 0
 IsEither p given unit at points = IsTold p given unit at points ⊎ IsRoundTold p given unit at points
 
-telling : (p : PlainPrimitive) (given : List Fraction) (unit : Measure) (at : Spot) (points : List Spot) (turn : Turn) (o : Option Figure) → IsSized p.form → turn_behind p.form p.lengths given ≡ Ok turn → figure_by p.form turn.quarters p.lengths given unit at ≡ Ok o → tell at turn.rest o ≡ Ok (Some (filled points)) → IsEither p given unit at points
+telling : (p : PlainPrimitive) (given : List Fraction) (unit : Measure) (at : Spot) (points : List Spot) (turn : Turn) (o : Option Figure) → IsSized p.form → turn_behind p.form p.lengths given ≡ Ok turn → figure_by p.form turn.quarters p.lengths given unit at ≡ Ok o → tell p.form at turn.rest o ≡ Ok (Some (filled points)) → IsEither p given unit at points
 telling p given unit at points turn None sized said flashed h = cc
 telling p given unit at points turn (Some (round s)) sized said flashed h = by (is_moved at turn.rest s) h
   where
@@ -67,14 +67,14 @@ telling p given unit at points turn (Some (filled contour)) sized said flashed h
       said = said;
       below = rest_below _ given turn said;
       flashed = flashed;
-      found = ap told_in (sym (area_points (told at turn.rest contour) points h)) ∙ told_is_found at turn.rest contour is.closed is.enough;
+      found = ap told_in (sym (area_points (told at (told_rest p.form turn.rest) contour) points h)) ∙ told_is_found at (told_rest p.form turn.rest) contour is.closed is.enough;
     })
 
 by_degrees : (p : PlainPrimitive) (given : List Fraction) (unit : Measure) (at : Spot) (points : List Spot) → IsSized p.form → figure_turned Degrees p.form p.lengths given unit at ≡ Ok (Some (filled points)) → IsEither p given unit at points
 unfolding figure_turned
 by_degrees p given unit at points sized h =
     let t = then_ok (turn_behind p.form p.lengths given) (λ turn. told_figure turn p.form p.lengths given unit at) (Some (filled points)) h in
-    let f = then_ok (figure_by p.form t.0.quarters p.lengths given unit at) (λ figure. tell at t.0.rest figure) (Some (filled points)) t.2 in
+    let f = then_ok (figure_by p.form t.0.quarters p.lengths given unit at) (λ figure. tell p.form at t.0.rest figure) (Some (filled points)) t.2 in
     telling p given unit at points t.0 f.0 sized t.1 f.1 f.2
 
 -- ---- A circle that is turned by no degrees flashes no area

@@ -15,19 +15,19 @@ use Rattle.lengths.specs.declared.decimal.Unit.{Unit as Measure}
 use Rattle.aperture_macros.specs.declared.fault.MacroFault.{MacroFault}
 use Rattle.aperture_macros.specs.declared.fault.MacroFault.TheVariants.{OutOfRange, Slanted}
 use Rattle.aperture_macros.specs.declared.images.Sketch.{Sketch}
-use Rattle.aperture_macros.specs.declared.images.Sketch.TheVariants.{Disc, Rectangle, Stroke}
+use Rattle.aperture_macros.specs.declared.images.Sketch.TheVariants.{Disc, Rectangle, Regular, Stroke}
 use Rattle.aperture_macros.specs.declared.primitive.Form.{Form}
-use Rattle.aperture_macros.specs.declared.primitive.Form.TheVariants.{Circle, Outline, VectorLine, CentreLine}
+use Rattle.aperture_macros.specs.declared.primitive.Form.TheVariants.{Circle, Outline, VectorLine, CentreLine, Polygon}
 use Rattle.aperture_macros.specs.declared.primitive.Copper.{Copper}
 use Rattle.aperture_macros.specs.declared.primitive.Copper.TheVariants.{Exact, Real}
 use Rattle.aperture_macros.specs.declared.primitive.Rotation.{Rotation}
 use Rattle.aperture_macros.specs.declared.primitive.Rotation.TheVariants.{Unturned, Quarter, Half, ThreeQuarters}
 use Rattle.aperture_macros.specs.BodyWord.{◌>>=◌, part, past}
-use Rattle.aperture_macros.specs.Images.{area_at, circle_at, centre_at, centred, disc_at, figure_by, is_done, judged_by, line_at, line_between, outline_at, outlined, set_down, sketch_at, sketched, slanted, strip, stroke_at}
+use Rattle.aperture_macros.specs.Images.{area_at, circle_at, centre_at, centred, disc_at, figure_by, is_done, judged_by, line_at, line_between, outline_at, outlined, polygon_at, polygon_spots, set_down, sketch_at, sketched, slanted, strip, stroke_at}
 use Rattle.aperture_macros.specs.declared.primitive.Turning.{Turning}
 use Rattle.aperture_macros.specs.declared.primitive.Turning.TheVariants.{Quarters, Degrees}
 use Rattle.aperture_macros.specs.Flashes.{figure_turned, tell, told_figure, turn_behind, turn_judged}
-use Rattle.aperture_macros.specs.Telling.{is_moved, told, told_round as told_as_round}
+use Rattle.aperture_macros.specs.Telling.{is_moved, told, told_rest, told_round as told_as_round}
 use Rattle.aperture_macros.specs.Laws.{FlashesDiscsAlone, IsSlanted, StrokesAreSlantedLines}
 use Rattle.aperture_macros.specs.Values.{diameter_at, point_at, size_at}
 
@@ -77,6 +77,17 @@ centre_flat text given unit s h =
     let made : ◌≡◌ {A = Result (Option Sketch) MacroFault} (Ok (centred w.0 t.0 p.0)) (Ok s) = p.2 in
     let same : centred w.0 t.0 p.0 ≡ s = cc in
     subst IsFlat same (one_flat _ _ _)
+
+polygon_flat : (n : ℕ) (text : List ℕ) (given : List Fraction) (unit : Measure) (s : Option Sketch) → polygon_at n text given unit ≡ Ok s → IsFlat s
+unfolding polygon_at IsFlat
+polygon_flat n text given unit s h =
+    let p = then_ok (point_at text given unit) (λ p. diameter_at (part 2 text) given unit >>= λ d. Ok (cond (d == 0) None (Some (Regular p d n)))) s h in
+    let d = then_ok (diameter_at (part 2 text) given unit) (λ d. Ok (cond (d == 0) None (Some (Regular p.0 d n)))) s p.2 in
+    by d.0 p.0 (d.0 == 0) d.2
+  where
+    by : (d : ℕ) (p : Spot) (b : Bool) → ◌≡◌ {A = Result (Option Sketch) MacroFault} (Ok (cond b None (Some (Regular p d n)))) (Ok s) → IsFlat s
+    by d p true h = let same : None ≡ s = cc in subst IsFlat same tt
+    by d p false h = let same : Some (Regular p d n) ≡ s = cc in subst IsFlat same tt
 
 strip_for : (copper : Copper) (a b : Bool) (low high low' high' : Spot) → IsFor copper (cond a None (cond b (Some (Rectangle low high)) (Some (Rectangle low' high'))))
 unfolding IsFor
@@ -134,6 +145,7 @@ unfolding IsFor IsFlat
 taken_flat None f = tt
 taken_flat (Some (Disc p d)) f = tt
 taken_flat (Some (Rectangle low high)) f = tt
+taken_flat (Some (Regular p d n)) f = tt
 taken_flat (Some (Stroke p q w)) f = let never : Exact ≡ Real = f.0 in cc
 
 -- what is taken along an axis is the same where any line is
@@ -179,6 +191,7 @@ unfolding sketch_at IsFlat
 flat_ends rotation at None s f h = cc
 flat_ends rotation at (Some (Disc p d)) s f h = disc_ends (set_down rotation at p) d s h
 flat_ends rotation at (Some (Rectangle low high)) s f h = no_area (map (set_down rotation at) (rectangle low high)) s h
+flat_ends rotation at (Some (Regular p d n)) s f h = no_area (map (set_down rotation at) (polygon_spots p d n)) s h
 flat_ends rotation at (Some (Stroke p q w)) s f h = absurd f
 
 plus_differ : (a x y : ℤ) → x ≢ y → (a +ℤ x) ≢ (a +ℤ y)
@@ -201,6 +214,7 @@ unfolding sketch_at IsFor
 line_ends rotation at None s f h apart = cc
 line_ends rotation at (Some (Disc p d)) s f h apart = absurd (apart (disc_ends (set_down rotation at p) d s h))
 line_ends rotation at (Some (Rectangle low high)) s f h apart = no_area (map (set_down rotation at) (rectangle low high)) s h
+line_ends rotation at (Some (Regular p d n)) s f h apart = no_area (map (set_down rotation at) (polygon_spots p d n)) s h
 line_ends rotation at (Some (Stroke p q w)) s f h apart =
     let ends = stroke_ends (set_down rotation at p) (set_down rotation at q) w s h in
     slanted_by (set_down rotation at p) (set_down rotation at q) s ends.0 ends.1 (turned_slanted rotation at p q f.1 f.2)
@@ -229,15 +243,16 @@ discs_by Circle rotation text given unit at s j h = flat_by (circle_at text give
 discs_by (Outline n) rotation text given unit at s j h = outline_none n rotation text given unit at s h
 discs_by VectorLine rotation text given unit at s j h = flat_by (line_at Real text given unit) rotation at s (judged_flat text given unit j) h
 discs_by CentreLine rotation text given unit at s j h = flat_by (centre_at text given unit) rotation at s (centre_flat text given unit) h
+discs_by (Polygon n) rotation text given unit at s j h = flat_by (polygon_at n text given unit) rotation at s (polygon_flat n text given unit) h
 
-told_round : (about : Spot) (rest : ℕ) (o : Option Figure) (s : Figured) → tell about rest o ≡ Ok (Some (round s)) → ◌≡◌ {A = Result (Option Figure) MacroFault} (Ok o) (Ok (Some (round s)))
-told_round about rest None s h = cc
-told_round about rest (Some (round t)) s h = by (is_moved about rest t) h
+told_round : (form : Form) (about : Spot) (rest : ℕ) (o : Option Figure) (s : Figured) → tell form about rest o ≡ Ok (Some (round s)) → ◌≡◌ {A = Result (Option Figure) MacroFault} (Ok o) (Ok (Some (round s)))
+told_round form about rest None s h = cc
+told_round form about rest (Some (round t)) s h = by (is_moved about rest t) h
   where
     by : (b : Bool) → cond b (area_at (told_as_round about rest t)) (Ok (Some (round t))) ≡ Ok (Some (round s)) → ◌≡◌ {A = Result (Option Figure) MacroFault} (Ok (Some (round t))) (Ok (Some (round s)))
     by true k = no_area (told_as_round about rest t) s k
     by false k = k
-told_round about rest (Some (filled points)) s h = no_area (told about rest points) s h
+told_round form about rest (Some (filled points)) s h = no_area (told about (told_rest form rest) points) s h
 
 -- what tells no turn is as it is by quarter turns
 round_by : (turning : Turning) (form : Form) (text : List ℕ) (given : List Fraction) (unit : Measure) (at : Spot) (s : Figured) → figure_turned turning form text given unit at ≡ Ok (Some (round s)) → (rotation : Rotation) × (figure_by form rotation text given unit at ≡ Ok (Some (round s)))
@@ -245,8 +260,8 @@ unfolding figure_turned
 round_by (Quarters rotation) form text given unit at s h = (rotation, h)
 round_by Degrees form text given unit at s h =
     let t = then_ok (turn_behind form text given) (λ turn. told_figure turn form text given unit at) (Some (round s)) h in
-    let f = then_ok (figure_by form t.0.quarters text given unit at) (λ figure. tell at t.0.rest figure) (Some (round s)) t.2 in
-    (t.0.quarters, f.1 ∙ told_round at t.0.rest f.0 s f.2)
+    let f = then_ok (figure_by form t.0.quarters text given unit at) (λ figure. tell form at t.0.rest figure) (Some (round s)) t.2 in
+    (t.0.quarters, f.1 ∙ told_round form at t.0.rest f.0 s f.2)
 
 pub flashes_discs_alone : FlashesDiscsAlone
 flashes_discs_alone p given unit at s j h =
@@ -262,6 +277,7 @@ strokes_by VectorLine rotation text given unit at s h apart =
     let o = then_ok (line_at Real text given unit) (sketch_at rotation at) (Some (round s)) h in
     (refl, line_ends rotation at o.0 s (line_for Real text given unit o.0 o.1) o.2 apart)
 strokes_by CentreLine rotation text given unit at s h apart = absurd (apart (flat_by (centre_at text given unit) rotation at s (centre_flat text given unit) h))
+strokes_by (Polygon n) rotation text given unit at s h apart = absurd (apart (flat_by (polygon_at n text given unit) rotation at s (polygon_flat n text given unit) h))
 
 pub strokes_are_slanted_lines : StrokesAreSlantedLines
 strokes_are_slanted_lines p given unit at s h apart = let r = round_by p.rotation p.form p.lengths given unit at s h in strokes_by p.form r.0 p.lengths given unit at s r.1 apart

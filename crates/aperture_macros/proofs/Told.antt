@@ -22,14 +22,14 @@ use Rattle.aperture_macros.specs.declared.primitive.Turning.{Turning}
 use Rattle.aperture_macros.specs.declared.primitive.Turning.TheVariants.{Quarters, Degrees}
 use Rattle.aperture_macros.specs.BodyWord.{◌>>=◌}
 use Rattle.aperture_macros.specs.declared.images.Sketch.{Sketch}
-use Rattle.aperture_macros.specs.declared.images.Sketch.TheVariants.{Disc, Rectangle, Stroke}
+use Rattle.aperture_macros.specs.declared.images.Sketch.TheVariants.{Disc, Rectangle, Regular, Stroke}
 use Rattle.aperture_macros.specs.declared.primitive.Copper.TheVariants.{Real}
-use Rattle.aperture_macros.specs.declared.primitive.Form.TheVariants.{Circle, Outline, VectorLine, CentreLine}
-use Rattle.aperture_macros.specs.Images.{area_at, centre_at, circle_at, figure_by, is_closed, line_at, outline_at, outlined, same_spot, set_down, sketch_at, sketched}
+use Rattle.aperture_macros.specs.declared.primitive.Form.TheVariants.{Circle, Outline, VectorLine, CentreLine, Polygon}
+use Rattle.aperture_macros.specs.Images.{area_at, centre_at, circle_at, figure_by, is_closed, line_at, outline_at, outlined, polygon_at, polygon_spots, same_spot, set_down, sketch_at, sketched}
 use Rattle.aperture_macros.specs.Sized.{IsSized}
 use Rattle.aperture_macros.proofs.Closings.{closed_moved, outline_is}
 use Rattle.aperture_macros.specs.Flashes.{figure_turned, needs_quarters, tell, told_figure, turn_behind, turn_judged}
-use Rattle.aperture_macros.specs.Telling.{is_moved, rest_of, round_told, tail_of, told, told_in, told_round, telling_at, way_of}
+use Rattle.aperture_macros.specs.Telling.{is_moved, rest_of, round_told, tail_of, told, told_in, told_rest, told_round, telling_at, way_of}
 use Rattle.aperture_macros.specs.Laws.{RoundToldIsFound, ToldIsFound}
 use Rattle.aperture_macros.proofs.Strokes.{then_ok}
 
@@ -114,18 +114,18 @@ blank_by Degrees form text given unit j none at =
     let t = then_ok (turn_behind form text given) (λ turn. cond (nat_lt 0 turn.rest && needs_quarters form text given unit) (Err Turned) (Ok tt)) tt j in
     rw (t.1, none t.0.quarters at) refl
 
-some_told : (about : Spot) (rest : ℕ) (r : Result (Option Figure) MacroFault) → r ≢ Ok None → (r >>= λ figure. tell about rest figure) ≢ Ok None
-some_told about rest (Err fault) some h = cc
-some_told about rest (Ok None) some h = some refl
-some_told about rest (Ok (Some (round s))) some h = by (is_moved about rest s) (list_all is_placed (told_round about rest s)) h
+some_told : (form : Form) (about : Spot) (rest : ℕ) (r : Result (Option Figure) MacroFault) → r ≢ Ok None → (r >>= λ figure. tell form about rest figure) ≢ Ok None
+some_told form about rest (Err fault) some h = cc
+some_told form about rest (Ok None) some h = some refl
+some_told form about rest (Ok (Some (round s))) some h = by (is_moved about rest s) (list_all is_placed (told_round about rest s)) h
   where
     by : (moved placed : Bool) → cond moved (cond placed (Ok (Some (filled (told_round about rest s)))) (Err OutOfRange)) (Ok (Some (round s))) ≡ Ok None → ⊥
     by true true h = cc
     by true false h = cc
     by false placed h = cc
-some_told about rest (Ok (Some (filled points))) some h = by (list_all is_placed (told about rest points)) h
+some_told form about rest (Ok (Some (filled points))) some h = by (list_all is_placed (told about (told_rest form rest) points)) h
   where
-    by : (b : Bool) → cond b (Ok (Some (filled (told about rest points)))) (Err OutOfRange) ≡ Ok None → ⊥
+    by : (b : Bool) → cond b (Ok (Some (filled (told about (told_rest form rest) points)))) (Err OutOfRange) ≡ Ok None → ⊥
     by true h = cc
     by false h = cc
 
@@ -136,7 +136,7 @@ image_by Degrees form text given unit some at h = by (turn_behind form text give
   where
     by : (r : Result Turn MacroFault) → (r >>= λ turn. told_figure turn form text given unit at) ≡ Ok None → ⊥
     by (Err fault) h = cc
-    by (Ok turn) h = some_told at turn.rest (figure_by form turn.quarters text given unit at) (some turn.quarters at) h
+    by (Ok turn) h = some_told form at turn.rest (figure_by form turn.quarters text given unit at) (some turn.quarters at) h
 
 -- ---- The contours that primitives flash
 
@@ -163,6 +163,8 @@ sketch_bounded rotation at (Some (Disc p d)) points h = no_round (is_placed (set
 sketch_bounded rotation at (Some (Stroke p q w)) points h = no_round (is_placed (set_down rotation at p) && is_placed (set_down rotation at q)) _ points h
 sketch_bounded rotation at (Some (Rectangle low high)) points h =
     subst IsBounded (area_points (map (set_down rotation at) (rectangle low high)) points h) (record { closed = refl; enough = omega arith; few = omega arith })
+sketch_bounded rotation at (Some (Regular p d n)) points h =
+    subst IsBounded (area_points (map (set_down rotation at) (polygon_spots p d n)) points h) (record { closed = refl; enough = omega arith; few = omega arith })
 
 sketched_bounded : (r : Result (Option Sketch) MacroFault) (rotation : Rotation) (at : Spot) (points : List Spot) → sketched rotation at r ≡ Ok (Some (filled points)) → IsBounded points
 sketched_bounded r rotation at points h = let o = then_ok r (sketch_at rotation at) (Some (filled points)) h in sketch_bounded rotation at o.0 points o.2
@@ -184,3 +186,4 @@ area_is Circle rotation text given unit at points sized h = sketched_bounded (ci
 area_is (Outline n) rotation text given unit at points sized h = outline_bounded n rotation text given unit at points sized.0 sized.1 h
 area_is VectorLine rotation text given unit at points sized h = sketched_bounded (line_at Real text given unit) rotation at points h
 area_is CentreLine rotation text given unit at points sized h = sketched_bounded (centre_at text given unit) rotation at points h
+area_is (Polygon n) rotation text given unit at points sized h = sketched_bounded (polygon_at n text given unit) rotation at points h

@@ -5,7 +5,7 @@ use Rattle.std.specs.Option.{option_and_then}
 use Rattle.texts.specs.Words.{begins, is_word}
 use Rattle.lengths.specs.Decimal.{Fraction, is_decimal, fraction}
 use Rattle.aperture_macros.specs.declared.primitive.Form.{Form}
-use Rattle.aperture_macros.specs.declared.primitive.Form.TheVariants.{Circle, Outline, VectorLine, CentreLine}
+use Rattle.aperture_macros.specs.declared.primitive.Form.TheVariants.{Circle, Outline, VectorLine, CentreLine, Polygon}
 use Rattle.aperture_macros.specs.declared.primitive.Copper.{Copper}
 use Rattle.aperture_macros.specs.declared.primitive.Copper.TheVariants.{Exact, Real}
 use Rattle.aperture_macros.specs.declared.primitive.Turning.{Turning}
@@ -50,13 +50,14 @@ abbrev pub is_number : Fraction → ℕ → Bool
 is_number d n = d.whole == n * 10 ^ d.places && (not d.negative || n == 0)
 
 -- What stands in a body word, form by form: so many parts before the lengths (the code and the exposure, at an outline the
--- number of its edges), then sizes (a diameter, a width, a height), then points, then the rotation, which a circle may lack.
--- `1,e,d,x,y`, `1,e,d,x,y,r`, `4,e,n,` with n + 1 points and `r`, `20,e,w,x,y,x,y,r`, `21,e,w,h,x,y,r`.
+-- number of its edges, at a polygon that of its corners), then sizes (a diameter, a width, a height), then points, then the rotation, which a circle may lack.
+-- `1,e,d,x,y`, `1,e,d,x,y,r`, `4,e,n,` with n + 1 points and `r`, `20,e,w,x,y,x,y,r`, `21,e,w,h,x,y,r`, `5,e,n,x,y,d,r`.
 abbrev pub row : Form → Row
 row Circle = record { head = 2; sizes = 1; points = 1; needs_rotation = false }
 row (Outline n) = record { head = 3; sizes = 0; points = n + 1; needs_rotation = true }
 row VectorLine = record { head = 2; sizes = 1; points = 2; needs_rotation = true }
 row CentreLine = record { head = 2; sizes = 2; points = 1; needs_rotation = true }
+row (Polygon n) = record { head = 3; sizes = 1; points = 1; needs_rotation = true }
 
 -- how many lengths there are
 abbrev pub count : Form → ℕ
@@ -77,17 +78,33 @@ outline_of word n =
     else (if not (is_decimal (part 2 word)) then None
     else (if is_number (fraction (part 2 word)) n then Some (Outline n) else None))
 
+-- a polygon of so many corners, where a half turn has whole parts of as many of them: of 3 and 4 it is not taken
+unfoldable pub regular_of : Fraction → Option Form
+regular_of d =
+    if is_number d 5 then Some (Polygon 5)
+    else (if is_number d 6 then Some (Polygon 6)
+    else (if is_number d 8 then Some (Polygon 8)
+    else (if is_number d 9 then Some (Polygon 9)
+    else (if is_number d 10 then Some (Polygon 10)
+    else (if is_number d 12 then Some (Polygon 12) else None)))))
+
+-- in real copper, of as many as part 2 says
+unfoldable pub polygon_of : Copper → List ℕ → Option Form
+polygon_of Exact word = None
+polygon_of Real word = if not (is_decimal (part 2 word)) then None else regular_of (fraction (part 2 word))
+
 -- what a word with n commas is by its code; how many edges an outline has is told by n, and part 2 has to say the same
-unfoldable pub form_of : List ℕ → ℕ → Option Form
-form_of word n =
+unfoldable pub form_of : Copper → List ℕ → ℕ → Option Form
+form_of copper word n =
     if is_word (part 0 word) (codes "1") then Some Circle
     else (if is_word (part 0 word) (codes "4") then outline_of word ((n - 5) / 2)
     else (if is_word (part 0 word) (codes "20") then Some VectorLine
-    else (if is_word (part 0 word) (codes "21") then Some CentreLine else None)))
+    else (if is_word (part 0 word) (codes "21") then Some CentreLine
+    else (if is_word (part 0 word) (codes "5") then polygon_of copper word else None))))
 
 -- that form, where a word with n commas has its parts
-abbrev pub form_at : List ℕ → ℕ → Option Form
-form_at word n = option_and_then (λ form. if fits form n then Some form else None) (form_of word n)
+abbrev pub form_at : Copper → List ℕ → ℕ → Option Form
+form_at copper word n = option_and_then (λ form. if fits form n then Some form else None) (form_of copper word n)
 
 -- the first n parts of a text are expressions
 unfoldable pub are_expressions : ℕ → List ℕ → Bool
@@ -138,4 +155,4 @@ some_form copper (Some form) n word = form_in copper form n word >>= λ primitiv
 
 -- a comment where the word begins with `0`, else a primitive
 unfoldable pub primitive_at : Copper → List ℕ → Result (Option PlainPrimitive) MacroFault
-primitive_at copper word = if begins word (codes "0") then Ok None else some_form copper (form_at word (commas word)) (commas word) word
+primitive_at copper word = if begins word (codes "0") then Ok None else some_form copper (form_at copper word (commas word)) (commas word) word

@@ -1,5 +1,5 @@
 -- The figures of primitives: about the origin of the macro, and where they are flashed.
-use Rattle.std.specs.Prelude.{ℕ, zero, suc, ◌+◌, Bool, true, ◌&&◌, ◌||◌, ◌==◌, nat_lt, if◌then◌else◌, List, [], ◌∷◌, ◌++◌, map, ◌+ℤ◌, neg_ℤ, int_lt, Option, Some, None, Result, Ok, Err}
+use Rattle.std.specs.Prelude.{ℕ, zero, suc, ◌+◌, Bool, true, ◌&&◌, ◌||◌, ◌==◌, nat_lt, if◌then◌else◌, List, [], ◌∷◌, ◌++◌, map, ◌+ℤ◌, neg_ℤ, int_lt, pos, Option, Some, None, Result, Ok, Err}
 use Rattle.std.specs.List.{list_all}
 use Rattle.std.specs.Ordering.{int_eq}
 use Rattle.planar.specs.Plane.{is_placed}
@@ -11,13 +11,13 @@ use Rattle.board_shapes.specs.Rectangles.{halved, lower, rectangle, upper}
 use Rattle.lengths.specs.Decimal.{Fraction}
 use Rattle.lengths.specs.declared.decimal.Unit.{Unit as Measure}
 use Rattle.aperture_macros.specs.declared.primitive.Form.{Form}
-use Rattle.aperture_macros.specs.declared.primitive.Form.TheVariants.{Circle, Outline, VectorLine, CentreLine}
+use Rattle.aperture_macros.specs.declared.primitive.Form.TheVariants.{Circle, Outline, VectorLine, CentreLine, Polygon}
 use Rattle.aperture_macros.specs.declared.primitive.Copper.{Copper}
 use Rattle.aperture_macros.specs.declared.primitive.Copper.TheVariants.{Exact, Real}
 use Rattle.aperture_macros.specs.declared.primitive.Rotation.{Rotation}
 use Rattle.aperture_macros.specs.declared.primitive.Rotation.TheVariants.{Unturned, Quarter, Half, ThreeQuarters}
 use Rattle.aperture_macros.specs.declared.images.Sketch.{Sketch}
-use Rattle.aperture_macros.specs.declared.images.Sketch.TheVariants.{Disc, Rectangle, Stroke}
+use Rattle.aperture_macros.specs.declared.images.Sketch.TheVariants.{Disc, Rectangle, Regular, Stroke}
 use Rattle.aperture_macros.specs.declared.fault.MacroFault.{MacroFault}
 use Rattle.aperture_macros.specs.declared.fault.MacroFault.TheVariants.{BadMacro, OutOfRange, Slanted}
 use Rattle.aperture_macros.specs.BodyWord.{◌>>=◌, part, past}
@@ -74,6 +74,11 @@ centre_at text parameters unit =
     size_at (part 0 text) parameters unit >>= λ w. size_at (part 1 text) parameters unit >>= λ h. point_at (past 2 text) parameters unit >>= λ p.
     Ok (centred w h p)
 
+-- `x,y,d`: a polygon (code 5) has its corners on a circle about its point; none with diameter 0
+unfoldable pub polygon_at : ℕ → List ℕ → List Fraction → Measure → Result (Option Sketch) MacroFault
+polygon_at n text parameters unit =
+    point_at text parameters unit >>= λ p. diameter_at (part 2 text) parameters unit >>= λ d. Ok (if d == 0 then None else Some (Regular p d n))
+
 -- some points, and n further ones of the text behind them
 unfoldable pub points_from : List Spot → ℕ → List ℕ → List Fraction → Measure → Result (List Spot) MacroFault
 points_from points zero text parameters unit = Ok points
@@ -101,6 +106,7 @@ judged_by copper Circle text parameters unit = is_done (circle_at text parameter
 judged_by copper (Outline n) text parameters unit = is_done (outline_at n text parameters unit)
 judged_by copper VectorLine text parameters unit = is_done (line_at copper text parameters unit)
 judged_by copper CentreLine text parameters unit = is_done (centre_at text parameters unit)
+judged_by copper (Polygon n) text parameters unit = is_done (polygon_at n text parameters unit)
 
 -- the spot turned counterclockwise about the origin
 abbrev pub turned : Rotation → Spot → Spot
@@ -123,12 +129,21 @@ stroke_at p q w = if is_placed p && is_placed q then Ok (Some (round (record { a
 abbrev pub area_at : List Spot → Result (Option Figure) MacroFault
 area_at points = if list_all is_placed points then Ok (Some (filled points)) else Err OutOfRange
 
+-- so far to the right of a spot
+abbrev pub right_of : Spot → ℕ → Spot
+right_of p far = record { x = p.x +ℤ pos far; y = p.y }
+
+-- what tells a polygon: its middle, the diameter and the number of corners to the right of it, and the middle again
+abbrev pub polygon_spots : Spot → ℕ → ℕ → List Spot
+polygon_spots p d n = p ∷ right_of p d ∷ right_of p n ∷ p ∷ []
+
 -- a figure about the origin, turned and set down at a spot
 unfoldable pub sketch_at : Rotation → Spot → Option Sketch → Result (Option Figure) MacroFault
 sketch_at rotation at None = Ok None
 sketch_at rotation at (Some (Disc p d)) = disc_at (set_down rotation at p) d
 sketch_at rotation at (Some (Stroke p q w)) = stroke_at (set_down rotation at p) (set_down rotation at q) w
 sketch_at rotation at (Some (Rectangle low high)) = area_at (map (set_down rotation at) (rectangle low high))
+sketch_at rotation at (Some (Regular p d n)) = area_at (map (set_down rotation at) (polygon_spots p d n))
 
 -- what is left of a figure, or of the points of an outline, where it is set down
 abbrev pub sketched : Rotation → Spot → Result (Option Sketch) MacroFault → Result (Option Figure) MacroFault
@@ -143,3 +158,4 @@ figure_by Circle rotation text parameters unit at = sketched rotation at (circle
 figure_by (Outline n) rotation text parameters unit at = outlined rotation at (outline_at n text parameters unit)
 figure_by VectorLine rotation text parameters unit at = sketched rotation at (line_at Real text parameters unit)
 figure_by CentreLine rotation text parameters unit at = sketched rotation at (centre_at text parameters unit)
+figure_by (Polygon n) rotation text parameters unit at = sketched rotation at (polygon_at n text parameters unit)

@@ -11,7 +11,7 @@ use Rattle.aperture_macros.specs.declared.degrees.Turn.{Turn}
 use Rattle.aperture_macros.specs.BodyWord.{PlainPrimitive, primitive_at}
 use Rattle.aperture_macros.specs.Images.{figure_by}
 use Rattle.aperture_macros.specs.Flashes.{figure_at, judged, turn_behind}
-use Rattle.aperture_macros.specs.Telling.{round_told, told, told_in, told_round}
+use Rattle.aperture_macros.specs.Telling.{round_told, told, told_in, told_rest, told_round}
 
 -- Where copper is taken exactly, each stroke that a primitive flashes is a disc.
 abbrev pub FlashesDiscsAlone : Type 0
@@ -40,7 +40,7 @@ pub record IsTold (p : PlainPrimitive) (parameters : List Fraction) (unit : Meas
   pub said : turn_behind p.form p.lengths parameters ≡ Ok turn
   pub below : turn.rest < 900000000
   pub flashed : figure_by p.form turn.quarters p.lengths parameters unit at ≡ Ok (Some (filled contour))
-  pub found : told_in points ≡ Some (record { contour = contour; about = at; rest = turn.rest })
+  pub found : told_in points ≡ Some (record { contour = contour; about = at; rest = told_rest p.form turn.rest })
 
 -- a disc or a stroke that is told so
 pub record IsRoundTold (p : PlainPrimitive) (parameters : List Fraction) (unit : Measure) (at : Spot) (points : List Spot) : Type 0 where

@@ -2,14 +2,16 @@
 use Rattle.std.specs.Prelude.{Bool, true, false, ◌≤◌, Option, Some, None}
 use Rattle.contact.specs.declared.TheConstants.{MOST_DIAMETER}
 use Rattle.board_shapes.specs.Rectangles.{IsReachable}
+use Rattle.planar.specs.Plane.{IsPlaced}
 use Rattle.aperture_macros.specs.declared.images.Sketch.{Sketch}
-use Rattle.aperture_macros.specs.declared.images.Sketch.TheVariants.{Disc, Rectangle, Stroke}
+use Rattle.aperture_macros.specs.declared.images.Sketch.TheVariants.{Disc, Rectangle, Regular, Stroke}
 
--- a disc or a stroke of a lawful diameter, or a rectangle, whose points are
+-- a disc, a stroke or a polygon of a lawful diameter, or a rectangle, whose points are
 abbrev pub IsNear : Option Sketch → Type 0
 IsNear None = Unit {0}
 IsNear (Some (Disc p d)) = IsReachable p × (d ≤ MOST_DIAMETER)
 IsNear (Some (Rectangle low high)) = IsReachable low × IsReachable high
+IsNear (Some (Regular p d n)) = IsPlaced p × (d ≤ MOST_DIAMETER)
 IsNear (Some (Stroke p q w)) = IsReachable p × IsReachable q × (w ≤ MOST_DIAMETER)
 
 -- a disc, or none

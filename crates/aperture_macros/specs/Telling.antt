@@ -2,11 +2,18 @@
 use Rattle.std.specs.Prelude.{ℕ, ◌+◌, ◌/◌, ◌%◌, ◌-◌, Bool, ◌&&◌, not, nat_le, nat_lt, if◌then◌else◌, pos, ◌+ℤ◌, ◌-ℤ◌, ◌*ℤ◌, unsigned_abs, List, [], ◌∷◌, ◌++◌, length, take, drop, Option, Some, None}
 use Rattle.planar.specs.declared.Spot.{Spot}
 use Rattle.board_shapes.specs.Figures.{Stroke}
+use Rattle.aperture_macros.specs.declared.primitive.Form.{Form}
+use Rattle.aperture_macros.specs.declared.primitive.Form.TheVariants.{Polygon}
 use Rattle.aperture_macros.specs.Images.{is_closed, same_spot}
 
 -- whole quarter turns are made already; what is left, in parts of 10^-7 degrees, is below 90 degrees: 30,000 times the way across, and the way up
 abbrev pub way_of : ℕ → Spot
 way_of rest = record { x = pos (rest / 30000); y = pos (rest % 30000) }
+
+-- of a polygon a right angle more: so it is told from an outline
+abbrev pub told_rest : Form → ℕ → ℕ
+told_rest (Polygon n) rest = 900000000 + rest
+told_rest other rest = rest
 
 -- the spot that the figure is turned about, that spot moved by the way, and the first corner again
 abbrev pub tail_of : Spot → ℕ → Spot → List Spot

@@ -13,7 +13,8 @@ use texts::{after_byte, before_byte, begins, is_word};
 
 /// Reads a word in the body of a macro (Gerber Layer Format Specification, 4.5.1), and takes no
 /// memory: a primitive, or `None` for a comment, which begins with `0`. The forms are `1,e,d,x,y`,
-/// `1,e,d,x,y,r`, `4,e,n,` with n + 1 points and `r`, `20,e,w,x,y,x,y,r` and `21,e,w,h,x,y,r`.
+/// `1,e,d,x,y,r`, `4,e,n,` with n + 1 points and `r`, `20,e,w,x,y,x,y,r` and `21,e,w,h,x,y,r`, and in `Real` copper
+/// `5,e,n,x,y,d,r`.
 ///
 /// `BadMacro` where it is none of these; then `ExposureOff` where the exposure is not equal to 1;
 /// then, where copper is `Exact`, `Turn` where the rotation is not equal to 0, 90, 180 or 270. In `Real` copper the
@@ -26,7 +27,7 @@ pub fn read_body(copper: Copper, word: &[u8]) -> Result<Option<Primitive<'_>>, M
         return Ok(None);
     }
     let commas = commas(word);
-    match form_at(word, commas) {
+    match form_at(copper, word, commas) {
         None => Err(MacroFault::BadMacro),
         Some(form) => match form_in(copper, form, commas, word) {
             Ok(primitive) => Ok(Some(primitive)),
@@ -68,11 +69,11 @@ fn is_number(decimal: &Decimal, n: u32) -> bool
 }
 
 // What a word with so many commas is.
-fn form_at(word: &[u8], commas: usize) -> Option<Form>
-    ensures value { result ≡ spec.form_at word.now commas }
+fn form_at(copper: Copper, word: &[u8], commas: usize) -> Option<Form>
+    ensures value { result ≡ spec.form_at copper word.now commas }
     ensures sized { IfSome result IsSized }
 {
-    let form = form_of(word, commas)?;
+    let form = form_of(copper, word, commas)?;
     let row = form.row();
     let whole = (row.head as u32 + row.count()) as usize;
     if commas == whole || !row.needs_rotation && commas < whole && whole - commas == 1 {
@@ -84,8 +85,8 @@ fn form_at(word: &[u8], commas: usize) -> Option<Form>
 
 // What a word with so many commas is by its code.
 #[tactic(auto, unfolding(crate::specs::BodyWord::form_of))]
-fn form_of(word: &[u8], commas: usize) -> Option<Form>
-    ensures value { result ≡ spec.form_of word.now commas }
+fn form_of(copper: Copper, word: &[u8], commas: usize) -> Option<Form>
+    ensures value { result ≡ spec.form_of copper word.now commas }
     ensures sized { IfSome result IsSized }
 {
     let code = part(0, word);
@@ -100,6 +101,58 @@ fn form_of(word: &[u8], commas: usize) -> Option<Form>
     }
     if is_word(code, b"21") {
         return Some(Form::CentreLine);
+    }
+    if is_word(code, b"5") {
+        return polygon(copper, word);
+    }
+    None
+}
+
+// A polygon, in real copper, of as many corners as part 2 says.
+#[tactic(auto, unfolding(crate::specs::BodyWord::polygon_of))]
+fn polygon(copper: Copper, word: &[u8]) -> Option<Form>
+    ensures value { result ≡ spec.polygon_of copper word.now }
+    ensures sized { IfSome result IsSized }
+{
+    match copper {
+        Copper::Exact => None,
+        Copper::Real => real_polygon(word),
+    }
+}
+
+// The same in real copper.
+#[tactic(auto, unfolding(crate::specs::BodyWord::polygon_of))]
+fn real_polygon(word: &[u8]) -> Option<Form>
+    ensures value { result ≡ spec.polygon_of Copper.Real word.now }
+    ensures sized { IfSome result IsSized }
+{
+    let decimal = read_decimal(part(2, word))?;
+    regular(&decimal)
+}
+
+// The polygon of so many corners, where directions to them are whole.
+#[tactic(auto, unfolding(crate::specs::BodyWord::regular_of))]
+fn regular(corners: &Decimal) -> Option<Form>
+    ensures value { result ≡ spec.regular_of corners.now }
+    ensures sized { IfSome result IsSized }
+{
+    if is_number(corners, 5) {
+        return Some(Form::Polygon(5));
+    }
+    if is_number(corners, 6) {
+        return Some(Form::Polygon(6));
+    }
+    if is_number(corners, 8) {
+        return Some(Form::Polygon(8));
+    }
+    if is_number(corners, 9) {
+        return Some(Form::Polygon(9));
+    }
+    if is_number(corners, 10) {
+        return Some(Form::Polygon(10));
+    }
+    if is_number(corners, 12) {
+        return Some(Form::Polygon(12));
     }
     None
 }

@@ -1,5 +1,5 @@
 //! How far a primitive is turned by degrees.
-ghost use Rattle.std.specs.Prelude.{◌≡◌, ◌<◌};
+ghost use Rattle.std.specs.Prelude.{◌≡◌, ◌<◌, IfOk};
 ghost use Rattle.aperture_macros.specs.Degrees as spec;
 
 use crate::fault::MacroFault;
@@ -23,7 +23,8 @@ pub struct Turn {
 /// is the sum.
 #[tactic(auto, unfolding(crate::specs::Degrees::turn_at))]
 pub fn read_turn(text: &[u8], parameters: &[Decimal]) -> Result<Turn, MacroFault>
-    ensures { result ≡ spec.turn_at text.now parameters.now }
+    ensures value { result ≡ spec.turn_at text.now parameters.now }
+    ensures below { IfOk result (λ turn. turn.rest < 900000000) }
 {
     let angle = coordinate(text, parameters, Unit::Mm)?;
     let turns = (angle + THREE_TURNS).unsigned_abs();

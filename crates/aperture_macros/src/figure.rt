@@ -1,9 +1,8 @@
 //! Primitives with their parameters: whether they are lawful, and what they flash.
-ghost use Rattle.std.specs.Prelude.{◌≡◌, ◌≢◌, ◌≤◌, false, true, IfOk, None, Ok, Some, length, map};
+ghost use Rattle.std.specs.Prelude.{◌≡◌, ◌≢◌, ◌^◌, ◌<◌, ◌≤◌, false, true, IfOk, None, Ok, Some, length, map};
 ghost use Rattle.planar.specs.Plane.{IsPlaced};
 ghost use Rattle.contact.specs.declared.TheConstants.{MOST_DIAMETER};
 ghost use Rattle.area_contact.specs.Contour.{IsClosed};
-ghost use Rattle.board_shapes.specs.Figures.{capsule_figure};
 ghost use Rattle.board_shapes.specs.Rectangles.{IsReachable, rectangle};
 ghost use Rattle.aperture_macros.specs.Flashes as flashes;
 ghost use Rattle.aperture_macros.specs.Images as spec;
@@ -15,11 +14,11 @@ ghost use Rattle.aperture_macros.specs.Sketches.{IsNear, is_disc};
 use crate::body_word::part;
 use crate::degrees::{Turn, read_turn};
 use crate::fault::{FigureFault, MacroFault};
-use crate::images::{Sketch, centre_line, circle, line};
+use crate::images::{Sketch, centre_line, circle, line, polygon, same};
 use crate::outline::{Outline, bounded};
 use crate::placing::Placing;
 use crate::primitive::{Copper, Form, Primitive, Rotation, Turning};
-use crate::telling::{is_moved, told, told_round};
+use crate::telling::{is_moved, told, told_rest, told_round};
 use board_shapes::{Shape, rectangle};
 use contact::Capsule;
 use lengths::decimal::{Decimal, Unit};
@@ -34,7 +33,8 @@ impl<'a> Primitive<'a> {
     /// `OutOfRange`, and then the length itself. Then comes `BadMacro`, where an outline's last point
     /// is not its first, or of a vector line along no axis `Slanted`, where copper is `Exact`, and else
     /// `OutOfRange`, where it is wider than `MOST_DIAMETER`. Then, where it is turned by degrees, the rotation, as a
-    /// length is judged with degrees for mm, and `Turn`, where a line along no axis is turned by no quarter turns.
+    /// length is judged with degrees for mm, and `Turn`, where a line along no axis or a polygon off
+    /// the origin is turned by no quarter turns.
     pub fn judge(
         &self,
         copper: Copper,
@@ -91,6 +91,7 @@ impl<'a> Primitive<'a> {
             },
             Form::VectorLine => Ok(line(copper, self.lengths, parameters, unit)?.is_some()),
             Form::CentreLine => Ok(centre_line(self.lengths, parameters, unit)?.is_some()),
+            Form::Polygon(n) => Ok(polygon(n, self.lengths, parameters, unit)?.is_some()),
         }
     }
 
@@ -114,7 +115,8 @@ impl<'a> Primitive<'a> {
 
     // The turn that the expression behind the lengths says.
     fn turn(&self, parameters: &[Decimal]) -> Result<Turn, MacroFault>
-        ensures { result ≡ flashes.turn_behind self.now.form self.now.lengths.now parameters.now }
+        ensures value { result ≡ flashes.turn_behind self.now.form self.now.lengths.now parameters.now }
+        ensures below { IfOk result (λ turn. turn.rest < 900000000) }
     {
         read_turn(part(self.form.row().count(), self.lengths), parameters)
     }
@@ -129,6 +131,7 @@ impl<'a> Primitive<'a> {
             Form::Circle => false,
             Form::Outline(_) => false,
             Form::CentreLine => false,
+            Form::Polygon(n) => is_slanted(polygon(n, self.lengths, parameters, unit)),
         }
     }
 
@@ -138,7 +141,7 @@ impl<'a> Primitive<'a> {
     /// exactly where a diameter, a width, a height or the length of a vector line is 0. For a vector line
     /// along no axis stands its stroke: the places at most half its width from the segment between its ends.
     /// Where it is turned by degrees, whole quarter turns are made, and an area is told with what is left, as is a disc that
-    /// this moves.
+    /// this moves. A polygon is told by its middle, the diameter and the number of its corners.
     ///
     /// The fault of its rotation comes first, then that of the lengths as `judge` has it of `Real` copper, then
     /// `OutOfRange`, where the centre of a circle, a corner, an end or a spot that tells a turn is over 1 m from 0 in
@@ -173,12 +176,14 @@ impl<'a> Primitive<'a> {
         turn: Turn,
         at: Spot,
     ) -> Result<Option<Shape>, FigureFault>
+        requires below { turn.rest < 900000000 }
         requires placed { IsPlaced at }
         ensures shape { Makes result (flashes.told_figure turn self.now.form self.now.lengths.now parameters.now unit at) }
         ensures no_memory { is_circle self.now.form ≡ true → IsNoArea (flashes.told_figure turn self.now.form self.now.lengths.now parameters.now unit at) → IsMade result (flashes.told_figure turn self.now.form self.now.lengths.now parameters.now unit at) }
     {
+        let rest = told_rest(self.form, turn.rest);
         match self.figure_by(alloc, parameters, unit, turn.quarters, at) {
-            Ok(Some(Shape::Filled(area))) => told(alloc, at, turn.rest, &area.points),
+            Ok(Some(Shape::Filled(area))) => told(alloc, at, rest, &area.points),
             Ok(Some(Shape::Round(capsule))) => turned_round(alloc, at, turn.rest, capsule),
             Ok(None) => Ok(None),
             Err(fault) => Err(fault),
@@ -215,6 +220,7 @@ impl<'a> Primitive<'a> {
                 line(Copper::Real, self.lengths, parameters, unit),
             ),
             Form::CentreLine => set_down(alloc, by, centre_line(self.lengths, parameters, unit)),
+            Form::Polygon(n) => set_down(alloc, by, polygon(n, self.lengths, parameters, unit)),
         }
     }
 }
@@ -227,8 +233,8 @@ fn turned_round(
     capsule: Capsule,
 ) -> Result<Option<Shape>, FigureFault>
     requires about { IsPlaced about }
-    ensures shape { Makes result (flashes.tell about rest (Some (capsule_figure capsule))) }
-    ensures no_memory { IsNoArea (flashes.tell about rest (Some (capsule_figure capsule))) → IsMade result (flashes.tell about rest (Some (capsule_figure capsule))) }
+    ensures shape { Makes result (flashes.tell_round about rest (record { a = capsule.a; b = capsule.b; r = capsule.r })) }
+    ensures no_memory { IsNoArea (flashes.tell_round about rest (record { a = capsule.a; b = capsule.b; r = capsule.r })) → IsMade result (flashes.tell_round about rest (record { a = capsule.a; b = capsule.b; r = capsule.r })) }
 {
     if is_moved(about, rest, &capsule) {
         told_round(alloc, about, rest, &capsule)
@@ -245,6 +251,7 @@ fn is_slanted(sketch: Result<Option<Sketch>, MacroFault>) -> bool
         Ok(Some(Sketch::Stroke(_, _, _))) => true,
         Ok(Some(Sketch::Disc(_, _))) => false,
         Ok(Some(Sketch::Rectangle(_, _))) => false,
+        Ok(Some(Sketch::Regular(p, _, _))) => !same(p, Spot { x: 0, y: 0 }),
         Ok(None) => false,
         Err(_) => false,
     }
@@ -267,6 +274,7 @@ fn set_down(
         Ok(Some(Sketch::Disc(p, d))) => disc(by.moved(p), d),
         Ok(Some(Sketch::Rectangle(low, high))) => area(alloc, by, low, high),
         Ok(Some(Sketch::Stroke(p, q, w))) => stroke(by.moved(p), by.moved(q), w),
+        Ok(Some(Sketch::Regular(p, d, n))) => marks(alloc, by, p, d, n),
     }
 }
 
@@ -288,6 +296,49 @@ fn stroke(p: Spot, q: Spot, w: u64) -> Result<Option<Shape>, FigureFault>
         return Err(FigureFault::Macro(MacroFault::OutOfRange));
     }
     Ok(Some(Shape::Round(Capsule::new(p, q, (w / 2) as i64))))
+}
+
+// What tells a polygon.
+fn marks(alloc: Global, by: Placing, p: Spot, d: u64, n: u32) -> Result<Option<Shape>, FigureFault>
+    requires placed { IsPlaced p }
+    requires small { d ≤ MOST_DIAMETER }
+    ensures { Makes result (spec.area_at (map (spec.set_down by.rotation by.at) (spec.polygon_spots p d n))) }
+{
+    let spots = mark_spots(by, p, d, n);
+    if !are_placed(spots.as_slice()) {
+        return Err(FigureFault::Macro(MacroFault::OutOfRange));
+    }
+    match spots.as_slice().to_vec(alloc) {
+        Ok(points) => bounded(alloc, points),
+        Err(_) => Err(FigureFault::NoMemory),
+    }
+}
+
+// Its spots, each set down.
+fn mark_spots(by: Placing, p: Spot, d: u64, n: u32) -> [Spot; 4]
+    requires placed { IsPlaced p }
+    requires small { d ≤ MOST_DIAMETER }
+    ensures value { result ≡ map (spec.set_down by.rotation by.at) (spec.polygon_spots p d n) }
+    ensures closed { IsClosed result }
+    ensures four { length result ≡ 4 }
+{
+    let middle = by.moved(p);
+    let across = by.moved(right_of(p, d));
+    let count = by.moved(right_of(p, n as u64));
+    [middle, across, count, middle]
+}
+
+// So far to the right of a spot.
+fn right_of(p: Spot, far: u64) -> Spot
+    requires placed { IsPlaced p }
+    requires small { far < 2 ^ 32 }
+    ensures value { result ≡ spec.right_of p far }
+    ensures reachable { IsReachable result }
+{
+    Spot {
+        x: p.x + far as i64,
+        y: p.y,
+    }
 }
 
 // The area of a rectangle.

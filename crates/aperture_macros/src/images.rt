@@ -15,12 +15,14 @@ use lengths::decimal::{Decimal, Unit};
 use planar::Spot;
 
 /// A figure about the origin: a disc by its centre and its diameter, a rectangle by its lower left
-/// and its upper right corner, or the stroke of a slanted line by its ends and its width, at most `MOST_DIAMETER`.
+/// and its upper right corner, the stroke of a slanted line by its ends and its width, at most `MOST_DIAMETER`, or a
+/// regular polygon by its middle, the diameter of the circle through its corners, and their number.
 #[derive(Clone, Copy)]
 pub enum Sketch {
     Disc(Spot, u64),
     Rectangle(Spot, Spot),
     Stroke(Spot, Spot, u64),
+    Regular(Spot, u64, u32),
 }
 
 /// The disc of `d,x,y`.
@@ -120,6 +122,26 @@ pub fn centre_line(
     let h = size(part(1, text), parameters, unit)?;
     let p = point(past(2, text), parameters, unit)?;
     Ok(centred(w, h, p))
+}
+
+/// The polygon of `x,y,d`, of so many corners.
+#[tactic(auto, unfolding(crate::specs::Images::polygon_at))]
+pub fn polygon(
+    corners: u32,
+    text: &[u8],
+    parameters: &[Decimal],
+    unit: Unit,
+) -> Result<Option<Sketch>, MacroFault>
+    ensures value { result ≡ spec.polygon_at corners text.now parameters.now unit }
+    ensures near { IfOk result IsNear }
+{
+    let p = point(text, parameters, unit)?;
+    let d = diameter(part(2, text), parameters, unit)?;
+    Ok(if d == 0 {
+        None
+    } else {
+        Some(Sketch::Regular(p, d, corners))
+    })
 }
 
 /// Whether the spots are one.

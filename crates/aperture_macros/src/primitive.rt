@@ -3,25 +3,27 @@ ghost use Rattle.std.specs.Prelude.{◌≡◌, ◌≤◌, ◌+◌, ◌*◌};
 ghost use Rattle.aperture_macros.specs.BodyWord.{row};
 ghost use Rattle.aperture_macros.specs.Sized.{IsSized, outline_edges};
 
-/// What a primitive is, by its code: 1, 4, 20 or 21. An outline has so many edges, from 3 to 5,000.
+/// What a primitive is, by its code: 1, 4, 20, 21 or 5. An outline has so many edges, from 3 to 5,000, a polygon so many
+/// corners: 5, 6, 8, 9, 10 or 12.
 #[derive(Clone, Copy, Debug)]
 pub enum Form {
     Circle,
     Outline(u32),
     VectorLine,
     CentreLine,
+    Polygon(u32),
 }
 
 /// Which primitives are taken: those alone whose figures are exact, or those of real copper, which may be vector
-/// lines along no axis, each told by its stroke, and turned by degrees.
+/// lines along no axis, each told by its stroke, polygons, and turned by degrees.
 #[derive(Clone, Copy, Debug, PartialEq, Eq)]
 pub enum Copper {
     Exact,
     Real,
 }
 
-/// What stands in a primitive's word: so many parts before its lengths, then sizes, then points, then the
-/// rotation, which some may lack.
+/// What stands in a primitive's word: so many parts before its lengths, then sizes and points, of a polygon the
+/// other way round, then the rotation, which some may lack.
 #[derive(Clone, Copy)]
 pub struct Row {
     pub head: u8,
@@ -50,6 +52,7 @@ impl Form {
             Form::Outline(n) => (3, 0, n as u16 + 1, true),
             Form::VectorLine => (2, 1, 2, true),
             Form::CentreLine => (2, 2, 1, true),
+            Form::Polygon(_) => (3, 1, 1, true),
         };
         Row {
             head,

@@ -1,5 +1,5 @@
 //! How an area, a disc or a stroke is told with how far it is turned.
-ghost use Rattle.std.specs.Prelude.{◌≡◌, ◌≤◌, ◌+◌, IfErr, IfOk, length, slice_index_or};
+ghost use Rattle.std.specs.Prelude.{◌≡◌, ◌<◌, ◌≤◌, ◌+◌, IfErr, IfOk, length, slice_index_or};
 ghost use Rattle.planar.specs.Plane.{IsPlaced};
 ghost use Rattle.area_contact.specs.Contour.{IsClosed};
 ghost use Rattle.area_contact.specs.declared.TheConstants.{MOST_CONTOUR_POINTS};
@@ -13,14 +13,14 @@ use crate::fault::{FigureFault, MacroFault};
 use crate::images::same;
 use crate::outline::bounded;
 use crate::placing::Placing;
-use crate::primitive::Rotation;
+use crate::primitive::{Form, Rotation};
 use board_shapes::Shape;
 use contact::Capsule;
 use planar::{Spot, are_placed};
 use std::alloc::Global;
 
 /// The area whose contour is this one with three spots more: what it is turned about, that spot moved by what the
-/// turn is (`rest`, in 10^-7 degrees, by 30,000), and the first spot again.
+/// turn is (`rest`, in 10^-7 degrees, by 30,000; of a polygon `told_rest`), and the first spot again.
 ///
 /// `OutOfRange` where one of them is over 1 m from 0 in x or y.
 pub fn told(
@@ -140,5 +140,19 @@ fn rim(capsule: &Capsule) -> Spot
     Spot {
         x: capsule.a.x + (capsule.r + 1),
         y: capsule.a.y,
+    }
+}
+
+/// What is told of how far a figure is turned, by its form: of a polygon a right angle more.
+pub fn told_rest(form: Form, rest: u32) -> u32
+    requires { rest < 900000000 }
+    ensures { result ≡ spec.told_rest form rest }
+{
+    match form {
+        Form::Polygon(_) => 900_000_000 + rest,
+        Form::Circle => rest,
+        Form::Outline(_) => rest,
+        Form::VectorLine => rest,
+        Form::CentreLine => rest,
     }
 }
