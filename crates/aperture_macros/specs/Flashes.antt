@@ -46,7 +46,7 @@ turn_judged Degrees form text parameters unit =
 abbrev pub judged : Copper → PlainPrimitive → List Fraction → Measure → Result (Unit {0}) MacroFault
 judged copper p parameters unit = judged_by copper p.form p.lengths parameters unit >>= λ done. turn_judged p.rotation p.form p.lengths parameters unit
 
--- a disc or a stroke that a turn moves is told with it; others are as they are
+-- a disc that a turn moves is told with it (so would a stroke be, which `needs_quarters` refuses); others are as they are
 abbrev pub tell_round : Spot → ℕ → Stroke → Result (Option Figure) MacroFault
 tell_round about rest s = if is_moved about rest s then area_at (told_round about rest s) else Ok (Some (round s))
 

@@ -87,7 +87,7 @@ pub record IsPolygonCopper (g : RegularPolygon) (holds : Point → Type 0) : Typ
 
 -- ---- which contours are taken
 
--- from 5 to 12 corners, but for 7 and 11, whose directions are no whole parts; in the middle of a square metre or two
+-- from 5 to 12 corners, but for 7 and 11, whose directions are no whole parts; the circle of its corners lies within a metre of 0
 pub record IsRegular (g : RegularPolygon) : Type 0 where
   pub enough : 5 ≤ g.corners
   pub few : g.corners ≤ 12
