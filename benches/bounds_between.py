@@ -119,7 +119,9 @@ class Layer:
                 yield from (f"%AMP{k}*", f"{self.outline(size)},{turn}*%", f"%ADD{k}P{k}*%")
             elif k % 4 == 0:
                 middle = self.rng.choice(("0,0", f"{left},-{right}"))
-                yield from (f"%AMP{k}*", f"21,1,{w},{h},0,0,{turn}*", f"1,1,{w},{middle},{turn}*", f"20,1,{h},0,0,{w},0,{turn}*%", f"%ADD{k}P{k}*%")
+                corners = self.rng.choice((5, 6, 8, 9, 10, 12))
+                yield from (f"%AMP{k}*", f"21,1,{w},{h},0,0,{turn}*", f"1,1,{w},{middle},{turn}*", f"5,1,{corners},0,0,{right},{turn}*")
+                yield from (f"20,1,{h},0,0,{w},0,{turn}*%", f"%ADD{k}P{k}*%")
             elif k % 4 == 1:
                 yield f"%ADD{k}RotRect,{w}X{h}X{turn}*%"
             else:

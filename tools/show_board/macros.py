@@ -6,6 +6,7 @@ from .clear import Object, whole
 from .degrees import placed, placed_disc, turned_bounds, turned_disc_bounds
 from .exact import Refused, cos_sin, decimal, exact, limited, minus, plus, root, times, turned
 from .outlines import convex_bounds, disc_bounds, polygon_bounds, whole_corners
+from .regular import figure_of as regular_of, regular_bounds
 from .slants import line_bounds
 
 MOST_DEEP = 64          # brackets in one another
@@ -126,7 +127,7 @@ COUNTS = {1: (5, 6), 2: (8,), 20: (8,), 21: (7,), 22: (7,), 5: (7,)}
 
 def figures(body, parameters, scale):
     """The real shapes of a macro's body, turned, in u: ("disc", centre, radius), ("line", start, end, width), ("turned", corners, angle)
-    and ("turned disc", centre, radius, angle) of whole numbers, ("convex", corners) or ("outline", corners)."""
+    ("turned disc", centre, radius, angle) and ("regular", corners, diameter, angle) of whole numbers, ("convex", corners) or ("outline", corners)."""
     variables = {k + 1: value for k, value in enumerate(parameters)}
     for word in body:
         word = re.sub(r"\s", "", word)
@@ -170,6 +171,9 @@ def primitive(values, scale):
         if values[2] not in range(3, 13):
             raise Refused("macro: polygon of no 3 to 12 corners")
         if sized(u[5]):
+            known = regular_of(values[2], u[3:5], u[5], degrees)
+            if known:
+                return exposed(values[1], known)
             corners = regular(int(values[2]), u[3], u[4], u[5])
     else:
         kind, corners = "outline", outline(values, u)
@@ -218,7 +222,7 @@ def bounds_of(figure):
     return BOUNDS[figure[0]](*figure[1:])
 
 
-BOUNDS = {"disc": disc_bounds, "line": line_bounds, "turned": turned_bounds, "turned disc": turned_disc_bounds, "convex": convex_bounds, "outline": polygon_bounds}
+BOUNDS = {"disc": disc_bounds, "line": line_bounds, "turned": turned_bounds, "turned disc": turned_disc_bounds, "regular": regular_bounds, "convex": convex_bounds, "outline": polygon_bounds}
 
 
 def without(figures_in_order):
@@ -232,7 +236,7 @@ def without(figures_in_order):
 
 
 def rows(figures_in_order):
-    """Of figures that `between` reads, as they stand, as slanted lines or turned, how many pieces of both sides each has; else None."""
+    """Of figures that `between` reads, as they stand, as slanted lines, turned or regular, how many pieces of both sides each has; else None."""
     told = [row(*figure) for figure in figures_in_order]
     return None if None in told else told
 
@@ -244,6 +248,8 @@ def row(kind, *parts):
         return len(turned_bounds(*parts)[0]), 1
     if kind == "turned disc":
         return len(turned_disc_bounds(*parts)[0]), 1
+    if kind == "regular":
+        return len(regular_bounds(*parts)[0]), 1
     if kind == "disc":
         return (1, 1) if whole_corners(parts[:1])[1] and parts[1].denominator == 1 else None
     return (1, 1) if kind in ("convex", "outline") and whole_corners(parts[0])[1] else None

@@ -12,8 +12,9 @@ use Rattle.aperture_macros.proofs.Told.{spot_same, told_length}
 use Rattle.apertures.specs.Telling.{Frame, Ring, frame_told, ring_told}
 use Rattle.board_shapes.specs.Figures.{filled}
 use Rattle.arc_layer.specs.Laws.{DiscsAreUndone, TurnedAreContours, TurnsAreUndone}
-use Rattle.arc_layer.specs.Real.{bent_or, disc_area, disc_or, frame_or, plain, ring_draw, told_area, turned, turned_disc}
+use Rattle.arc_layer.specs.Real.{bent_or, disc_area, disc_or, frame_or, plain, ring_draw, told_area, turned, turned_disc, RealFigure, polygon_told, regular_or}
 use Rattle.slants.specs.declared.cones.TheConstants.{RIGHT_ANGLE}
+use Rattle.slants.specs.declared.polygons.RegularPolygon.{RegularPolygon}
 use Rattle.arc_layer.proofs.Rings.{no_frame, no_ring}
 use Rattle.arc_layer.proofs.Tails.{IsTold, is_told}
 
@@ -44,13 +45,12 @@ undone law about rest contour closed long below =
     ap (λ (r : Option Ring). bent_or (option_map ring_draw r) (frame_or (frame_told points) (disc_or points (round_told points) (told_area points (told_in points))))) (no_ring points more) ∙
     ap (λ (f : Option Frame). frame_or f (disc_or points (round_told points) (told_area points (told_in points)))) (no_frame points more) ∙
     ap (λ (r : Option RoundTelling). disc_or points r (told_area points (told_in points))) (no_round about rest contour closed long) ∙
-    ap (λ (t : Option Telling). told_area points t) (law about rest contour closed long) ∙ by (rest == 0) (nat_lt rest RIGHT_ANGLE) refl
+    ap (λ (t : Option Telling). told_area points t) (law about rest contour closed long) ∙ by (rest == 0) (nat_lt rest RIGHT_ANGLE) _ refl
   where
-    by : (none less : Bool) → nat_lt rest RIGHT_ANGLE ≡ less
-        → cond none (plain (filled contour)) (cond less (turned contour about rest) (plain (filled (told about rest contour)))) ≡ cond none (plain (filled contour)) (turned contour about rest)
-    by true less is = refl
-    by false true is = refl
-    by false false is = absurd (grind (arith, is, below))
+    by : (none less : Bool) (z : RealFigure) → nat_lt rest RIGHT_ANGLE ≡ less → cond none (plain (filled contour)) (cond less (turned contour about rest) z) ≡ cond none (plain (filled contour)) (turned contour about rest)
+    by true less z is = refl
+    by false true z is = refl
+    by false false z is = absurd (grind (arith, is, below))
 
 abbrev IsLawful : List Spot → Spot → ℕ → Type 0
 IsLawful contour about rest = IsContour contour × IsPlaced about × (1 ≤ rest) × (rest < RIGHT_ANGLE)
@@ -75,20 +75,21 @@ lawful_so points t is told some below =
 pub lawful : TurnedAreContours
 lawful points contour about rest is h = past_ring (ring_told points) (frame_told points) h
   where
-    inside : (t : Telling) (none less : Bool) → IsTold points t → (t.rest == 0) ≡ none → nat_lt t.rest RIGHT_ANGLE ≡ less
-        → cond none (plain (filled t.contour)) (cond less (turned t.contour t.about t.rest) (plain (filled points))) ≡ turned contour about rest → IsLawful contour about rest
-    inside t true less told e f k = absurd cc
-    inside t false true told e f k =
+    inside : (t : Telling) (none less : Bool) (o : Option RegularPolygon) → IsTold points t → (t.rest == 0) ≡ none → nat_lt t.rest RIGHT_ANGLE ≡ less
+        → cond none (plain (filled t.contour)) (cond less (turned t.contour t.about t.rest) (regular_or points o)) ≡ turned contour about rest → IsLawful contour about rest
+    inside t true less o told e f k = absurd cc
+    inside t false true o told e f k =
         let one : t.contour ≡ contour = cc in
         let two : t.about ≡ about = cc in
         let three : t.rest ≡ rest = cc in
         subst (λ (c : List Spot). IsLawful c about rest) one (subst (λ (s : Spot). IsLawful t.contour s rest) two (subst (λ (r : ℕ). IsLawful t.contour t.about r) three
         (lawful_so points t is told (grind (arith, e)) (grind (arith, f)))))
-    inside t false false told e f k = absurd cc
+    inside t false false (Some g) told e f k = absurd cc
+    inside t false false None told e f k = absurd cc
 
     by : (t : Option Telling) → told_in points ≡ t → told_area points t ≡ turned contour about rest → IsLawful contour about rest
     by None e k = absurd cc
-    by (Some t) e k = inside t (t.rest == 0) (nat_lt t.rest RIGHT_ANGLE) (is_told points t e) refl refl k
+    by (Some t) e k = inside t (t.rest == 0) (nat_lt t.rest RIGHT_ANGLE) (polygon_told points t.rest) (is_told points t e) refl refl k
 
     no_disc : (t : RoundTelling) (v : Bool) → cond v (turned_disc (record { centre = t.stroke.a; radius = unsigned_abs t.stroke.r; about = t.about; angle = t.rest })) (plain (filled points)) ≡ turned contour about rest → ⊥
     no_disc t true k = cc

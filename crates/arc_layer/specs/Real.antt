@@ -1,5 +1,5 @@
 -- Real copper: the pieces of a copper file in which draws may be arcs, circles and rectangles may have round holes, and macros may have slanted lines and turned figures.
-use Rattle.std.specs.Prelude.{◌≡◌, ℕ, ◌*◌, ◌<◌, ◌≤◌, Bool, false, ◌&&◌, ◌||◌, not, ◌==◌, nat_lt, if◌then◌else◌, List, [], ◌∷◌, drop, map, Option, Some, None, option_map, unsigned_abs, Result, Ok, Err}
+use Rattle.std.specs.Prelude.{◌≡◌, ℕ, ◌+◌, ◌-◌, ◌*◌, ◌^◌, ◌<◌, ◌≤◌, ◌-ℤ◌, Bool, false, ◌&&◌, ◌||◌, not, ◌==◌, nat_lt, int_lt, if◌then◌else◌, List, [], ◌∷◌, drop, map, Option, Some, None, option_map, unsigned_abs, Result, Ok, Err}
 use Rattle.std.specs.Ordering.{int_eq}
 use Rattle.planar.specs.declared.Spot.{Spot}
 use Rattle.board_shapes.specs.Figures.{Figure, Stroke, round, filled, figure_of}
@@ -28,10 +28,11 @@ use Rattle.arc_layer.specs.declared.kind.RealKind.{RealKind}
 use Rattle.arc_layer.specs.declared.kind.RealKind.TheVariants.{Copper}
 use Rattle.slants.specs.declared.cones.TheConstants.{RIGHT_ANGLE}
 use Rattle.slants.specs.declared.polygons.RegularPolygon.{RegularPolygon}
+use Rattle.slants.specs.declared.polygons.TheConstants.{PARTS}
 use Rattle.real_shapes.specs.declared.RealShape.{RealShape}
 use Rattle.real_shapes.specs.declared.RealShape.TheVariants as shape
 
--- a figure, an arc draw, the rectangle of a slanted line, a region whose contour has arcs, a contour that is turned about a spot, counterclockwise, by so many parts of 10^-7 degrees, a disc that is, or a regular polygon, of which no file tells yet
+-- a figure, an arc draw, the rectangle of a slanted line, a region whose contour has arcs, a contour that is turned about a spot, counterclockwise, by so many parts of 10^-7 degrees, a disc that is, or a regular polygon
 pub data RealFigure : Type 0 where
   plain : Figure → RealFigure
   bent : Arc → RealFigure
@@ -96,12 +97,34 @@ abbrev pub region_by : List Spot → List (Option Bend) → RealFigure
 region_by [] edges = plain (filled [])
 region_by (p ∷ points) edges = curved p (parts_from p points edges)
 
--- The area of a macro as what its contour tells: the figure before its turn (Gerber Layer Format Specification, 4.5.1), plain where nothing is left to turn. No macro's tells a right angle or more.
+-- how far a spot is from another across or up, and how many quarter turns on from its right
+abbrev pub far_from : Spot → Spot → ℕ
+far_from p q = unsigned_abs (q.x -ℤ p.x) + unsigned_abs (q.y -ℤ p.y)
+
+abbrev pub quarters_to : Spot → Spot → ℕ
+quarters_to p q = if int_lt p.x q.x then 0 else (if int_lt p.y q.y then 1 else (if int_lt q.x p.x then 2 else 3))
+
+-- What a polygon's spots tell (4.5.1, code 5): its middle, the diameter and the number of corners in the direction of its quarter turns, and how far it is turned beside these, a right angle more
+abbrev pub polygon_by : Spot → Spot → Spot → ℕ → Option RegularPolygon
+polygon_by p across count rest =
+    if nat_lt (far_from p count) (2 ^ 32) && nat_lt rest (2 * RIGHT_ANGLE)
+    then Some (record { centre = p; corners = far_from p count; diameter = far_from p across * PARTS; angle = quarters_to p across * RIGHT_ANGLE + (rest - RIGHT_ANGLE) })
+    else None
+
+abbrev pub polygon_told : List Spot → ℕ → Option RegularPolygon
+polygon_told (p ∷ across ∷ count ∷ again ∷ about ∷ to ∷ last ∷ []) rest = polygon_by p across count rest
+polygon_told other rest = None
+
+abbrev pub regular_or : List Spot → Option RegularPolygon → RealFigure
+regular_or points (Some g) = regular g
+regular_or points None = plain (filled points)
+
+-- The area of a macro as what its contour tells: the figure before its turn (Gerber Layer Format Specification, 4.5.1), plain where nothing is left to turn. What tells a right angle or more is a polygon.
 abbrev pub told_area : List Spot → Option Telling → RealFigure
 told_area points None = plain (filled points)
 told_area points (Some t) =
     if t.rest == 0 then plain (filled t.contour)
-    else (if nat_lt t.rest RIGHT_ANGLE then turned t.contour t.about t.rest else plain (filled points))
+    else (if nat_lt t.rest RIGHT_ANGLE then turned t.contour t.about t.rest else regular_or points (polygon_told points t.rest))
 
 -- A disc of a macro as it is told: that before its turn. What tells a stroke, a right angle or more, or nothing to turn, is as it is; no macro's does.
 abbrev pub disc_area : List Spot → RoundTelling → RealFigure

@@ -7,6 +7,7 @@ ghost use Rattle.arc_layer.specs.Telling.{round_by, telling_by, told_of};
 ghost use Rattle.board_shapes.specs.Figures.{filled};
 ghost use Rattle.file_reading.specs.declared.fault.FileFault.TheVariants as fault;
 ghost use Rattle.planar.specs.Plane.{IsPlaced};
+ghost use Rattle.slants.specs.declared.cones.TheConstants.{RIGHT_ANGLE};
 ghost use Rattle.std.specs.Prelude.{◌≡◌, ◌≤◌, ◌*◌, ◌-◌, ◌-ℤ◌, unsigned_abs, All, length, option_map, take, IfErr, IfOk, Some};
 
 use crate::centres::same_spot;
@@ -17,7 +18,7 @@ use area_contact::Area;
 use board_shapes::Shape;
 use planar::Spot;
 use real_shapes::RealShape;
-use slants::{RIGHT_ANGLE, TurnedDisc, TurnedFigure, is_closed};
+use slants::{PARTS, RIGHT_ANGLE, RegularPolygon, TurnedDisc, TurnedFigure, is_closed};
 use std::alloc::Global;
 
 /// What the spots behind a contour say: what it is turned about, and how far in 10^-7 degrees.
@@ -81,6 +82,65 @@ fn unturned(alloc: Global, area: Area, turning: Turning) -> Result<RealShape, Re
     }
 }
 
+/// How far a spot is from another across or up.
+fn far_from(p: Spot, q: Spot) -> u64
+    requires p_placed { IsPlaced p }
+    requires q_placed { IsPlaced q }
+    ensures value { result ≡ spec.far_from p q }
+    ensures small { result ≤ 40_000_000_000 }
+{
+    q.x.abs_diff(p.x) + q.y.abs_diff(p.y)
+}
+
+/// How many quarter turns from the right of one it is there.
+fn quarters_to(p: Spot, q: Spot) -> u32
+    ensures value { result ≡ spec.quarters_to p q }
+    ensures few { result ≤ 3 }
+{
+    if p.x < q.x {
+        0
+    } else if p.y < q.y {
+        1
+    } else if q.x < p.x {
+        2
+    } else {
+        3
+    }
+}
+
+/// The polygon that three spots tell, and how far it is turned beside quarter turns, a right angle more.
+fn polygon_by(p: Spot, across: Spot, count: Spot, rest: u64) -> Option<RegularPolygon>
+    requires p_placed { IsPlaced p }
+    requires across_placed { IsPlaced across }
+    requires count_placed { IsPlaced count }
+    requires more { RIGHT_ANGLE ≤ rest }
+    ensures { result ≡ spec.polygon_by p across count rest }
+{
+    let corners = far_from(p, count);
+    if corners < 4_294_967_296 && rest < 2 * u64::from(RIGHT_ANGLE) {
+        Some(RegularPolygon {
+            centre: p,
+            corners: corners as u32,
+            diameter: far_from(p, across) * PARTS as u64,
+            angle: quarters_to(p, across) * RIGHT_ANGLE + (rest - u64::from(RIGHT_ANGLE)) as u32,
+        })
+    } else {
+        None
+    }
+}
+
+/// The polygon that the spots of an area tell.
+fn polygon_in(points: &[Spot], rest: u64) -> Option<RegularPolygon>
+    requires placed { All IsPlaced points.now }
+    requires more { RIGHT_ANGLE ≤ rest }
+    ensures { result ≡ spec.polygon_told points.now rest }
+{
+    let [p, across, count, _, _, _, _] = points else {
+        return None;
+    };
+    polygon_by(*p, *across, *count, rest)
+}
+
 /// The area that tells this.
 fn told_area(alloc: Global, area: Area, turning: Turning) -> Result<RealShape, RealFault>
     requires { telling.told_in area.points.items ≡ Some (telling_by area.points.items turning) }
@@ -91,7 +151,10 @@ fn told_area(alloc: Global, area: Area, turning: Turning) -> Result<RealShape, R
         return unturned(alloc, area, turning);
     }
     if turning.rest >= u64::from(RIGHT_ANGLE) {
-        return Ok(RealShape::Plain(Shape::Filled(area)));
+        return Ok(match polygon_in(&area.points, turning.rest) {
+            Some(polygon) => RealShape::Polygon(polygon),
+            None => RealShape::Plain(Shape::Filled(area)),
+        });
     }
     Ok(RealShape::Turned(TurnedFigure {
         contour: contour_of(area),

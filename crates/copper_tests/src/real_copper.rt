@@ -348,7 +348,7 @@ fn of_lines() -> [(&'static str, &'static str); 7] {
 }
 
 // Turned figures of macros, most as layout tools write them; all of this crate's own.
-fn of_turns() -> [(&'static str, &'static str); 9] {
+fn of_turns() -> [(&'static str, &'static str); 12] {
     [
         (
             "%AMRotRect*21,1,$1,$2,0,0,$3*%%ADD11RotRect,1.0X0.5X30.0*%D11*X0Y0D03*M02*",
@@ -377,6 +377,18 @@ fn of_turns() -> [(&'static str, &'static str); 9] {
         (
             "%AMV*1,1,1.0,0,0,45*21,1,1,1,0,0,-45*%%ADD11V*%%ADD12R,1X2*%D11*X0Y0D03*D12*X0Y0D03*M02*",
             "0 0, 0 0, 5000000 by 11.0\nturned 450000000 about 0 0, -5000000 5000000, -5000000 -5000000, 5000000 -5000000, 5000000 5000000, -5000000 5000000 by 11.0\nan area, -5000000 -10000000, 5000000 -10000000, 5000000 10000000, -5000000 10000000, -5000000 -10000000 by 13.0",
+        ),
+        (
+            "%AMOC8*5,1,8,0,0,$1,22.5*%%ADD11OC8,1.0*%D11*X1000000Y0D03*M02*",
+            "8 corners about 10000000 0 by 100000000000 at 225000000 by 9.0",
+        ),
+        (
+            "%AMP*5,1,5,0,0,0.5,-90*%%ADD11P*%D11*X0Y0D03*M02*",
+            "5 corners about 0 0 by 50000000000 at 2700000000 by 9.0",
+        ),
+        (
+            "%AMP*5,1,5,1,0,0.5,45*%%ADD11P*%D11*X0Y0D03*M02*",
+            "Copper(Turn) at command 7",
         ),
         (
             "%AMV*1,1,1.0,1,0,-240*%%ADD11V*%D11*X1000000Y0D03*M02*",

@@ -15,17 +15,17 @@ use Rattle.lengths.specs.declared.decimal.Unit.{Unit as Measure}
 use Rattle.aperture_macros.specs.declared.fault.MacroFault.{MacroFault}
 use Rattle.aperture_macros.specs.declared.fault.MacroFault.TheVariants.{OffGrid, OutOfRange}
 use Rattle.aperture_macros.specs.declared.images.Sketch.{Sketch}
-use Rattle.aperture_macros.specs.declared.images.Sketch.TheVariants.{Disc, Rectangle, Stroke}
+use Rattle.aperture_macros.specs.declared.images.Sketch.TheVariants.{Disc, Rectangle, Regular, Stroke}
 use Rattle.aperture_macros.specs.declared.primitive.Form.{Form}
-use Rattle.aperture_macros.specs.declared.primitive.Form.TheVariants.{Circle, Outline, VectorLine, CentreLine}
+use Rattle.aperture_macros.specs.declared.primitive.Form.TheVariants.{Circle, Outline, VectorLine, CentreLine, Polygon}
 use Rattle.aperture_macros.specs.declared.primitive.Copper.TheVariants.{Real}
 use Rattle.aperture_macros.specs.declared.primitive.Rotation.{Rotation}
 use Rattle.aperture_macros.specs.declared.primitive.Turning.{Turning}
 use Rattle.aperture_macros.specs.declared.primitive.Turning.TheVariants.{Quarters, Degrees}
 use Rattle.aperture_macros.specs.BodyWord.{PlainPrimitive, ◌>>=◌, part, past}
 use Rattle.aperture_macros.specs.Flashes.{figure_at, figure_turned, tell, told_figure, turn_behind}
-use Rattle.aperture_macros.specs.Telling.{is_moved, told, told_round}
-use Rattle.aperture_macros.specs.Images.{area_at, circle_at, centre_at, centred, disc_at, figure_by, line_at, line_between, outline_at, set_down, sketch_at, sketched, slanted, stroke_at, outlined, strip}
+use Rattle.aperture_macros.specs.Telling.{is_moved, told, told_rest, told_round}
+use Rattle.aperture_macros.specs.Images.{area_at, circle_at, centre_at, centred, disc_at, figure_by, line_at, line_between, outline_at, polygon_at, polygon_spots, set_down, sketch_at, sketched, slanted, stroke_at, outlined, strip}
 use Rattle.aperture_macros.specs.Outlines.{closing_at, moved_from}
 use Rattle.aperture_macros.specs.Sized.{IsSized}
 use Rattle.aperture_macros.specs.Values.{as_size, coordinate_at, diameter_at, point_at, size_at}
@@ -49,6 +49,7 @@ IsPen None = Unit {0}
 IsPen (Some (Disc p d)) = HasPen d
 IsPen (Some (Stroke p q w)) = HasPen w
 IsPen (Some (Rectangle low high)) = Unit {0}
+IsPen (Some (Regular p d n)) = Unit {0}
 
 size_even : (text : List ℕ) (given : List Fraction) (unit : Measure) (w : ℕ) → size_at text given unit ≡ Ok w → w % 2 ≡ 0
 unfolding size_at
@@ -123,6 +124,17 @@ centre_pen text given unit s h =
     let same : centred w.0 t.0 p.0 ≡ s = cc in
     subst IsPen same (rectangle_pen _ _ _)
 
+polygon_pen : (n : ℕ) (text : List ℕ) (given : List Fraction) (unit : Measure) (s : Option Sketch) → polygon_at n text given unit ≡ Ok s → IsPen s
+unfolding polygon_at IsPen
+polygon_pen n text given unit s h =
+    let p = then_ok (point_at text given unit) (λ p. diameter_at (part 2 text) given unit >>= λ d. Ok (cond (eqb d 0) None (Some (Regular p d n)))) s h in
+    let d = then_ok (diameter_at (part 2 text) given unit) (λ d. Ok (cond (eqb d 0) None (Some (Regular p.0 d n)))) s p.2 in
+    by d.0 p.0 (eqb d.0 0) d.2
+  where
+    by : (d : ℕ) (p : Spot) (b : Bool) → ◌≡◌ {A = Result (Option Sketch) MacroFault} (Ok (cond b None (Some (Regular p d n)))) (Ok s) → IsPen s
+    by d p true h = let same : None ≡ s = cc in subst IsPen same tt
+    by d p false h = let same : Some (Regular p d n) ≡ s = cc in subst IsPen same tt
+
 -- ---- Figures
 
 same_figure : (f g : Figure) → ◌≡◌ {A = Result (Option Figure) MacroFault} (Ok (Some f)) (Ok (Some g)) → IsDrawn f → IsDrawn g
@@ -167,6 +179,7 @@ sketch_drawn rotation at None f pen h = cc
 sketch_drawn rotation at (Some (Disc p d)) f pen h = disc_drawn (set_down rotation at p) d f pen.0 pen.1 pen.2 h
 sketch_drawn rotation at (Some (Stroke p q w)) f pen h = stroke_drawn (set_down rotation at p) (set_down rotation at q) w f pen h
 sketch_drawn rotation at (Some (Rectangle low high)) f pen h = area_drawn (map (set_down rotation at) (rectangle low high)) f refl (omega arith) (omega arith) h
+sketch_drawn rotation at (Some (Regular p d n)) f pen h = area_drawn (map (set_down rotation at) (polygon_spots p d n)) f refl (omega arith) (omega arith) h
 
 sketched_drawn : (rotation : Rotation) (at : Spot) (r : Result (Option Sketch) MacroFault) (f : Figure) → ((s : Option Sketch) → r ≡ Ok s → IsPen s) → sketched rotation at r ≡ Ok (Some f) → IsDrawn f
 sketched_drawn rotation at r f pen h =
@@ -195,27 +208,28 @@ figure_by_drawn Circle rotation text given unit at f sized h = sketched_drawn ro
 figure_by_drawn (Outline n) rotation text given unit at f sized h = outline_drawn n rotation text given unit at f sized.0 sized.1 h
 figure_by_drawn VectorLine rotation text given unit at f sized h = sketched_drawn rotation at (line_at Real text given unit) f (line_pen text given unit) h
 figure_by_drawn CentreLine rotation text given unit at f sized h = sketched_drawn rotation at (centre_at text given unit) f (centre_pen text given unit) h
+figure_by_drawn (Polygon n) rotation text given unit at f sized h = sketched_drawn rotation at (polygon_at n text given unit) f (polygon_pen n text given unit) h
 
 -- an area that is told with how far it is turned is closed too
-told_drawn : (about : Spot) (rest : ℕ) (o : Option Figure) (f : Figure) → ((g : Figure) → o ≡ Some g → IsDrawn g) → ((points : List Spot) → o ≡ Some (filled points) → length points ≤ 5001) → tell about rest o ≡ Ok (Some f) → IsDrawn f
-told_drawn about rest None f drawn few h = cc
-told_drawn about rest (Some (round s)) f drawn few h = by (is_moved about rest s) h
+told_drawn : (form : Form) (about : Spot) (rest : ℕ) (o : Option Figure) (f : Figure) → ((g : Figure) → o ≡ Some g → IsDrawn g) → ((points : List Spot) → o ≡ Some (filled points) → length points ≤ 5001) → tell form about rest o ≡ Ok (Some f) → IsDrawn f
+told_drawn form about rest None f drawn few h = cc
+told_drawn form about rest (Some (round s)) f drawn few h = by (is_moved about rest s) h
   where
     by : (b : Bool) → cond b (area_at (told_round about rest s)) (Ok (Some (round s))) ≡ Ok (Some f) → IsDrawn f
     by true k = area_drawn (told_round about rest s) f refl (omega arith) (omega arith) k
     by false k = same_figure (round s) f k (drawn (round s) refl)
-told_drawn about rest (Some (filled points)) f drawn few h =
+told_drawn form about rest (Some (filled points)) f drawn few h =
     let c = drawn (filled points) refl in
-    let long = told_length about rest points c.enough in
-    area_drawn (told about rest points) f (told_closed about rest points) (omega (arith, long)) (omega (arith, long, few points refl)) h
+    let long = told_length about (told_rest form rest) points c.enough in
+    area_drawn (told about (told_rest form rest) points) f (told_closed about (told_rest form rest) points) (omega (arith, long)) (omega (arith, long, few points refl)) h
 
 turned_drawn : (turning : Turning) (form : Form) (text : List ℕ) (given : List Fraction) (unit : Measure) (at : Spot) (f : Figure) → IsSized form → figure_turned turning form text given unit at ≡ Ok (Some f) → IsDrawn f
 unfolding figure_turned
 turned_drawn (Quarters rotation) form text given unit at f sized h = figure_by_drawn form rotation text given unit at f sized h
 turned_drawn Degrees form text given unit at f sized h =
     let t = then_ok (turn_behind form text given) (λ turn. told_figure turn form text given unit at) (Some f) h in
-    let g = then_ok (figure_by form t.0.quarters text given unit at) (λ figure. tell at t.0.rest figure) (Some f) t.2 in
-    told_drawn at t.0.rest g.0 f
+    let g = then_ok (figure_by form t.0.quarters text given unit at) (λ figure. tell form at t.0.rest figure) (Some f) t.2 in
+    told_drawn form at t.0.rest g.0 f
     (λ d is. figure_by_drawn form t.0.quarters text given unit at d sized (g.1 ∙ ap (λ (o : Option Figure). let r : Result (Option Figure) MacroFault = Ok o in r) is))
     (λ points is. (area_is form t.0.quarters text given unit at points sized (g.1 ∙ ap (λ (o : Option Figure). let r : Result (Option Figure) MacroFault = Ok o in r) is)).few)
     g.2

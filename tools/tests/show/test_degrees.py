@@ -7,7 +7,8 @@ from fractions import Fraction as Q
 from show_board.cones import cone_of
 from show_board.degrees import turned_bounds
 from show_board.exact import cos_sin, cross_least, exact, minus, plus, pointed, times, turned
-from show_board.macros import bounds_of, figures, macro_bounds, rows
+from show_board.macros import bounds_of, figures, macro_bounds, regular, rows
+from show_board.regular import regular_bounds
 from show_board.spots import cross, dot, edges
 
 METRE, RIGHT, MOST_PART, MM = 10 ** 10, 90 * 10 ** 7, 10 ** 8, 10 ** 7
@@ -167,6 +168,21 @@ class TestDegrees(unittest.TestCase):
             self.assertTrue(turn(first)[0] > 0 > turn(last)[1] and max(map(abs, first + last)) <= MOST_PART, angle)
 
 
+class TestPolygons(unittest.TestCase):
+    """Regular polygons by intervals of their corners: what is found within has its corners left of all edges, what is found round them has all corners left of its own."""
+
+    def test_bounds(self):
+        rng = random.Random(67)
+        for n in (5, 6, 8, 9, 10, 12) * 6:
+            d, angle = 2 * rng.randrange(50, rng.choice((10 ** 3, 10 ** 5, 10 ** 7, 25 * 10 ** 7))), rng.choice((0, RIGHT // 4, rng.randrange(4 * RIGHT)))
+            corners = regular(n, 0, 0, Q(d), Q(angle, 10 ** 7))
+            ([(_, inner)], [(_, outer)]) = regular_bounds(n, d, angle)
+            with self.subTest(f"{n} {d} {angle}"):
+                self.assertTrue(all(cross_least(a, b, pointed(w)) >= 0 for a, b in edges(corners) for w in inner))
+                self.assertTrue(all(cross_least(pointed(a), pointed(b), v) >= 0 for a, b in edges(outer) for v in corners))
+                self.assertLess(max(abs(p - q) for a, b in zip(inner, outer) for p, q in zip(a, b)), 40)
+
+
 class TestFigures(unittest.TestCase):
     """Rows: a body, parameters, and of each figure its kind and how many pieces of both sides it has; None where `between` reads some otherwise."""
 
@@ -197,7 +213,11 @@ class TestFigures(unittest.TestCase):
         ("nothing below", ["4,1,4,0,0,1e,0,1e,1e,0,1e,0,0,30".replace("1e", ".0000001"), "21,1,0,1,0,0,30"], [], ["turned"], [(0, 1)]),
         ("an odd width", ["21,1,0.0000003,1,0,0,30"], [], ["convex"], None),
         ("parts of a part of a degree", ["21,1,1,1,0,0,30.00000001"], [], ["convex"], None),
-        ("a polygon", ["5,1,5,0,0,1,30"], [], ["convex"], None),
+        ("a polygon", ["5,1,5,0,0,1,30"], [], ["regular"], [(1, 1)]),
+        ("an octagon by parameters", ["5,1,8,0,0,$1,22.5"], [2], ["regular"], [(1, 1)]),
+        ("a product off the grid, of Eagle", ["5,1,8,0,0,1.08239X$1,22.5"], [Q("1.6764")], ["convex"], None),
+        ("a polygon of seven corners", ["5,1,7,0,0,1,30"], [], ["convex"], None),
+        ("a polygon off the origin", ["5,1,8,1,0,1,30"], [], ["convex"], None),
     ]
 
     def test_rows(self):

@@ -1,0 +1,74 @@
+"""Regular polygons of macros between contours of whole corners, as the crate `slants` takes them.
+
+How the corners were found does not matter: they are tested, at each turn of the cones of the polygon's directions.
+"""
+from fractions import Fraction as Q
+from functools import lru_cache
+
+from .cones import DEGREE, RADIUS, RIGHT_ANGLE, cone_of, way_of
+from .degrees import FURTHER, area, goes_once, lean, meet
+from .spots import edges
+
+WHOLE = (5, 6, 8, 9, 10, 12)        # of so many corners directions are whole parts of a degree
+MOST_DIAMETER = 500_000_000         # u
+
+
+def figure_of(n, centre, diameter, degrees):
+    """("regular", n, diameter, angle) where `between` reads the polygon and takes bounds of it, else None."""
+    angle = degrees % 360 * DEGREE
+    if n not in WHOLE or any(centre) or diameter % 2 or diameter > MOST_DIAMETER or angle.denominator != 1 or abs(degrees) > 1000:
+        return None
+    found = int(n), int(diameter), int(angle)
+    return ("regular", *found) if regular_bounds(*found) else None
+
+
+def direction(n, angle, steps, spot):
+    """A spot about the middle after the right angles to a direction, half steps from corner to corner on; and what is left of that."""
+    quarters, rest = divmod(angle + steps * (2 * RIGHT_ANGLE // n), RIGHT_ANGLE)
+    for _ in range(quarters % 4):
+        spot = -spot[1], spot[0]
+    return spot, rest
+
+
+def headings(first, last):
+    """The three places of a cone."""
+    return meet(first, first), meet(first, last), meet(last, last)
+
+
+# ---- the check
+
+def lies_round(n, diameter, angle, found):
+    """All corners of the polygon are on the left of each edge, at each turn of their cones."""
+    corners = [direction(n, angle, 2 * k, (-(-diameter // 2), 0)) for k in range(n)]
+    return goes_once(found) and all(w + u * p + v * q >= 0 for (p, q), rest in corners for heading in headings(*cone_of(rest))
+                                    for b, c in edges(found) for w, u, v in (lean(b, c, heading),))
+
+
+def lies_within(n, diameter, angle, found):
+    """What was found, turned back, is on the left of each edge of the polygon, at each turn of their cones."""
+    inner = diameter * (way_of(4 * RIGHT_ANGLE // n)[0] - 1) // (2 * RADIUS)
+    for k in range(n):
+        (b, rest), (c, _) = (direction(n, angle, 2 * k + 1, (inner, up)) for up in (0, 1))
+        (x, y), (p, q) = cone_of(rest)
+        if not all(w + u * i + v * j >= 0 for heading in headings((x, -y), (p, -q)) for w, u, v in (lean(b, c, heading),) for i, j in found):
+            return False
+    return True
+
+
+# ---- the contours
+
+def near(n, diameter, angle, by):
+    """Whole corners near those of the polygon, so much further out."""
+    for k in range(n):
+        (p, q), rest = direction(n, angle, 2 * k, (Q(diameter, 2) + by, 0))
+        x, y, whole = meet(*2 * (way_of(rest),))
+        yield round((p * x - q * y) / whole), round((p * y + q * x) / whole)
+
+
+@lru_cache(4096)
+def regular_bounds(n, diameter, angle):
+    """The pieces within and round the polygon about the origin; None where there is none round it."""
+    tried = lambda way_out: (list(near(n, diameter, angle, way_out * by)) for by in FURTHER)
+    inner = next((found for found in tried(-1) if area(found) > 0 and lies_within(n, diameter, angle, found)), None)
+    outer = next((found for found in tried(1) if lies_round(n, diameter, angle, found)), None)
+    return ([("area", inner)] if inner else [], [("area", outer)]) if outer else None
