@@ -8,7 +8,9 @@ ghost use Rattle.board_shapes.specs.Pieces.{plain_piece, plain_pieces};
 ghost use Rattle.planar.specs.declared.Spot.{Spot};
 ghost use Rattle.std.specs.Prelude.{All, IfNone, IfOk, IfSome, IsTrue, List, length, pos, ◌≡◌, ◌↔◌, ◌∷◌, []};
 
-use crate::side::{Side, is_disc_taken, is_line_taken, is_polygon_taken, is_taken, is_turned_taken};
+use crate::side::{
+    Side, is_disc_taken, is_line_taken, is_polygon_taken, is_taken, is_turned_taken,
+};
 use arcs::{Arc, Spot};
 use area_contact::Area;
 use board_shapes::{Piece, Shape};
