@@ -5,12 +5,14 @@ use super::*;
 type Row = (u32, u32, i64, [i64; 16], (bool, bool));
 
 /// Eight corners that are mirrored by both axes and by the line between these, by two of them.
-fn octagon(x: i64, y: i64) -> [i64; 16] {
+fn octagon(x: u32, y: u32) -> [i64; 16] {
+    let (x, y) = (x as i64, y as i64);
     [x, y, y, x, -y, x, -x, y, -x, -y, -y, -x, y, -x, x, -y]
 }
 
 /// Four on the axes, and four between them.
-fn standing(r: i64, s: i64) -> [i64; 16] {
+fn standing(r: u32, s: u32) -> [i64; 16] {
+    let (r, s) = (r as i64, s as i64);
     [r, 0, s, s, 0, r, -s, s, -r, 0, -s, -s, 0, -r, s, -s]
 }
 
