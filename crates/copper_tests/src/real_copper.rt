@@ -383,11 +383,11 @@ fn of_turns() -> [(&'static str, &'static str); 12] {
             "8 corners about 10000000 0 by 100000000000 at 225000000 by 9.0",
         ),
         (
-            "%AMP*5,1,5,0,0,0.5,-90*%%ADD11P*%D11*X0Y0D03*M02*",
+            "%AMQ*5,1,5,0,0,0.5,-90*%%ADD11Q*%D11*X0Y0D03*M02*",
             "5 corners about 0 0 by 50000000000 at 2700000000 by 9.0",
         ),
         (
-            "%AMP*5,1,5,1,0,0.5,45*%%ADD11P*%D11*X0Y0D03*M02*",
+            "%AMQ*5,1,5,1,0,0.5,45*%%ADD11Q*%D11*X0Y0D03*M02*",
             "Copper(Turn) at command 7",
         ),
         (
