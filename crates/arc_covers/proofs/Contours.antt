@@ -1,19 +1,13 @@
 -- Single contours and discs.
 use Rattle.std.proofs.Common.{◌≡◌, ◌↔◌, ◌⊎◌, inl, inr, ℕ, ◌≤◌, ◌<◌, length, List, [], ◌∷◌, Bool, false, IsTrue, get_or, refl, sym, ap, subst, arith}
 use Rattle.planar.specs.declared.Spot.{Spot}
-use Rattle.board_shapes.specs.Figures.{Figure, Stroke, figure_of, filled, round}
+use Rattle.board_shapes.specs.Figures.{Figure, figure_of}
 use Rattle.board_shapes.specs.Pieces.{plain_pieces}
 use Rattle.board_shapes.specs.declared.placed.Placed.{Placed}
 use Rattle.board_shapes.specs.declared.shape.Shape.{Shape}
 use Rattle.arc_covers.specs.Bounds.{ContourFor, DiscFor, OneContour, OneDisc, OrNone, figures_of}
 use Rattle.arc_covers.specs.declared.side.Side.{Side}
 use Rattle.arc_covers.specs.declared.side.Side.TheVariants.{Above, Below}
-
-pub of_contour : (P : List Spot → Type 0) (points : List Spot) (b : Bool) → IsTrue b ↔ P points → IsTrue b ↔ OneContour P (filled points ∷ [])
-of_contour P points b told = (λ yes. (points, refl, told.0 yes), λ (other, same, taken). told.1 (let one : other ≡ points = cc in subst P one taken))
-
-pub of_capsule : (P : List Spot → Type 0) (s : Stroke) (b : Bool) → b ≡ false → IsTrue b ↔ OneContour P (round s ∷ [])
-of_capsule P s b off = (λ yes. absurd cc, λ (other, same, taken). absurd cc)
 
 -- ---- one figure of which something holds, or none
 
@@ -39,9 +33,6 @@ or_more Below P f g rest figures b never off is = (λ yes. absurd cc, back)
 
 pub of_one : (side : Side) (P : List Spot → Type 0) (f : Figure) (figures : List Figure) (b : Bool) → figures ≡ f ∷ [] → IsTrue b ↔ OneContour P (f ∷ []) → IsTrue b ↔ ContourFor side P figures
 of_one side P f figures b is told = or_one side (OneContour P) f figures b is told
-
-pub of_none : (side : Side) (P : List Spot → Type 0) (figures : List Figure) (b : Bool) → figures ≡ [] → IsTrue b ↔ (side ≡ Below) → IsTrue b ↔ ContourFor side P figures
-of_none side P figures b is told = or_none side (OneContour P) figures b (λ (points, same, taken). absurd cc) is told
 
 -- ---- one piece, or more
 

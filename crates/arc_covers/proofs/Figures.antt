@@ -131,16 +131,6 @@ stopped pieces i piece from r cut none (tail, same) = by tail (sym (ap (λ (ps :
 
 -- ---- chains that are taken
 
--- no capsules are taken exactly where the chain without a spot is
-pub none_taken : (side : Side) (arc : Arc) (figures : List Figure) (b : Bool) → figures ≡ [] → IsTrue b ↔ IsTaken side arc [] 0 → IsTrue b ↔ StandTaken side (ArcDraw arc) figures
-none_taken side arc figures b none told = (λ yes. ([], 0, none, told.0 yes), λ (chain, r, same, taken). told.1 (empty side chain r (sym none ∙ same) taken))
-  where
-    empty : (side : Side) (chain : List Spot) (r : ℕ) → [] ≡ capsules_of chain (pos r) → IsTaken side arc chain r → IsTaken side arc [] 0
-    empty Below chain r same taken = inl refl
-    empty Above chain r same taken =
-        let more : [] ≡ capsules_of (arc.start ∷ taken.second ∷ taken.rest) (pos r) = same ∙ ap (λ (c : List Spot). capsules_of c (pos r)) taken.is in
-        absurd cc
-
 pub chain_taken : (side : Side) (arc : Arc) (f : Figure) (figures all : List Figure) (chain : List Spot) (r : ℕ) (b : Bool) → all ≡ f ∷ figures → all ≡ capsules_of chain (pos r) → IsTrue b ↔ IsTaken side arc chain r → IsTrue b ↔ StandTaken side (ArcDraw arc) all
 chain_taken side arc f figures all chain r b some is told = (λ yes. (chain, r, is, told.0 yes), λ (other, s, same, taken). told.1 (back other s (one_chain other chain s r f figures (sym some ∙ same) (sym some ∙ is)) taken))
   where

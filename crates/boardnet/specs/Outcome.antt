@@ -69,15 +69,12 @@ abbrev pub OutcomeOf : Source → Command → Outcome → Type 0
 OutcomeOf source command (Told text status line) = (task_of command).answers source text status line
 OutcomeOf source command (Refused line) = IsRefusedBy (task_of command) source line
 
--- so of `check`, of `audit` and of `trial`
+-- so of `check` and of `audit`
 abbrev pub CheckOutcome : Source → Version → List ℕ → Outcome → Type 0
 CheckOutcome source version manifest outcome = OutcomeOf source (Check version manifest) outcome
 
 abbrev pub AuditOutcome : Source → (manifest report : List ℕ) → Outcome → Type 0
 AuditOutcome source manifest report outcome = OutcomeOf source (Audit manifest report) outcome
-
-abbrev pub TrialOutcome : Source → (seed size : ℕ) → Outcome → Type 0
-TrialOutcome source seed size outcome = OutcomeOf source (Trial seed size) outcome
 
 -- The files that a command reads: those of the package, where it tells them, and for a trial those that it makes.
 abbrev pub read_by : Command → Option Files → Option Files
