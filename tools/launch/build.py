@@ -77,7 +77,7 @@ class Build:
         os.makedirs(os.path.dirname(self.log), exist_ok=True)
         with open(self.log, "wb"):
             pass
-        self.proof = Proof(self.top, self.log, say, self.made.toolchain)
+        self.proof = Proof(self.top, self.log, say)
         self.proof.read()
         self.places = places()
         self.trial = Trial()

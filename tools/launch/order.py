@@ -16,16 +16,12 @@ def name_of(line):
     return found and found.group(1)
 
 
-def named(text):
-    """The crates of a crates.txt in its order, each with the libraries that its line names."""
-    return {name_of(line): line.partition(":")[2].split() for line in text.splitlines() if name_of(line)}
-
-
 def uses(text):
-    """The same, each with those of the crates before it that it stands on."""
+    """The crates of a crates.txt in its order, each with those of them that it stands on."""
     found = {}
-    for name, of in named(text).items():
-        found[name] = [it for it in of if it in found]
+    for line in text.splitlines():
+        if name_of(line):
+            found[name_of(line)] = [it for it in line.partition(":")[2].split() if it in found]
     return found
 
 

@@ -1,16 +1,15 @@
-"""The proof of the crates, several at a time, each on the processors that are free.
+"""The proof of the crates: each in a copy of its own, so that several are proved at a time and each on the processors that are free.
 
-What a crate's proof leaves is a library of its statements: a crate above loads what it can cite, and no proof again. The libraries lie
-in the checkout, each with a note of what it was proved of; a call that was interrupted or killed is gone on with there.
+The toolchain locks a crate and all below it while it works on one, so two crates of one folder would wait for each other. What
+was proved lies in the checkout before and after, and in the copies meanwhile; a call that was killed is gone on with there.
 """
 import contextlib
 import errno
 import fcntl
 import hashlib
 import os
+import re
 import shutil
-import signal
-import subprocess
 import tempfile
 
 import compiled
@@ -18,15 +17,43 @@ import kept
 import order
 import times
 from children import Child, end_inside
-from kit import PROGRAM, Kit, kit
+
+PROGRAM = "boardnet"
+# What a check keeps of a crate, in its folder out.
+PARTS = ("incremental", "rlib")
 
 
 class Failed(Exception):
-    """A crate that is not proved, or a program that was not built."""
+    """A crate that is not proved, or was not built."""
+
+
+def link_tree(one, other):
+    """Gives the files of a folder second names in another, or copies of them; the toolchain replaces such files and changes none."""
+    shutil.copytree(one, other, copy_function=link_or_copy)
+
+
+def link_or_copy(one, other):
+    try:
+        os.link(one, other)
+    except OSError:
+        shutil.copyfile(one, other)
+
+
+@contextlib.contextmanager
+def turn(folder):
+    """Whether no command of the toolchain works in a crate's folder; none begins meanwhile."""
+    handle, is_free = os.open(folder, os.O_RDONLY), False
+    try:
+        with contextlib.suppress(OSError):
+            fcntl.flock(handle, fcntl.LOCK_EX | fcntl.LOCK_NB)
+            is_free = True
+        yield is_free
+    finally:
+        os.close(handle)
 
 
 class Room:
-    """A place for a copy of the sources, one for each checkout; another call for the same checkout waits until it is free."""
+    """A place for the copies, one for each checkout; another call for the same checkout waits until it is free."""
 
     def __init__(self, top, says):
         name = "boardnet-proof-" + hashlib.sha256(os.path.realpath(top).encode("utf-8", "surrogateescape")).hexdigest()[:16]
@@ -39,7 +66,7 @@ class Room:
             fcntl.flock(self.handle, fcntl.LOCK_EX)
         os.makedirs(self.at, 0o700, exist_ok=True)
         if os.stat(self.at).st_uid != os.geteuid():
-            # What lies there is proved.
+            # What lies there counts as proved.
             raise PermissionError(errno.EPERM, "it belongs to another user", self.at)
 
     def remove(self):
@@ -57,99 +84,100 @@ def base():
 class Proof:
     """`step` notes what ended and begins what can begin; `left` has the crates that are not proved yet."""
 
-    def __init__(self, top, log, says, toolchain):
-        self.log, self.toolchain = log, toolchain
+    def __init__(self, top, log, says):
+        self.top, self.log = top, log
         self.room = Room(top, says)
         self.sources = os.path.join(self.room.at, "sources")
-        self.kit = Kit(kit(), os.path.join(os.path.dirname(kept.program_of(os.path.abspath(top))), "rlib"))
-        self.top, self.uses, self.below, self.left, self.running = top, {}, {}, [], {}
+        self.below, self.lines, self.left, self.running = {}, {}, [], {}
 
     def read(self):
-        """Copies the sources, and reads what stands on what and what is proved already."""
+        """Copies the sources and reads what stands on what."""
         shutil.rmtree(self.sources, ignore_errors=True)
         kept.copy_sources(self.top, self.sources)
         with open(os.path.join(self.sources, "crates.txt"), encoding="utf-8") as file:
             text = file.read()
         self.below = order.wanted(order.below(order.uses(text)), PROGRAM)
-        self.uses = order.named(text)
+        self.lines = {order.name_of(line): line + "\n" for line in text.splitlines()}
         self.work = times.work({name: self.size(name) for name in self.below}, times.read())
         self.chain = order.chains(self.below, self.work)
-        os.makedirs(self.kit.libraries, exist_ok=True)
-        for name in self.below:
-            if name == PROGRAM or self.below[name] & set(self.left) or not self.is_noted(name):
-                self.left.append(name)
-
-    def files(self, name):
-        """The files of a crate's sources."""
-        return sorted(os.path.join(at, it) for at, _, files in os.walk(self.crate(name)) for it in files)
+        self.left = list(self.below)
 
     def size(self, name):
         """The bytes of a crate's sources: the work of a proof grows about with them, where it is not noted."""
-        return sum(map(os.path.getsize, self.files(name)))
+        crate = os.path.join(self.sources, "crates", name)
+        return sum(os.path.getsize(os.path.join(at, it)) for at, _, files in os.walk(crate) for it in files)
 
-    def crate(self, name):
-        return os.path.join(self.sources, "crates", name)
+    def crate(self, name, of=None):
+        """A crate's folder in the copy that is made for a crate, itself or one above it."""
+        return os.path.join(self.room.at, of or name, "crates", name)
 
-    def note_of(self, name):
-        """What a library is noted with: the sums of what it was proved of, and of itself. A library's file `format` has a sum of all its files."""
-        parts = [self.toolchain, *self.uses[name]]
-        parts += [it for path in self.files(name) for it in (os.path.relpath(path, self.sources), kept.sum_of_file(path))]
-        parts += [kept.sum_of_file(os.path.join(self.kit.library(it), "format")) for it in [*sorted(self.below[name]), name]]
-        return hashlib.sha256("\n".join(parts).encode("utf-8", "surrogateescape")).hexdigest()
+    def lay_out(self, name):
+        """Makes the copy for a crate: its sources and those below, what is built of these, and what was kept of its own proof."""
+        root = os.path.join(self.room.at, name)
+        own = os.path.join(self.crate(name), "out")
+        if not os.path.isdir(own):
+            shutil.rmtree(root, ignore_errors=True)
+            os.makedirs(own)
+        os.makedirs(root, exist_ok=True)
+        with open(os.path.join(root, "crates.txt"), "w", encoding="utf-8") as file:
+            file.writelines(self.lines[it] for it in self.below if it in self.below[name] or it == name)
+        for it in [*self.below[name], name]:
+            for part in sorted(os.listdir(os.path.join(self.sources, "crates", it))):
+                shutil.rmtree(os.path.join(self.crate(it, name), part), ignore_errors=True)
+                link_tree(os.path.join(self.sources, "crates", it, part), os.path.join(self.crate(it, name), part))
+            if it != name:
+                shutil.rmtree(os.path.join(self.crate(it, name), "out"), ignore_errors=True)
+                link_tree(os.path.join(self.crate(it), "out", "rlib"), os.path.join(self.crate(it, name), "out", "rlib"))
+        self.move(name, os.path.join(self.top, "crates", name), self.crate(name))
 
-    def note(self, name):
-        return os.path.join(self.kit.libraries, name + ".note")
-
-    def is_noted(self, name):
-        with contextlib.suppress(OSError), open(self.note(name), encoding="ascii") as file:
-            return file.read() == self.note_of(name)
-        return False
+    def move(self, name, one, other):
+        """Moves what was kept of a crate's proof, in place of what is there; not while the toolchain works on it in the checkout."""
+        with turn(os.path.join(self.top, "crates", name)) as is_free:
+            for part in PARTS if is_free else ():
+                source, target = (os.path.join(it, "out", part) for it in (one, other))
+                if os.path.isdir(source):
+                    os.makedirs(os.path.dirname(target), exist_ok=True)
+                    shutil.rmtree(target, ignore_errors=True)
+                    shutil.move(source, target)
 
     def begin(self, name, jobs):
-        with contextlib.suppress(FileNotFoundError):
-            os.remove(self.note(name))
-        words = self.kit.proof(name, self.uses[name], self.below, jobs)
+        self.lay_out(name)
+        words = ["rt", "run" if name == PROGRAM else "lib", "--jobs", str(jobs)]
         self.running[name] = jobs, Child(words, self.crate(name), self.said(name))
 
     def said(self, name):
-        return os.path.join(self.room.at, name)
+        return os.path.join(self.room.at, name, "said")
 
     def step(self, places):
         """Notes which crates are proved since, and begins what can begin with so many jobs in all."""
         for name in [name for name, (_, child) in self.running.items() if child.status() is not None]:
-            self.ended(name, *self.running.pop(name))
+            self.ended(name)
         ready = [name for name in self.left if name not in self.running and not self.below[name] & set(self.left)]
         running = {name: jobs for name, (jobs, _) in self.running.items()}
         for name, jobs in order.chosen(ready, self.chain, running, places).items():
             self.begin(name, jobs)
 
-    def ended(self, name, jobs, child):
-        """Logs what a crate's proof said, and notes its library, which the toolchain writes of a proved crate alone."""
-        with open(self.log, "ab") as log, open(self.said(name), "rb") as said:
-            log.write(times.head(name, child.seconds).encode())
-            shutil.copyfileobj(said, log)
-        if child.status() == -signal.SIGKILL and jobs > 1:
-            # Most likely for want of memory.
-            self.begin(name, 1)
-            return
-        if child.status() != 0:
+    def ended(self, name):
+        """Notes what a crate's check said; a crate is proved where its library was built, and the program where it was run."""
+        child = self.running.pop(name)[1]
+        with open(self.said(name), "rb") as file:
+            said = file.read()
+        with open(self.log, "ab") as log:
+            log.write(times.head(name, child.seconds).encode() + said)
+        if not (re.search(rb"(?m)^rt: running out/boardnet", said) if name == PROGRAM else child.status() == 0):
             raise Failed
-        if name != PROGRAM:
-            kept.write_whole(self.note(name), self.note_of(name).encode("ascii"), 0o644)
         self.left.remove(name)
 
     def program(self):
-        """Links the program, and says where it lies."""
-        linked = os.path.join(self.room.at, "program")
-        with open(self.log, "ab") as log:
-            if subprocess.run(self.kit.link(linked), stdin=subprocess.DEVNULL, stdout=log, stderr=subprocess.STDOUT).returncode:
-                raise Failed
-        os.remove(self.kit.made(PROGRAM))
-        return linked
+        return os.path.join(self.crate(PROGRAM), "out", PROGRAM)
 
     def end(self):
-        """Ends the proofs that run, and leaves nothing behind but the libraries."""
+        """Ends the checks that run, gives the checkout what they kept, and leaves nothing behind."""
         for _, child in self.running.values():
             child.end()
         end_inside(self.room.at)
+        for name in self.below:
+            # What cannot be given back is proved again.
+            with contextlib.suppress(OSError, shutil.Error):
+                self.move(name, self.crate(name), os.path.join(self.top, "crates", name))
         self.room.remove()
