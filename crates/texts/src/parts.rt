@@ -78,7 +78,8 @@ fn are_digits(bytes: &[u8; STRIDE]) -> bool
     all
 }
 
-/// How many digits stand in front. Coordinates have about as many as are looked at at once.
+/// How many digits stand in front. Coordinates have about as many as are looked at at once. It is inlined, as a step of a loop over words.
+#[inline(always)]
 pub fn digits_len(text: &[u8]) -> usize
     ensures value { result ≡ prefix_len is_decimal_digit text.now }
     ensures within { result ≤ length text.now }

@@ -92,16 +92,18 @@ fn put_few(text: &mut Vec<u8>, byte: u8, n: u64) -> Result<(), AllocError>
         return put_two(text, byte, few);
     }
     let hundreds = few / 100;
-    let (tens, ones) = pair(few % 100);
     if few >= 10_000 {
         let first = b'0' + (hundreds / 100) as u8;
         let (second, third) = pair(hundreds % 100);
+        let (tens, ones) = pair(few % 100);
         return put(text, &[byte, first, second, third, tens, ones]);
     }
     if few >= 1_000 {
         let (first, second) = pair(hundreds);
+        let (tens, ones) = pair(few % 100);
         return put(text, &[byte, first, second, tens, ones]);
     }
+    let (tens, ones) = pair(few % 100);
     put(text, &[byte, b'0' + hundreds as u8, tens, ones])
 }
 
