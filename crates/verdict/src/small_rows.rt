@@ -1,6 +1,7 @@
 //! Lists most of which have one item at most.
 ghost use Rattle.std.specs.Mem.{FitsInMemory};
-ghost use Rattle.std.specs.Prelude.{◌≡◌, List, [], ◌∷◌, ◌++◌, length, All, IfOk, OnOk};
+ghost use Rattle.std.specs.Prelude.{◌≡◌, ◌≢◌, ◌<◌, true, List, [], ◌∷◌, ◌++◌, length, All, IfOk, OnOk, OnErr};
+ghost use Rattle.verdict.specs.Stored.{is_many, stored_items};
 
 use lengths::rows::{NoMemory, Rows};
 use std::alloc::Global;
@@ -19,6 +20,7 @@ enum Stored<T> {
 #[derive(Drop)]
 pub struct SmallRows<T> {
     stored: Stored<T>,
+    ghost some: { is_many stored ≡ true → 0 < length (stored_items stored) },
 }
 
 impl<T> Model for SmallRows<T> {
@@ -54,9 +56,11 @@ impl<T> SmallRows<T> {
 }
 
 impl<T: Copy> SmallRows<T> {
-    /// Appends an item. `NoMemory` where memory is wanted.
+    /// Appends an item. Where memory is wanted, never for the first item, the list stays as it was.
     pub fn push(&mut self, alloc: Global, item: T) -> Result<(), NoMemory>
-        ensures { OnOk result (self.new ≡ self.old ++ item ∷ []) }
+        ensures ok { OnOk result (self.new ≡ self.old ++ item ∷ []) }
+        ensures err { OnErr result (self.new ≡ self.old) }
+        ensures first { OnErr result (self.old ≢ []) }
     {
         match &mut self.stored {
             Stored::Nothing => {

@@ -10,6 +10,6 @@ returns-in_ok-push-clause-seated c = (
   get_or-set_same c.args.groups.now c.args.name c.push.new.self [] c.requires.name ∙
       seat_put (seats_at c.args.groups.now c.args.name) c.push.new.self c.args.seat c.requires.further
       (told_new _ _ _ c.in_ok-first.ensures.added c.if-first.true (c.requires.agree c.args.name c.args.seat.net))
-      (c.in_ok-push.ensures ∙ ap (λ (xs : List Seat). xs ++ c.args.seat ∷ []) (get_or_default c.args.groups.now c.args.name c.index-groups-name.result [] c.requires.name)),
+      (c.in_ok-push.ensures.ok ∙ ap (λ (xs : List Seat). xs ++ c.args.seat ∷ []) (get_or_default c.args.groups.now c.args.name c.index-groups-name.result [] c.requires.name)),
   λ other off. get_or-set_other c.args.groups.now c.args.name other c.push.new.self [] off,
 )
