@@ -15,7 +15,7 @@ ROWS = re.compile(r"\((\d[\d_]*), \((\d[\d_]*), (\d[\d_]*)\)\)")
 
 
 def sums(x):
-    """Cosine and sine of a number from 0 to 1, less than `NEAR` off: what is left out of either is less than the term after it."""
+    """Cosine and sine of a number from 0 to 2, less than `NEAR` off: what is left out of either is less than the term after it."""
     parts, term, k = [decimal.Decimal(0), decimal.Decimal(0)], decimal.Decimal(1), 0
     while term > NEAR / 1000:
         parts[k % 2] = (DIGITS.add if k % 4 < 2 else DIGITS.subtract)(parts[k % 2], term)
@@ -27,6 +27,7 @@ def sums(x):
 def angles():
     yield from range(0, cones.RIGHT_ANGLE, cones.DEGREE // 4)
     yield from range(1, 1000)
+    yield from (4 * cones.RIGHT_ANGLE // corners for corners in range(3, 13))
     yield from range(cones.RIGHT_ANGLE - 1000, cones.RIGHT_ANGLE)
     known = random.Random(63)
     yield from (known.randrange(cones.RIGHT_ANGLE) for _ in range(10_000))
@@ -41,11 +42,13 @@ def rows():
 
 class Cones(unittest.TestCase):
     def test_whole_numbers_are_less_than_one_off(self):
+        """So they are of each angle that is less than a part more: cosine and sine of half of it lie between these."""
         for angle in angles():
-            half = DIGITS.divide(DIGITS.multiply(angle, PI), 360 * cones.DEGREE)
-            for whole, exact in zip(cones.way_of(angle), sums(half)):
-                off = abs(DIGITS.subtract(whole, DIGITS.multiply(cones.RADIUS, exact)))
-                self.assertLess(off + cones.RADIUS * NEAR, decimal.Decimal("0.51"), angle)
+            for more, least in (0, "0.51"), (1, "0.6"):
+                half = DIGITS.divide(DIGITS.multiply(angle + more, PI), 360 * cones.DEGREE)
+                for whole, exact in zip(cones.way_of(angle), sums(half)):
+                    off = abs(DIGITS.subtract(whole, DIGITS.multiply(cones.RADIUS, exact)))
+                    self.assertLess(off + cones.RADIUS * NEAR, decimal.Decimal(least), angle)
 
     def test_sums_are_those_of_right_angles(self):
         cosine, sine = sums(DIGITS.divide(PI, 4))

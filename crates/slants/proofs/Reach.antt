@@ -1,5 +1,5 @@
 -- How far a regular polygon reaches: no bits are lost.
-use Rattle.std.proofs.Common.{◌≡◌, ℕ, ◌+◌, ◌-◌, ◌*◌, ◌/◌, ◌%◌, ◌==◌, ◌≤◌, ◌<◌, ◌⊎◌, inl, inr, Bool, true, false, cond, ℤ, pos, neg_ℤ, ◌+ℤ◌, ◌≤ℤ◌, unsigned_abs, FitsSigned, to_z, of_z, to_z-of_z, w64, refl, sym, subst, arith}
+use Rattle.std.proofs.Common.{◌≡◌, ℕ, ◌+◌, ◌-◌, ◌*◌, ◌/◌, ◌%◌, ◌==◌, ◌≤◌, ◌<◌, ◌⊎◌, inl, inr, Bool, true, false, cond, ℤ, neg_ℤ, ◌+ℤ◌, unsigned_abs, FitsSigned, to_z, of_z, to_z-of_z, w64, refl, sym, subst, arith}
 use Rattle.std.proofs.lemmas.Int.{ints}
 use Rattle.std.proofs.lemmas.Nat.{div_below, mul-le}
 use Rattle.planar.specs.Plane.{IsPlaced, IsWithin}
@@ -8,14 +8,8 @@ use Rattle.slants.specs.Polygons.{IsRegular, place_of, quartered, reach_of}
 use Rattle.slants.specs.Turned.{AreReady, back_of}
 use Rattle.slants.specs.declared.cones.TheConstants.{RADIUS}
 use Rattle.slants.specs.declared.polygons.RegularPolygon.{RegularPolygon}
-use Rattle.slants.specs.declared.polygons.TheConstants.{HALF_TURN, PARTS}
+use Rattle.slants.specs.declared.polygons.TheConstants.{PARTS}
 use Rattle.slants.specs.declared.turns.Motions.{Motions}
-
-pub half_step_small : (n : ℕ) → 5 ≤ n → HALF_TURN / n ≤ 360000000
-half_step_small n h = let k : HALF_TURN / n < 360000001 = div_below HALF_TURN n 360000001 (omega (arith, h)) (omega (arith, h)) in omega (arith, k)
-
-pub steps_small : (h s : ℕ) → h ≤ 24 → s ≤ 360000000 → h * s ≤ 8640000000
-steps_small h s few small = mul-le h s 24 360000000 few small
 
 pub inner_small : (d w : ℕ) → w ≤ RADIUS → d * w / (2 * PARTS * RADIUS) ≤ (d + (2 * PARTS - 1)) / (2 * PARTS)
 inner_small d w h =

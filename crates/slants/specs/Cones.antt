@@ -1,6 +1,6 @@
 -- Turns by about an angle, told by whole numbers, and the copper of a figure that is turned by it.
 -- Source, cited as docs/FORMATS.md says: Gerber Layer Format Specification, 4.5.1 (each primitive is rotated counterclockwise about the origin of the macro, by degrees)
--- Trusted, and compared with sums of 60 digits by tools/tests/test_cones.py: `cosine` and `sine` are less than 1 off RADIUS times those of half the angle
+-- Trusted, and compared with sums of 60 digits by tools/tests/test_cones.py: `cosine` and `sine` are less than 1 off RADIUS times those of half the angle, and of half of each that is less than a part more
 use Rattle.std.specs.Prelude.{ℕ, ◌+◌, ◌-◌, ◌*◌, ◌/◌, ◌<◌, pos, ◌+ℤ◌, ◌-ℤ◌, List}
 use Rattle.planar.specs.Plane.{Point}
 use Rattle.planar.specs.declared.Spot.{Spot}

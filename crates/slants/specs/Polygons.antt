@@ -1,7 +1,7 @@
 -- Regular polygons in any direction, and their copper.
 -- Source, cited as docs/FORMATS.md says: Gerber Layer Format Specification, 4.4.5 and 4.5.1 (polygon, code 5: its corners are on a circle, the first in the direction of the x axis from the middle, before the rotation, which is counterclockwise)
 -- Trusted beside specs/Cones: the middles of the edges lie from the middle as far as half the diameter, times the cosine of half the angle from a corner to the next
-use Rattle.std.specs.Prelude.{ℕ, ◌+◌, ◌-◌, ◌*◌, ◌/◌, ◌%◌, ◌==◌, ◌≤◌, ◌<◌, if◌then◌else◌, pos, neg_ℤ, unsigned_abs, ◌+ℤ◌, ◌≤ℤ◌, ◌≡◌, List, All}
+use Rattle.std.specs.Prelude.{ℕ, ◌+◌, ◌-◌, ◌*◌, ◌/◌, ◌%◌, ◌==◌, ◌≤◌, ◌<◌, if◌then◌else◌, pos, neg_ℤ, unsigned_abs, ◌+ℤ◌, ◌≤ℤ◌, List, All}
 use Rattle.planar.specs.Plane.{IsPlaced, Point}
 use Rattle.planar.specs.declared.Spot.{Spot}
 use Rattle.planar.specs.declared.TheConstants.{METRE}
@@ -16,15 +16,15 @@ use Rattle.slants.specs.declared.polygons.TheConstants.{HALF_TURN, PARTS}
 use Rattle.slants.specs.declared.turns.Motions.{Motions}
 use Rattle.slants.specs.declared.turns.Turn.{Turn}
 
--- ---- directions
+-- ---- directions, in parts of 10^-7 degrees: what is no whole one is rounded down
 
--- half the angle from a corner to the next, in parts of 10^-7 degrees
-abbrev pub half_step_of : RegularPolygon → ℕ
-half_step_of g = HALF_TURN / g.corners
+-- the angle from a corner to the next
+abbrev pub step_of : RegularPolygon → ℕ
+step_of g = 2 * HALF_TURN / g.corners
 
--- the direction so many of these on from corner 0: 2 k leads to corner k, and 2 k + 1 to the middle of edge k, which goes from there to the next
+-- the direction so many halves of it on from corner 0: 2 k leads to corner k, and 2 k + 1 to the middle of edge k, which goes from there to the next
 abbrev pub direction_of : RegularPolygon → ℕ → ℕ
-direction_of g h = g.angle + h * half_step_of g
+direction_of g h = g.angle + h * HALF_TURN / g.corners
 
 -- turned counterclockwise about 0 by so many right angles
 unfoldable pub quartered : ℕ → Spot → Spot
@@ -49,7 +49,7 @@ reach_of g = (g.diameter + (2 * PARTS - 1)) / (2 * PARTS)
 
 -- times the cosine of half a step, rounded down: `cosine` is of half an angle, times RADIUS, and less than 1 off
 abbrev pub inner_of : RegularPolygon → ℕ
-inner_of g = g.diameter * (cosine (2 * half_step_of g) - 1) / (2 * PARTS * RADIUS)
+inner_of g = g.diameter * (cosine (step_of g) - 1) / (2 * PARTS * RADIUS)
 
 abbrev pub corner_of : RegularPolygon → ℕ → Spot
 corner_of g k = place_of g (2 * k) (record { x = pos (reach_of g); y = pos 0 })
@@ -87,11 +87,10 @@ pub record IsPolygonCopper (g : RegularPolygon) (holds : Point → Type 0) : Typ
 
 -- ---- which contours are taken
 
--- from 5 to 12 corners, but for 7 and 11, whose directions are no whole parts; the circle of its corners lies within a metre of 0
+-- from 3 to 12 corners (4.5.1.7), and the circle through them lies within a metre of 0
 pub record IsRegular (g : RegularPolygon) : Type 0 where
-  pub enough : 5 ≤ g.corners
+  pub enough : 3 ≤ g.corners
   pub few : g.corners ≤ 12
-  pub whole : HALF_TURN % g.corners ≡ 0
   pub across : unsigned_abs g.centre.x + reach_of g < METRE
   pub up : unsigned_abs g.centre.y + reach_of g < METRE
 

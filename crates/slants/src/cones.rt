@@ -17,6 +17,9 @@ pub const DEGREE: u128 = 10_000_000;
 /// A right angle, in those.
 pub const RIGHT_ANGLE: u32 = 900_000_000;
 
+/// A third of a turn.
+pub const THIRD: u32 = 1_200_000_000;
+
 /// Cosines, sines and radians are reckoned in parts of so much.
 pub const ONE: u128 = 1_000_000_000_000_000_000;
 
@@ -28,28 +31,38 @@ pub const RADIUS: u128 = MOST_PART as u128 - 1;
 
 /// Half the angle, in radians.
 fn half(angle: u32) -> u128
-    requires { angle < RIGHT_ANGLE }
+    requires { angle ≤ THIRD }
     ensures value { result ≡ half_of angle }
-    ensures small { result ≤ ONE }
+    ensures small { result ≤ 1_100_000_000_000_000_000 }
+    ensures acute { angle < RIGHT_ANGLE → result ≤ ONE }
 {
     angle as u128 * PI / (360 * DEGREE)
 }
 
-/// The product of two numbers up to 1.
+/// Its square.
+fn square(half: u128) -> u128
+    requires { half ≤ 1_100_000_000_000_000_000 }
+    ensures value { result ≡ square_of half }
+    ensures small { result ≤ 2 * ONE }
+{
+    half * half / ONE
+}
+
+/// The product of a number up to 2 and one up to 1.
 fn product(a: u128, b: u128) -> u128
-    requires a_small { a ≤ ONE }
+    requires a_small { a ≤ 2 * ONE }
     requires b_small { b ≤ ONE }
     ensures value { result ≡ a * b / ONE }
-    ensures small { result ≤ ONE }
+    ensures small { result ≤ a }
 {
     a * b / ONE
 }
 
 /// 1 - `t` `z` / `k`.
 fn less(t: u128, k: u128, z: u128) -> u128
-    requires t_small { t ≤ ONE }
+    requires t_small { t ≤ 2 * ONE }
     requires z_small { z ≤ ONE }
-    requires some { 1 ≤ k }
+    requires some { 2 ≤ k }
     ensures value { result ≡ lessened t k z }
     ensures small { result ≤ ONE }
 {
@@ -59,7 +72,7 @@ fn less(t: u128, k: u128, z: u128) -> u128
 /// The cosine, by the square of what it is of.
 #[tactic(auto, unfolding(crate::specs::Cones::cosine_by))]
 fn cosine(t: u128) -> u128
-    requires { t ≤ ONE }
+    requires { t ≤ 2 * ONE }
     ensures value { result ≡ cosine_by t }
     ensures small { result ≤ ONE }
 {
@@ -70,7 +83,7 @@ fn cosine(t: u128) -> u128
 /// The sine without its first factor, so too.
 #[tactic(auto, unfolding(crate::specs::Cones::sine_by))]
 fn sine(t: u128) -> u128
-    requires { t ≤ ONE }
+    requires { t ≤ 2 * ONE }
     ensures value { result ≡ sine_by t }
     ensures small { result ≤ ONE }
 {
@@ -87,7 +100,17 @@ fn scale(z: u128) -> u32
     ((z * RADIUS + ONE / 2) / ONE) as u32
 }
 
-/// Cosine and sine of half the angle, times `RADIUS`.
+/// The cosine of half the angle, times `RADIUS`.
+#[tactic(auto, unfolding(crate::specs::Cones::cosine))]
+pub fn cosine_of_half(angle: u32) -> u32
+    requires { angle ≤ THIRD }
+    ensures value { result ≡ spec.cosine angle }
+    ensures small { result ≤ RADIUS }
+{
+    scale(cosine(square(half(angle))))
+}
+
+/// That and the sine, for an angle below a right one.
 #[tactic(auto, unfolding(crate::specs::Cones::cosine, crate::specs::Cones::sine))]
 pub fn place(angle: u32) -> (u32, u32)
     requires { angle < RIGHT_ANGLE }
@@ -97,7 +120,7 @@ pub fn place(angle: u32) -> (u32, u32)
     ensures up_small { result.1 ≤ RADIUS }
 {
     let half = half(angle);
-    let square = product(half, half);
+    let square = square(half);
     (scale(cosine(square)), scale(product(half, sine(square))))
 }
 

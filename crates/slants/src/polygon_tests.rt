@@ -16,7 +16,23 @@ fn standing(r: u32, s: u32) -> [i64; 16] {
     [r, 0, s, s, 0, r, -s, s, -r, 0, -s, -s, 0, -r, s, -s]
 }
 
-fn rows() -> [Row; 14] {
+/// A corner on the x axis, and two behind it.
+fn triangle(x: u32, back: u32, y: u32) -> [i64; 16] {
+    let (x, back, y) = (x as i64, back as i64, y as i64);
+    [
+        x, 0, x, 0, -back, y, -back, y, -back, y, -back, -y, -back, -y, -back, -y,
+    ]
+}
+
+/// A corner on the x axis, twice, and three on each side of it.
+fn heptagon(x: u32, first: (u32, u32), second: (u32, u32), third: (u32, u32)) -> [i64; 16] {
+    let (x, p, q) = (x as i64, first.0 as i64, first.1 as i64);
+    let (v, w) = (second.0 as i64, second.1 as i64);
+    let (s, t) = (third.0 as i64, third.1 as i64);
+    [x, 0, p, q, -v, w, -s, t, -s, -t, -v, -w, p, -q, x, 0]
+}
+
+fn rows() -> [Row; 27] {
     [
         // corners are on the axes: at 500, and 354 by 354; edges are 461 u off
         (8, 0, 0, standing(501, 354), (false, true)),
@@ -33,8 +49,43 @@ fn rows() -> [Row; 14] {
         (8, 1_125_000_000, 0, octagon(462, 192), (false, true)),
         (8, 1_125_000_000, 0, octagon(460, 190), (true, false)),
         (8, 1_135_000_000, 0, octagon(462, 192), (false, false)),
-        // other corners, or another middle
-        (7, 0, 0, standing(1000, 1000), (false, false)),
+        // edges of triangles are half as far off as corners: 250
+        (3, 0, 0, triangle(502, 251, 434), (false, true)),
+        (3, 0, 0, triangle(500, 250, 433), (false, false)),
+        (3, 0, 0, triangle(496, 248, 430), (true, false)),
+        (3, 0, 0, triangle(499, 248, 430), (false, false)),
+        // of squares 353.6
+        (4, 450_000_000, 0, standing(354, 354), (false, true)),
+        (4, 450_000_000, 0, standing(353, 353), (false, false)),
+        (4, 450_000_000, 0, standing(352, 352), (true, false)),
+        // corners of seven at 311.7 by 390.9, -111.3 by 487.5, -450.5 by 216.9
+        (
+            7,
+            0,
+            0,
+            heptagon(502, (313, 392), (112, 489), (452, 218)),
+            (false, true),
+        ),
+        (
+            7,
+            0,
+            0,
+            heptagon(500, (312, 391), (111, 487), (450, 217)),
+            (false, false),
+        ),
+        (
+            7,
+            0,
+            0,
+            heptagon(497, (310, 389), (111, 485), (448, 216)),
+            (true, false),
+        ),
+        // the edges of eleven are 479.7 u off
+        (11, 0, 0, standing(542, 383), (false, true)),
+        (11, 0, 0, standing(478, 338), (true, false)),
+        // too few corners, too many, or another middle
+        (2, 0, 0, standing(10, 10), (false, false)),
+        (13, 0, 0, standing(1000, 1000), (false, false)),
         (8, 0, 5, standing(501, 354), (false, false)),
     ]
 }

@@ -3,12 +3,12 @@ ghost use Rattle.board_shapes.specs.Figures.{InFigure, filled};
 ghost use Rattle.planar.specs.Plane.{IsPlaced, IsReached, IsWithin, Point};
 ghost use Rattle.planar.specs.declared.TheConstants.{METRE};
 ghost use Rattle.slants.specs.Polygons as spec;
-ghost use Rattle.slants.specs.Polygons.{CornersLean, EdgeHolds, IsRegular, PolygonAbove, PolygonBelow, PossiblyInPolygon, SurelyInPolygon, corner_of, direction_of, edge_end, edge_start, half_step_of, inner_of, place_of, reach_of};
+ghost use Rattle.slants.specs.Polygons.{CornersLean, EdgeHolds, IsRegular, PolygonAbove, PolygonBelow, PossiblyInPolygon, SurelyInPolygon, corner_of, direction_of, edge_end, edge_start, inner_of, place_of, reach_of, step_of};
 ghost use Rattle.slants.specs.Rounds.{EachEdge, EachFrom, GoesRound, on_way};
 ghost use Rattle.slants.specs.Turned.{AreReady, Leans};
-ghost use Rattle.std.specs.Prelude.{All, IsTrue, ℕ, unsigned_abs, ◌%◌, ◌*◌, ◌+◌, ◌<◌, ◌≡◌, ◌≤◌, ◌↔◌};
+ghost use Rattle.std.specs.Prelude.{All, IsTrue, ℕ, unsigned_abs, ◌*◌, ◌+◌, ◌/◌, ◌<◌, ◌≡◌, ◌≤◌, ◌↔◌};
 
-use super::cones::{RADIUS, RIGHT_ANGLE, place, turns};
+use super::cones::{RADIUS, RIGHT_ANGLE, cosine_of_half, turns};
 use super::contours::{goes_once, is_closed};
 use super::turned::{all_lean, leans};
 use super::turns::{Motions, back, triangle_of};
@@ -25,7 +25,7 @@ pub const PARTS: u128 = 10_000;
 pub struct RegularPolygon {
     /// Its middle, in u.
     pub centre: Spot,
-    /// How many corners it has: 5, 6, 8, 9, 10 or 12.
+    /// How many corners it has: from 3 to 12.
     pub corners: u32,
     /// The diameter of the circle through them, in parts of which a u has `PARTS`.
     pub diameter: u64,
@@ -33,22 +33,32 @@ pub struct RegularPolygon {
     pub angle: u32,
 }
 
-/// Half the angle from a corner to the next, in 10^-7 degrees.
-fn half_step(g: &RegularPolygon) -> u32
-    requires { 5 ≤ g.now.corners }
-    ensures value { result ≡ half_step_of g.now }
-    ensures small { result ≤ 360_000_000 }
+/// The angle from a corner to the next, in 10^-7 degrees, rounded down.
+fn step(g: &RegularPolygon) -> u32
+    requires { 3 ≤ g.now.corners }
+    ensures value { result ≡ step_of g.now }
+    ensures small { result ≤ 1_200_000_000 }
 {
-    HALF_TURN / g.corners
+    2 * HALF_TURN / g.corners
+}
+
+/// So many halves of it, rounded down.
+fn steps(g: &RegularPolygon, h: u32) -> u64
+    requires enough { 3 ≤ g.now.corners }
+    requires few { h ≤ 24 }
+    ensures value { result ≡ h * HALF_TURN / g.now.corners }
+    ensures small { result ≤ 43_200_000_000 }
+{
+    h as u64 * HALF_TURN as u64 / g.corners as u64
 }
 
 /// The direction so many of these on from the first corner.
 fn direction(g: &RegularPolygon, h: u32) -> u64
-    requires enough { 5 ≤ g.now.corners }
+    requires enough { 3 ≤ g.now.corners }
     requires few { h ≤ 24 }
     ensures { result ≡ direction_of g.now h }
 {
-    g.angle as u64 + h as u64 * half_step(g) as u64
+    g.angle as u64 + steps(g, h)
 }
 
 /// The spot, turned counterclockwise about 0 by so many right angles.
@@ -101,11 +111,11 @@ fn reach(g: &RegularPolygon) -> u64
 
 /// How far the edges are from the middle, in u, rounded down.
 fn inner(g: &RegularPolygon) -> u64
-    requires { 5 ≤ g.now.corners }
+    requires { 3 ≤ g.now.corners }
     ensures value { result ≡ inner_of g.now }
     ensures small { result ≤ reach_of g.now }
 {
-    let (across, _) = place(2 * half_step(g));
+    let across = cosine_of_half(step(g));
     let less = across.saturating_sub(1) as u128;
     (g.diameter as u128 * less / (2 * PARTS * RADIUS)) as u64
 }
@@ -139,11 +149,11 @@ fn edge(g: &RegularPolygon, k: u32) -> (Spot, Spot)
     (start, end)
 }
 
-/// Whether directions to so many corners are whole.
-fn are_whole(corners: u32) -> bool
-    ensures { IsTrue result ↔ ((5 ≤ corners) × (corners ≤ 12) × (HALF_TURN % corners ≡ 0)) }
+/// Whether these are as many corners as a polygon has.
+fn is_lawful(corners: u32) -> bool
+    ensures { IsTrue result ↔ ((3 ≤ corners) × (corners ≤ 12)) }
 {
-    5 <= corners && corners <= 12 && HALF_TURN % corners == 0
+    3 <= corners && corners <= 12
 }
 
 /// Whether what reaches so far from there stays in a metre.
@@ -159,7 +169,7 @@ fn is_regular(g: &RegularPolygon) -> bool
     ensures { IsTrue result ↔ IsRegular g.now }
 {
     let room = has_room(g.centre.x, reach(g)) && has_room(g.centre.y, reach(g));
-    are_whole(g.corners) && room
+    is_lawful(g.corners) && room
 }
 
 /// Whether corner `k` is on the left of the line from `b` to `c`, where it goes to for the three headings.
