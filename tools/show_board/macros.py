@@ -127,7 +127,7 @@ COUNTS = {1: (5, 6), 2: (8,), 20: (8,), 21: (7,), 22: (7,), 5: (7,)}
 
 def figures(body, parameters, scale):
     """The real shapes of a macro's body, turned, in u: ("disc", centre, radius), ("line", start, end, width), ("turned", corners, angle)
-    ("turned disc", centre, radius, angle) and ("regular", corners, diameter, angle) of whole numbers, ("convex", corners) or ("outline", corners)."""
+    ("turned disc", centre, radius, angle) and ("regular", corners, diameter, angle, centre) of whole numbers, ("convex", corners) or ("outline", corners)."""
     variables = {k + 1: value for k, value in enumerate(parameters)}
     for word in body:
         word = re.sub(r"\s", "", word)

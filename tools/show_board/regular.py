@@ -9,22 +9,29 @@ from .cones import DEGREE, RADIUS, RIGHT_ANGLE, cone_of, way_of
 from .degrees import FURTHER, area, goes_once, lean, meet
 from .spots import edges
 
-WHOLE = (5, 6, 8, 9, 10, 12)        # of so many corners directions are whole parts of a degree
 MOST_DIAMETER = 500_000_000         # u
 
 
 def figure_of(n, centre, diameter, degrees):
-    """("regular", n, diameter, angle) where `between` reads the polygon and takes bounds of it, else None."""
+    """("regular", n, diameter, angle, whole centre) where `between` reads the polygon and takes bounds of it, else None: off the origin by quarter turns alone."""
     angle = degrees % 360 * DEGREE
-    if n not in WHOLE or any(centre) or diameter % 2 or diameter > MOST_DIAMETER or angle.denominator != 1 or abs(degrees) > 1000:
+    if diameter % 2 or diameter > MOST_DIAMETER or angle.denominator != 1 or abs(degrees) > 1000 or not is_near(centre, angle):
         return None
-    found = int(n), int(diameter), int(angle)
+    x, y = map(int, centre)
+    for _ in range(int(angle // RIGHT_ANGLE)):
+        x, y = -y, x
+    found = int(n), int(diameter), int(angle), (x, y)
     return ("regular", *found) if regular_bounds(*found) else None
 
 
+def is_near(centre, angle):
+    """The centre is the origin, or goes to a whole spot."""
+    return not any(centre) or angle % RIGHT_ANGLE == 0 and all(v.denominator == 1 and abs(v) <= MOST_DIAMETER for v in centre)
+
+
 def direction(n, angle, steps, spot):
-    """A spot about the middle after the right angles to a direction, half steps from corner to corner on; and what is left of that."""
-    quarters, rest = divmod(angle + steps * (2 * RIGHT_ANGLE // n), RIGHT_ANGLE)
+    """A spot about the middle after the right angles to a direction, half steps from corner to corner on; and what is left of that, rounded down."""
+    quarters, rest = divmod(angle + steps * 2 * RIGHT_ANGLE // n, RIGHT_ANGLE)
     for _ in range(quarters % 4):
         spot = -spot[1], spot[0]
     return spot, rest
@@ -65,9 +72,15 @@ def near(n, diameter, angle, by):
         yield round((p * x - q * y) / whole), round((p * y + q * x) / whole)
 
 
+def regular_bounds(n, diameter, angle, centre=(0, 0)):
+    """The pieces within and round the polygon about the centre; None where there is none round it."""
+    found, (x, y) = bounds_about_0(n, diameter, angle), centre
+    return found and tuple([(kind, [(p + x, q + y) for p, q in corners]) for kind, corners in side] for side in found)
+
+
 @lru_cache(4096)
-def regular_bounds(n, diameter, angle):
-    """The pieces within and round the polygon about the origin; None where there is none round it."""
+def bounds_about_0(n, diameter, angle):
+    """So about the origin."""
     tried = lambda way_out: (list(near(n, diameter, angle, way_out * by)) for by in FURTHER)
     inner = next((found for found in tried(-1) if area(found) > 0 and lies_within(n, diameter, angle, found)), None)
     outer = next((found for found in tried(1) if lies_round(n, diameter, angle, found)), None)

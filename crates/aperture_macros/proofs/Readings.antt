@@ -1,5 +1,5 @@
 -- What a body word is read as.
-use Rattle.std.proofs.Common.{◌≡◌, ℕ, ◌+◌, ◌-◌, ◌/◌, Bool, true, false, not, ◌&&◌, ◌||◌, cond, nat_le, List, Option, Some, None, Result, Ok, Err, refl, sym, ap, ◌∙◌, subst, arith, inl, inr}
+use Rattle.std.proofs.Common.{◌≡◌, ℕ, ◌+◌, ◌-◌, ◌/◌, Bool, true, false, not, ◌&&◌, ◌||◌, cond, nat_le, List, Option, Some, None, Result, Ok, Err, refl, sym, ap, ◌∙◌, subst, arith, inl, inr, zero, suc}
 use Rattle.std.proofs.lemmas.Bool.{leb-true}
 use Rattle.std.specs.Option.{option_and_then}
 use Rattle.std.specs.Prelude.{◌⊎◌, IfSome, codes}
@@ -15,7 +15,7 @@ use Rattle.aperture_macros.specs.declared.primitive.Form.TheVariants.{Circle, Ou
 use Rattle.aperture_macros.specs.declared.primitive.Rotation.TheVariants.{Unturned}
 use Rattle.aperture_macros.specs.declared.primitive.Turning.{Turning}
 use Rattle.aperture_macros.specs.declared.primitive.Turning.TheVariants.{Quarters, Degrees}
-use Rattle.aperture_macros.specs.BodyWord.{PlainPrimitive, are_expressions, commas, count, fits, form_at, form_in, form_of, has_rotation, is_number, outline_of, part, past, polygon_of, regular_of, primitive_at, rotation_text, row, some_form, turned_at, turning_at}
+use Rattle.aperture_macros.specs.BodyWord.{PlainPrimitive, are_expressions, commas, count, fits, form_at, form_in, form_of, has_rotation, is_number, outline_of, part, past, polygon_of, primitive_at, regular_from, regular_of, rotation_text, row, some_form, turned_at, turning_at}
 use Rattle.aperture_macros.specs.Sized.{IsSized}
 use Rattle.aperture_macros.proofs.Strokes.{then_ok}
 
@@ -50,21 +50,15 @@ fitting_sized n (Some form) h = by (fits form n) refl
     by true e = (h, e)
     by false e = tt
 
-regular_sized : (d : Fraction) → IfSome (regular_of d) IsSized
-unfolding regular_of
-regular_sized d =
-    let by = λ (n : ℕ). is_number d n in
-    let twelve = either_sized (by 12) (Some (Polygon 12)) None (omega arith, omega arith) tt in
-    let ten = either_sized (by 10) (Some (Polygon 10)) _ (omega arith, omega arith) twelve in
-    let nine = either_sized (by 9) (Some (Polygon 9)) _ (omega arith, omega arith) ten in
-    let eight = either_sized (by 8) (Some (Polygon 8)) _ (omega arith, omega arith) nine in
-    let six = either_sized (by 6) (Some (Polygon 6)) _ (omega arith, omega arith) eight in
-    either_sized (by 5) (Some (Polygon 5)) _ (omega arith, omega arith) six
+regular_sized : (k n : ℕ) (d : Fraction) → IfSome (regular_from k n d) IsSized
+unfolding regular_from
+regular_sized zero n d = tt
+regular_sized (suc k) n d = either_sized (is_number d n) (Some (Polygon n)) (regular_from k (n + 1) d) (omega arith, omega arith) (regular_sized k (n + 1) d)
 
 polygon_sized : (copper : Copper) (word : List ℕ) → IfSome (polygon_of copper word) IsSized
 unfolding polygon_of
 polygon_sized Exact word = tt
-polygon_sized Real word = either_sized (not (is_decimal (part 2 word))) None (regular_of (fraction (part 2 word))) tt (regular_sized (fraction (part 2 word)))
+polygon_sized Real word = either_sized (not (is_decimal (part 2 word))) None (regular_of (fraction (part 2 word))) tt (regular_sized 10 3 (fraction (part 2 word)))
 
 form_sized : (copper : Copper) (word : List ℕ) (n : ℕ) → IfSome (form_of copper word n) IsSized
 unfolding form_of

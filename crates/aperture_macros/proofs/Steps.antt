@@ -7,7 +7,7 @@ use Rattle.lengths.specs.Decimal.{Fraction}
 use Rattle.lengths.specs.declared.decimal.Unit.{Unit as Measure}
 use Rattle.aperture_macros.specs.declared.fault.MacroFault.{MacroFault}
 use Rattle.aperture_macros.specs.declared.fault.MacroFault.TheVariants.{BadMacro}
-use Rattle.aperture_macros.specs.BodyWord.{are_expressions, is_comma, past}
+use Rattle.aperture_macros.specs.BodyWord.{are_expressions, is_comma, is_number, past, regular_from}
 use Rattle.aperture_macros.specs.Values.{point_at, sum_from, term_at}
 use Rattle.aperture_macros.specs.Outlines.{last_from, moved_from}
 
@@ -26,6 +26,10 @@ sum_bad n k text some full term = let e : n - k ≡ suc (n - (k + 1)) = omega (a
 pub expressions_more : (n k : ℕ) (text : List ℕ) → k < n → is_expression (before_first is_comma text) ≡ true → are_expressions (n - k) text ≡ are_expressions (n - (k + 1)) (after_first is_comma text)
 unfolding are_expressions
 expressions_more n k text some this = let e : n - k ≡ suc (n - (k + 1)) = omega (arith, some) in rw (e, this) refl
+
+pub regular_more : (n : ℕ) (d : Fraction) → n < 13 → is_number d n ≡ false → regular_from (13 - n) n d ≡ regular_from (13 - (n + 1)) (n + 1) d
+unfolding regular_from
+regular_more n d some other = let e : 13 - n ≡ suc (13 - (n + 1)) = omega (arith, some) in rw (e, other) refl
 
 pub value_more : (n k : ℕ) (sum u : ℤ) (text : List ℕ) (given : List Fraction) (unit : Measure) → k < n → is_empty text ≡ false → term_at (first_term text) given unit ≡ Ok u → sum_from (n - k) sum text given unit ≡ sum_from (n - (k + 1)) (sum +ℤ u) (further_terms text) given unit
 unfolding sum_from

@@ -78,15 +78,14 @@ outline_of word n =
     else (if not (is_decimal (part 2 word)) then None
     else (if is_number (fraction (part 2 word)) n then Some (Outline n) else None))
 
--- a polygon of so many corners, where a half turn has whole parts of as many of them: of 3 and 4 it is not taken
-unfoldable pub regular_of : Fraction → Option Form
-regular_of d =
-    if is_number d 5 then Some (Polygon 5)
-    else (if is_number d 6 then Some (Polygon 6)
-    else (if is_number d 8 then Some (Polygon 8)
-    else (if is_number d 9 then Some (Polygon 9)
-    else (if is_number d 10 then Some (Polygon 10)
-    else (if is_number d 12 then Some (Polygon 12) else None)))))
+-- a polygon of n corners, or of one of the k - 1 numbers behind n, as the fraction says
+unfoldable pub regular_from : ℕ → ℕ → Fraction → Option Form
+regular_from zero n d = None
+regular_from (suc k) n d = if is_number d n then Some (Polygon n) else regular_from k (n + 1) d
+
+-- of 3 to 12 corners
+abbrev pub regular_of : Fraction → Option Form
+regular_of d = regular_from 10 3 d
 
 -- in real copper, of as many as part 2 says
 unfoldable pub polygon_of : Copper → List ℕ → Option Form

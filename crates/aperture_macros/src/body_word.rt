@@ -130,29 +130,16 @@ fn real_polygon(word: &[u8]) -> Option<Form>
     regular(&decimal)
 }
 
-// The polygon of so many corners, where directions to them are whole.
-#[tactic(auto, unfolding(crate::specs::BodyWord::regular_of))]
+// The polygon of so many corners, from 3 to 12.
+#[tactic(auto, unfolding(crate::specs::BodyWord::regular_from))]
 fn regular(corners: &Decimal) -> Option<Form>
     ensures value { result ≡ spec.regular_of corners.now }
     ensures sized { IfSome result IsSized }
 {
-    if is_number(corners, 5) {
-        return Some(Form::Polygon(5));
-    }
-    if is_number(corners, 6) {
-        return Some(Form::Polygon(6));
-    }
-    if is_number(corners, 8) {
-        return Some(Form::Polygon(8));
-    }
-    if is_number(corners, 9) {
-        return Some(Form::Polygon(9));
-    }
-    if is_number(corners, 10) {
-        return Some(Form::Polygon(10));
-    }
-    if is_number(corners, 12) {
-        return Some(Form::Polygon(12));
+    for n in 3..13 {
+        if is_number(corners, n) {
+            return Some(Form::Polygon(n));
+        }
     }
     None
 }

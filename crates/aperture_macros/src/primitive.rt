@@ -4,7 +4,7 @@ ghost use Rattle.aperture_macros.specs.BodyWord.{row};
 ghost use Rattle.aperture_macros.specs.Sized.{IsSized, outline_edges};
 
 /// What a primitive is, by its code: 1, 4, 20, 21 or 5. An outline has so many edges, from 3 to 5,000, a polygon so many
-/// corners: 5, 6, 8, 9, 10 or 12.
+/// corners, from 3 to 12.
 #[derive(Clone, Copy, Debug)]
 pub enum Form {
     Circle,

@@ -104,7 +104,7 @@ fn of_orders() -> [Word; 18] {
 }
 
 // Of real copper: a rotation is an expression, and each that is written a turn by degrees.
-fn of_degrees() -> [Word; 14] {
+fn of_degrees() -> [Word; 16] {
     [
         ("1,1,$1,0,0", "Circle Unturned"),
         ("1,1,$1,0,0,$2", "Circle Degrees"),
@@ -119,7 +119,9 @@ fn of_degrees() -> [Word; 14] {
         ("21,1,1,1,0,0,", "BadMacro"),
         ("5,1,8,0,0,$1,22.5", "Polygon(8) Degrees"),
         ("5,1,12.0,$1,$2,$3,0", "Polygon(12) Degrees"),
-        ("5,1,7,0,0,1,0", "BadMacro"),
+        ("5,1,3,0,0,1,0", "Polygon(3) Degrees"),
+        ("5,1,2,0,0,1,0", "BadMacro"),
+        ("5,1,13,0,0,1,0", "BadMacro"),
         ("5,1,8,0,0,1.08239x$1,22.5", "BadMacro"),
         ("21,0,1,1,0,0,45x2", "BadMacro"),
         ("21,0,1,1,0,0,$1", "ExposureOff"),

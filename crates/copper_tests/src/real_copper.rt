@@ -348,7 +348,7 @@ fn of_lines() -> [(&'static str, &'static str); 7] {
 }
 
 // Turned figures of macros, most as layout tools write them; all of this crate's own.
-fn of_turns() -> [(&'static str, &'static str); 12] {
+fn of_turns() -> [(&'static str, &'static str); 13] {
     [
         (
             "%AMRotRect*21,1,$1,$2,0,0,$3*%%ADD11RotRect,1.0X0.5X30.0*%D11*X0Y0D03*M02*",
@@ -385,6 +385,10 @@ fn of_turns() -> [(&'static str, &'static str); 12] {
         (
             "%AMQ*5,1,5,0,0,0.5,-90*%%ADD11Q*%D11*X0Y0D03*M02*",
             "5 corners about 0 0 by 50000000000 at 2700000000 by 9.0",
+        ),
+        (
+            "%AMQ*5,1,7,1,0,0.5,90*%%ADD11Q*%D11*X0Y0D03*M02*",
+            "7 corners about 0 10000000 by 50000000000 at 900000000 by 9.0",
         ),
         (
             "%AMQ*5,1,5,1,0,0.5,45*%%ADD11Q*%D11*X0Y0D03*M02*",

@@ -173,14 +173,14 @@ class TestPolygons(unittest.TestCase):
 
     def test_bounds(self):
         rng = random.Random(67)
-        for n in (5, 6, 8, 9, 10, 12) * 6:
+        for n in 4 * list(range(3, 13)):
             d, angle = 2 * rng.randrange(50, rng.choice((10 ** 3, 10 ** 5, 10 ** 7, 25 * 10 ** 7))), rng.choice((0, RIGHT // 4, rng.randrange(4 * RIGHT)))
             corners = regular(n, 0, 0, Q(d), Q(angle, 10 ** 7))
             ([(_, inner)], [(_, outer)]) = regular_bounds(n, d, angle)
             with self.subTest(f"{n} {d} {angle}"):
                 self.assertTrue(all(cross_least(a, b, pointed(w)) >= 0 for a, b in edges(corners) for w in inner))
                 self.assertTrue(all(cross_least(pointed(a), pointed(b), v) >= 0 for a, b in edges(outer) for v in corners))
-                self.assertLess(max(abs(p - q) for a, b in zip(inner, outer) for p, q in zip(a, b)), 40)
+                self.assertLess(max(abs(p - q) for a, b in zip(inner, outer) for p, q in zip(a, b)), 60)
 
 
 class TestFigures(unittest.TestCase):
@@ -217,8 +217,9 @@ class TestFigures(unittest.TestCase):
         ("a polygon", ["5,1,5,0,0,1,30"], [], ["regular"], [(1, 1)]),
         ("an octagon by parameters", ["5,1,8,0,0,$1,22.5"], [2], ["regular"], [(1, 1)]),
         ("a product off the grid, of Eagle", ["5,1,8,0,0,1.08239X$1,22.5"], [Q("1.6764")], ["convex"], None),
-        ("a polygon of seven corners", ["5,1,7,0,0,1,30"], [], ["convex"], None),
+        ("a polygon of seven corners", ["5,1,7,0,0,1,30"], [], ["regular"], [(1, 1)]),
         ("a polygon off the origin", ["5,1,8,1,0,1,30"], [], ["convex"], None),
+        ("a polygon off the origin, by quarter turns", ["5,1,3,1,0,1,-90"], [], ["regular"], [(1, 1)]),
     ]
 
     def test_rows(self):

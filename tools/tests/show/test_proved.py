@@ -147,7 +147,7 @@ class Asked(made.Case):
         """Where other copper is outside the profile, in any file; and where there is nothing to ask."""
         rows = [["%ADD14C,0.0000003*%"], ["%LPC*%", "D11*", "X9000000Y0D03*"], ["D12*", "X0Y5000000D02*", "X1Y5000001D01*"], ["%LR90*%", "D11*", "X9000000Y0D03*"],
                 ["G36*", "X9000000Y0D02*", "G03X9000000Y0I1000000J0D01*", "G37*"], ["X0Y0D03*", "X5Y5*"],
-                ["%AMA*", "20,1,0.2,0,0,0.3,0.4,30*%", "%ADD14A*%", "D14*", "X0Y5000000D03*"], ["%AMA*", "5,1,7,0,0,0.2,30*%", "%ADD14A*%", "D14*", "X0Y5000000D03*"],
+                ["%AMA*", "20,1,0.2,0,0,0.3,0.4,30*%", "%ADD14A*%", "D14*", "X0Y5000000D03*"], ["%AMA*", "5,1,7,0.1,0,0.2,30*%", "%ADD14A*%", "D14*", "X0Y5000000D03*"],
                 ["%AMA*", "4,1,5,0,0,2,0,2,2,1,1,0,2,0,0,30*%", "%ADD14A*%", "D14*", "X0Y5000000D03*"], ["%AMA*", "4,1,4,0,0,1,1,1,0,0,1,0,0,30*%", "%ADD14A*%", "D14*", "X0Y5000000D03*"],
                 ["%AMA*", "20,1,0.0000003,0,0,0.3,0.4,0*%", "%ADD14A*%", "D14*", "X0Y5000000D03*"],
                 ["%AMA*", "1,1,0.2,0,0*", "1,0,0.1,0,0*%", "%ADD14A*%", "D14*", "X0Y5000000D03*"], ["%AMA*", "1,1,0.2,0,0*%", "%ADD14A*%", "D14*", "%LS2*%", "X0Y5000000D03*"],
@@ -240,7 +240,7 @@ class Taken(made.Case):
         """What is not taken, and said without the word: an arc that has no place, and an arc and a primitive that `show` alone reads."""
         program = having_between()
         for lines in (["X1000000Y0D02*", "G03X-1000000Y0I0J0D01*"], ["X1000000Y0D02*", "G03X-1000000Y0I-1000000J0D01*", "I1J1*"],
-                      [*HALF, "%AMA*", "5,1,4,0,0,2.0,0*%", "%ADD20A*%", "D20*", "X0Y0D03*"]):
+                      [*HALF, "%AMA*", "5,1,4,0.1,0,2.0,1*%", "%ADD20A*%", "D20*", "X0Y0D03*"]):
             self.board({"m.json": manifest(), "top.gbr": "\n".join([*HEAD, *lines, "M02*", ""]), "n.ipc": netlist(A, B)})
             _, out, _ = self.show("board", program=program)
             self.assertEqual(("between two bounds" in out, "proved" in out), (True, False), out)
