@@ -26,12 +26,14 @@ class Shape:
 
 
 class Pen:
-    """A passed on aperture: half the diameter of a circle, else None; for each side its even sizes."""
+    """A passed on aperture: half the diameter of a circle, else None; for each side its even sizes. Where these are unlike, `is_read`
+    says whether `between` reads its flashes."""
 
     lost, is_pen = None, True
 
-    def __init__(self, name, radius, sizes):
-        self.name, self.radius, self.sizes = name, radius, sizes
+    def __init__(self, name, radius, sizes, is_read=False):
+        self.name, self.radius, self.sizes, self.is_read = name, radius, sizes, is_read
+        self.is_even = sizes[0] == sizes[1]
         self.both = tuple(solid(name, size) for size in sizes)
 
 
@@ -74,11 +76,21 @@ def even_up(length):
     return 2 * (length / 2).__ceil__()
 
 
+def even_sizes(name, lengths):
+    """Sizes of a shape within and round one: of an obround whose longer side alone is no even number the other is 2 less and more, so
+    that the ends of its middle line are no further off than the radii are."""
+    low, high = [even_down(v) for v in lengths], [even_up(v) for v in lengths]
+    short = lengths.index(min(lengths))
+    if name == OBROUND and low != high and low[short] == high[short] > 0:
+        low[short], high[short] = low[short] - 2, high[short] + 2
+    return low, high
+
+
 def standard(name, lengths, hole):
     """A circle, rectangle or obround of lengths in u, fractions, with a round hole or none."""
     if min(lengths) < 0 or hole < 0:
         raise Refused("a size under 0")
-    low, high = [even_down(v) for v in lengths], [even_up(v) for v in lengths]
+    low, high = even_sizes(name, lengths)
     if hole and name == OBROUND:
         return holed_shape(obround(*lengths), hole)
     if name == CIRCLE and is_ring(*lengths, hole):
@@ -88,9 +100,10 @@ def standard(name, lengths, hole):
     if hole:
         lower, upper = holed(name, low, hole), solid(name, high)
         return Shape(lower, upper, "a shape with a hole" if upper and not lower else None)
+    is_read = all(v.denominator == 1 for v in lengths)
     if low != high and 0 in low:
-        return Shape([], solid(name, high), "a size under 0.2 nm")
-    return Pen(name, lengths[0] / 2 if name == CIRCLE else None, (low, high))
+        return Shape([], solid(name, high), "a size under 0.2 nm", rows=[(0, 1)] if is_read and min(lengths) else None)
+    return Pen(name, lengths[0] / 2 if name == CIRCLE else None, (low, high), is_read)
 
 
 def solid(name, sizes):

@@ -54,7 +54,8 @@ class Definitions:
         if made is None or isinstance(made, apertures.Pen):
             sizes = made.sizes if made else (None, None)
             self.at[number] = [len(side.lines) for side in self.files]
-            self.replaced += sizes[0] != sizes[1]
+            if made and not made.is_even:
+                self.stands([] if made.is_read else None)
             for side, even in zip(self.files, sizes):
                 side.word(f"%ADD{number}{name},{'X'.join(millimetres(v) for v in even)}*%" if made else f"%{word}*%", self.number)
 

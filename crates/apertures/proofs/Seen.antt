@@ -15,9 +15,9 @@ use Rattle.apertures.specs.declared.fault.ApertureFault.TheVariants.{BadText, Ho
 use Rattle.apertures.specs.Definition.{◌>>=◌, aperture_at, as_fault, diameter_at, is_x, last_behind, name_text, not_wide, not_zero, number_digits, numbered_at, side_at, size_at}
 use Rattle.apertures.specs.Holes.{ends_number, frame_behind, frame_in, frame_of, has_further, holed_at, holed_in, is_circle, is_rectangle, parameters, ring_in, ring_of}
 use Rattle.apertures.specs.Laws.{HolesAreSeen}
-use Rattle.apertures.proofs.Lawful.{bind_ok}
+use Rattle.apertures.proofs.Bound.{bind_ok}
 
-both : (a b : Bool) → (a && b) ≡ true → (a ≡ true) × (b ≡ true)
+pub both : (a b : Bool) → (a && b) ≡ true → (a ≡ true) × (b ≡ true)
 both true b h = (refl, h)
 both false b h = absurd cc
 
@@ -27,25 +27,25 @@ or_true false b h = h
 
 -- ---- A text before the first byte of a kind, and behind it
 
-before_stop : (p : ℕ → Bool) (c : ℕ) (text : List ℕ) → p c ≡ true → before_first p (c ∷ text) ≡ []
+pub before_stop : (p : ℕ → Bool) (c : ℕ) (text : List ℕ) → p c ≡ true → before_first p (c ∷ text) ≡ []
 before_stop p c text is = rw is refl
 
-before_more : (p : ℕ → Bool) (c : ℕ) (text : List ℕ) → p c ≡ false → before_first p (c ∷ text) ≡ c ∷ before_first p text
+pub before_more : (p : ℕ → Bool) (c : ℕ) (text : List ℕ) → p c ≡ false → before_first p (c ∷ text) ≡ c ∷ before_first p text
 before_more p c text is =
     let one : position_or_len p (c ∷ text) ≡ suc (position_or_len p text) = rw is (omega arith) in
     ap (λ (n : ℕ). take n (c ∷ text)) one
 
-after_stop : (p : ℕ → Bool) (c : ℕ) (text : List ℕ) → p c ≡ true → after_first p (c ∷ text) ≡ text
+pub after_stop : (p : ℕ → Bool) (c : ℕ) (text : List ℕ) → p c ≡ true → after_first p (c ∷ text) ≡ text
 after_stop p c text is = rw is refl
 
-after_more : (p : ℕ → Bool) (c : ℕ) (text : List ℕ) → p c ≡ false → after_first p (c ∷ text) ≡ after_first p text
+pub after_more : (p : ℕ → Bool) (c : ℕ) (text : List ℕ) → p c ≡ false → after_first p (c ∷ text) ≡ after_first p text
 after_more p c text is =
     let one : position_or_len p (c ∷ text) + 1 ≡ suc (position_or_len p text + 1) = rw is (omega arith) in
     ap (λ (n : ℕ). drop n (c ∷ text)) one
 
 -- ---- Numbers
 
-abbrev are_digits : List ℕ → Bool
+abbrev pub are_digits : List ℕ → Bool
 are_digits text = list_all (λ c. is_digit c 10) text
 
 digit_ends : (c : ℕ) → is_digit c 10 ≡ true → ends_number c ≡ true
@@ -88,7 +88,7 @@ behind_byte b (c ∷ text) some all ends = by (is_x c) refl (λ s a e. behind_by
         let p = both (ends_number c) (list_all ends_number (before_first is_x text)) (subst (λ (t : List ℕ). list_all ends_number t ≡ true) (before_more is_x c text is) all) in
         or_true (ends_number b && begins (c ∷ text) (codes "X")) (has_further (c ∷ text)) (then s p.1 p.0)
 
-digits_of : (digits : List ℕ) → is_number digits ≡ true → are_digits digits ≡ true
+pub digits_of : (digits : List ℕ) → is_number digits ≡ true → are_digits digits ≡ true
 digits_of digits h =
     let p = both (nat_le 1 (length digits)) (nat_le (length digits) 18 && are_digits digits) h in
     (both (nat_le (length digits) 18) (are_digits digits) p.1).1
@@ -136,7 +136,7 @@ behind_drop (suc n) (b ∷ text) h = or_true (ends_number b && begins text (code
 
 -- ---- Parameters
 
-size_read : (text : List ℕ) (unit : Measure) (u : ℤ) → size_at text unit ≡ Ok u → is_decimal text ≡ true
+pub size_read : (text : List ℕ) (unit : Measure) (u : ℤ) → size_at text unit ≡ Ok u → is_decimal text ≡ true
 unfolding size_at
 size_read text unit u h = by (is_decimal text) refl h
   where

@@ -1,5 +1,5 @@
 -- How a definition is read in real copper, where circles and rectangles may have a round hole (Gerber Layer Format Specification, 4.4.2, 4.4.3 and 4.4.6).
-use Rattle.std.specs.Prelude.{ℕ, ◌+◌, ◌%◌, Bool, true, false, ◌&&◌, ◌||◌, ◌==◌, nat_lt, if◌then◌else◌, List, [], ◌∷◌, codes, ℤ, unsigned_abs, Result, Ok, Err}
+use Rattle.std.specs.Prelude.{ℕ, ◌+◌, ◌%◌, Bool, false, ◌&&◌, ◌||◌, ◌==◌, nat_lt, if◌then◌else◌, List, [], ◌∷◌, codes, ℤ, unsigned_abs, Result, Ok, Err}
 use Rattle.std.specs.List.{after_first, before_first}
 use Rattle.std.specs.Str.Parse.{digits_value}
 use Rattle.texts.specs.Words.{begins, is_word}
@@ -8,7 +8,7 @@ use Rattle.apertures.specs.declared.aperture.Aperture.{Aperture}
 use Rattle.apertures.specs.declared.aperture.Aperture.TheVariants.{Frame, Ring}
 use Rattle.apertures.specs.declared.fault.ApertureFault.{ApertureFault}
 use Rattle.apertures.specs.declared.fault.ApertureFault.TheVariants.{Hole}
-use Rattle.apertures.specs.Definition.{◌>>=◌, aperture_at, diameter_at, is_comma, is_x, last_behind, name_of, name_text, number_digits, side_at}
+use Rattle.apertures.specs.Definition.{◌>>=◌, diameter_at, is_comma, is_x, last_behind, name_of, name_text, number_digits, side_at}
 
 -- the hole is over 0 and less than the circle, and a quarter of the sum of both is whole (own)
 abbrev pub is_ring : ℕ → ℕ → Bool
@@ -55,19 +55,6 @@ holed_in word text unit = if is_circle word then ring_in text unit else (if is_r
 -- and its number
 unfoldable pub holed_at : List ℕ → Measure → Result (ℕ × Aperture) ApertureFault
 holed_at word unit = holed_in word (parameters word) unit >>= λ holed. Ok (digits_value 10 (number_digits word), holed)
-
--- there are more parameters than sizes
-abbrev pub is_holed : Result (ℕ × Aperture) ApertureFault → Bool
-is_holed (Err Hole) = true
-is_holed other = false
-
--- what is read exactly, or with a hole where there are more parameters
-abbrev pub or_holed : Result (ℕ × Aperture) ApertureFault → Result (ℕ × Aperture) ApertureFault → Result (ℕ × Aperture) ApertureFault
-or_holed exact holed = if is_holed exact then holed else exact
-
--- what an `AD` word defines in real copper
-abbrev pub real_aperture_at : List ℕ → Measure → Result (ℕ × Aperture) ApertureFault
-real_aperture_at word unit = or_holed (aperture_at word unit) (holed_at word unit)
 
 -- ---- Words that may define an aperture with a hole
 

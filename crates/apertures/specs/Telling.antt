@@ -1,5 +1,6 @@
--- How real copper tells circles and rectangles with a round hole: by an area of three spots, or of five, and the first again. Areas that are flashed otherwise have four spots, or six and more, and the first again.
-use Rattle.std.specs.Prelude.{ℕ, ◌+◌, ◌*◌, ◌/◌, ◌-ℤ◌, unsigned_abs, List, [], ◌∷◌, Option, Some, None}
+-- How real copper tells circles and rectangles with a round hole, and fine apertures: by an area of three spots, or of five, and the first again. Areas that are flashed otherwise have four spots, or six and more, and the first again.
+use Rattle.std.specs.Prelude.{ℕ, ◌+◌, ◌*◌, ◌/◌, ◌-ℤ◌, Bool, int_lt, if◌then◌else◌, unsigned_abs, List, [], ◌∷◌, Option, Some, None}
+use Rattle.std.specs.Ordering.{int_eq}
 use Rattle.planar.specs.declared.Spot.{Spot}
 use Rattle.board_shapes.specs.Rectangles.{lower, upper}
 
@@ -31,3 +32,22 @@ pub record Frame : Type 0 where
 abbrev pub frame_told : List Spot → Option Frame
 frame_told (centre ∷ border ∷ low ∷ high ∷ again ∷ last ∷ []) = Some (record { centre = centre; border = border; low = low; high = high })
 frame_told other = None
+
+-- Of a fine aperture they are the middle, and two spots so far apart as its sizes are: the lower left one first of a rectangle, and last of an obround.
+abbrev pub told_fine : Bool → ℕ → ℕ → Spot → List Spot
+told_fine round x y at =
+    if round then at ∷ upper at x y ∷ lower at (x + 1) (y + 1) ∷ at ∷ []
+    else at ∷ lower at (x + 1) (y + 1) ∷ upper at x y ∷ at ∷ []
+
+-- What they tell. Those of a circle with a hole are no such spots: they are of one height.
+pub record Fine : Type 0 where
+  pub middle : Spot
+  pub width : ℕ
+  pub height : ℕ
+  pub round : Bool
+
+abbrev pub fine_told : List Spot → Option Fine
+fine_told (middle ∷ one ∷ other ∷ last ∷ []) =
+    if int_eq one.y other.y then None
+    else Some (record { middle = middle; width = unsigned_abs (one.x -ℤ other.x); height = unsigned_abs (one.y -ℤ other.y); round = int_lt other.y one.y })
+fine_told other = None

@@ -1,68 +1,40 @@
-//! How an aperture's definition is read in real copper.
-ghost use Rattle.std.specs.Prelude.{◌≡◌, ◌==◌, ◌≤◌, ◌&&◌, ◌||◌, drop, length, IfOk};
+//! How an aperture's definition with a round hole is read.
+ghost use Rattle.std.specs.Prelude.{◌≡◌, ◌==◌, ◌≤◌, ◌&&◌, ◌||◌, length};
 ghost use Rattle.apertures.specs.Definition.{is_x, number_digits};
-ghost use Rattle.apertures.specs.Flash.{IsLawful, IsNarrow};
+ghost use Rattle.apertures.specs.Flash.{IsNarrow};
 ghost use Rattle.std.specs.List.{after_first};
 ghost use Rattle.apertures.specs.Holes as spec;
-ghost use Rattle.apertures.specs.Laws.{HolesAreSeen};
 
 use crate::aperture::Aperture;
-use crate::definition::{diameter, last_behind, name_text, number, read_aperture, side};
+use crate::definition::{diameter, last_behind, name_text, number, side};
 use crate::fault::ApertureFault;
 use lengths::decimal::Unit;
 use texts::{after_byte, before_byte, begins, is_word};
 
-/// Reads an `AD` word of real copper: as `read_aperture`, but circles and rectangles may have a round hole
-/// (Gerber Layer Format Specification, 4.4.2, 4.4.3 and 4.4.6), `ADD<n>C,<d>X<d>` and `ADD<n>R,<x>X<y>X<d>`.
-/// It takes no memory.
-///
-/// Where `read_aperture` says `Hole`, the refusals of a circle or a rectangle with one parameter more come in
-/// this order: for each in turn `BadText`, `OffGrid`, and `OutOfRange` (a side of 0, a diameter over 50 mm);
-/// `Hole` where the hole is 0 or not less than the circle or a side, or of a circle the sum of both
-/// diameters no multiple of 4 u.
-#[tactic(auto, unfolding(crate::specs::Definition::aperture_at))]
-pub fn read_real_aperture(word: &[u8], unit: Unit) -> Result<(u32, Aperture), ApertureFault>
-    ensures value { result ≡ spec.real_aperture_at word.now unit }
-    ensures lawful { IfOk result (λ read. IsLawful read.1) }
-{
-    let exact = read_aperture(word, unit);
-    if is_holed(&exact) {
-        holed(word, unit)
-    } else {
-        exact
-    }
-}
-
-// Whether there are more parameters than sizes.
-fn is_holed(read: &Result<(u32, Aperture), ApertureFault>) -> bool
-    ensures { result ≡ spec.is_holed read.now }
-{
-    matches!(read, Err(ApertureFault::Hole))
-}
-
-// Whether a word's name is that of a circle.
-fn is_circle(word: &[u8]) -> bool
+/// Whether a word's name is that of a circle.
+pub fn is_circle(word: &[u8]) -> bool
     ensures { result ≡ spec.is_circle word.now }
 {
     is_word(before_byte(name_text(word), b','), b"C")
 }
 
-// Whether it is that of a rectangle.
-fn is_rectangle(word: &[u8]) -> bool
+/// Whether it is that of a rectangle.
+pub fn is_rectangle(word: &[u8]) -> bool
     ensures { result ≡ spec.is_rectangle word.now }
 {
     is_word(before_byte(name_text(word), b','), b"R")
 }
 
-// What stands behind the comma of a word.
-fn parameters(word: &[u8]) -> &[u8]
+/// What stands behind the comma of a word.
+pub fn parameters(word: &[u8]) -> &[u8]
     ensures { result.now ≡ spec.parameters word.now }
 {
     after_byte(name_text(word), b',')
 }
 
+/// A circle or a rectangle with a hole, and its number.
 #[tactic(auto, unfolding(crate::specs::Holes::holed_at))]
-fn holed(word: &[u8], unit: Unit) -> Result<(u32, Aperture), ApertureFault>
+pub fn holed(word: &[u8], unit: Unit) -> Result<(u32, Aperture), ApertureFault>
     requires { length (number_digits word.now) ≤ 9 }
     ensures { result ≡ spec.holed_at word.now unit }
 {
@@ -189,8 +161,3 @@ pub fn may_have_hole(word: &[u8]) -> bool
 {
     begins(word, b"ADD") && has_hole(word)
 }
-
-/// A word that is refused for a hole where copper is taken exactly, and not in real copper, may have a hole.
-pub fn holes_are_seen()
-    ensures { HolesAreSeen }
-{}

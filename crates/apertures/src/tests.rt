@@ -161,6 +161,65 @@ fn holes_are_read(rt: HostRuntime) -> Result<(), Fail> {
     Ok(())
 }
 
+// Words of real copper whose sizes are whole, but not all even.
+const FINES: [Word; 18] = [
+    (
+        "ADD10C,1.0000001",
+        Unit::Mm,
+        "Ok((10, FineObround(10000001, 10000001)))",
+    ),
+    (
+        "ADD10C,49.99999990",
+        Unit::Mm,
+        "Ok((10, FineObround(499999999, 499999999)))",
+    ),
+    (
+        "ADD010R,1X.0000003",
+        Unit::Mm,
+        "Ok((10, FineRectangle(10000000, 3)))",
+    ),
+    (
+        "ADD10O,0.6000001X1.4",
+        Unit::Mm,
+        "Ok((10, FineObround(6000001, 14000000)))",
+    ),
+    (
+        "ADD10O,999.9999999X50",
+        Unit::Mm,
+        "Ok((10, FineObround(9999999999, 500000000)))",
+    ),
+    (
+        "ADD10C,0.0000005",
+        Unit::Inch,
+        "Ok((10, FineObround(127, 127)))",
+    ),
+    ("ADD10C,0.000001", Unit::Inch, "Ok((10, Circle(254)))"),
+    // No whole number of u.
+    ("ADD10C,1.00000001", Unit::Mm, "Err(OffGrid)"),
+    ("ADD10C,0.0000001", Unit::Inch, "Err(OffGrid)"),
+    ("ADD10R,0.0000001X0.00000005", Unit::Mm, "Err(OffGrid)"),
+    // For each parameter in turn.
+    ("ADD10R,0.0000001Xx", Unit::Mm, "Err(BadText)"),
+    ("ADD10R,0.0000001X0", Unit::Mm, "Err(OutOfRange)"),
+    ("ADD10C,-0.0000001", Unit::Mm, "Err(OutOfRange)"),
+    ("ADD10R,1000X0.0000001", Unit::Mm, "Err(OutOfRange)"),
+    ("ADD10C,50.0000001", Unit::Mm, "Err(OutOfRange)"),
+    ("ADD10O,60X50.0000001", Unit::Mm, "Err(OutOfRange)"),
+    // Other names are none.
+    ("ADD10P,0.0000001X3", Unit::Mm, "Err(Polygon)"),
+    ("ADD10THERMAL,0.0000001", Unit::Mm, "Err(Macro)"),
+];
+
+#[test]
+fn fines_are_read(rt: HostRuntime) -> Result<(), Fail> {
+    for (word, unit, expected) in FINES {
+        let read = read_real_aperture(word.as_bytes(), unit);
+        let found = format!(in rt.alloc(); "{read:?}")?;
+        assert_eq!(rt; found.as_str(), expected, "{word:?}");
+    }
+    Ok(())
+}
+
 // Whether each word defines what its row says.
 fn all_define(alloc: Global, rows: &[Word]) -> Result<bool, AllocError> {
     for (word, unit, expected) in rows {
@@ -183,7 +242,7 @@ fn words_define_apertures(rt: HostRuntime) -> Result<(), Fail> {
 
 /// Words in mm and spots with the shape there: a disc or a capsule by its ends and its radius, an
 /// area by its corners, in u.
-const FLASHES: [(&str, i64, i64, &str); 20] = [
+const FLASHES: [(&str, i64, i64, &str); 24] = [
     ("ADD11C,0", 5, 5, "none"),
     ("ADD10C,1.0", 7, -9, "7 -9, 7 -9, 5000000"),
     ("ADD10C,60", 0, 0, "no aperture"),
@@ -242,6 +301,16 @@ const FLASHES: [(&str, i64, i64, &str); 20] = [
         "[7 -9][2500007 -9][-19999993 -5000009][20000007 4999991][2500007 -9]",
     ),
     ("ADD10R,0.8X0.8X0.5", 0, -9_996_000_001, "OutOfRange"),
+    // What tells a fine aperture.
+    ("ADD10R,.0000003X.0000004", 7, -9, "[7 -9][5 -11][8 -7]"),
+    ("ADD10C,0.0000003", 7, -9, "[7 -9][8 -8][5 -11]"),
+    (
+        "ADD10C,0.0000001",
+        10_000_000_000,
+        0,
+        "[10000000000 0][10000000000 0][9999999999 -1]",
+    ),
+    ("ADD10C,0.0000001", -10_000_000_000, 0, "OutOfRange"),
 ];
 
 fn shown(alloc: Global, shape: &Shape) -> Result<String, AllocError> {

@@ -21,7 +21,7 @@ use Rattle.verdict.specs.declared.verdict.Verdict.{Verdict}
 use Rattle.arc_covers.specs.Laws.{AreBoundsOf, AreJudged, LiesBetween}
 use Rattle.arc_covers.specs.RealBoards.{IsCopperOf, IsReal, real_span}
 use Rattle.real_shapes.specs.declared.RealShape.{RealShape}
-use Rattle.real_shapes.specs.declared.RealShape.TheVariants.{Plain, ArcDraw, Polygon, Region, Slanted, Turned, TurnedDisc}
+use Rattle.real_shapes.specs.declared.RealShape.TheVariants.{Plain, ArcDraw, Fine, Polygon, Region, Slanted, Turned, TurnedDisc}
 use Rattle.arc_covers.specs.declared.side.Side.TheVariants.{Below, Above}
 use Rattle.arc_covers.proofs.Figures.{as_many}
 use Rattle.arc_covers.proofs.Covered.{AreChain, AreLinks, by_piece, covered, linked, star}
@@ -173,6 +173,7 @@ module _ (holds : ℕ → Point → Type 0) (real : Layout) (b : PlainBoard) (sp
   above_shape (Turned t) copper (points, same, bound) = above_one (filled points) same (λ q h. bound q (copper.most q h))
   above_shape (TurnedDisc disc) copper (s, r, same, bound) = above_one (disc_about s r) same (λ q h. bound q (copper.most q h))
   above_shape (Polygon g) copper (points, same, bound) = above_one (filled points) same (λ q h. bound q (copper.most q h))
+  above_shape (Fine fine) copper (f, same, bound) = above_one f same (λ q h. bound q ((copper q).1 h))
   above_shape (Region area) copper together = above_all (PossiblyIn area.start area.parts.items) (λ q h. copper.most q h) together
 
   below_shape : (shape : RealShape) → IsCopperOf shape (holds i) → StandFor Below shape (figures_of part) → (j : ℕ) → first ≤ j → j < first + length part → IsCovered (InPiece b) (layout_of b) holds real j
@@ -187,6 +188,8 @@ module _ (holds : ℕ → Point → Type 0) (real : Layout) (b : PlainBoard) (sp
   below_shape (TurnedDisc disc) copper (inr (s, r, same, bound)) j from to = below_one (disc_about s r) same (λ q h. copper.least q (bound q h)) j from to
   below_shape (Polygon g) copper (inl none) j from to = below_none none j from to
   below_shape (Polygon g) copper (inr (points, same, bound)) j from to = below_one (filled points) same (λ q h. copper.least q (bound q h)) j from to
+  below_shape (Fine fine) copper (inl none) j from to = below_none none j from to
+  below_shape (Fine fine) copper (inr (f, same, bound)) j from to = below_one f same (λ q h. (copper q).0 (bound q h)) j from to
   below_shape (Region area) copper (inl none) j from to = below_none none j from to
   below_shape (Region area) copper (inr (points, same, bound)) j from to = below_one (filled points) same (λ q h. copper.least q (bound q h)) j from to
 

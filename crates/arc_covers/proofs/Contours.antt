@@ -1,13 +1,16 @@
--- Single contours and discs.
+-- Single contours, discs and figures.
 use Rattle.std.proofs.Common.{◌≡◌, ◌↔◌, ◌⊎◌, inl, inr, ℕ, ◌≤◌, ◌<◌, length, List, [], ◌∷◌, Bool, false, IsTrue, get_or, refl, sym, ap, subst, arith}
 use Rattle.planar.specs.declared.Spot.{Spot}
 use Rattle.board_shapes.specs.Figures.{Figure, figure_of}
 use Rattle.board_shapes.specs.Pieces.{plain_pieces}
 use Rattle.board_shapes.specs.declared.placed.Placed.{Placed}
 use Rattle.board_shapes.specs.declared.shape.Shape.{Shape}
-use Rattle.arc_covers.specs.Bounds.{ContourFor, DiscFor, OneContour, OneDisc, OrNone, figures_of}
+use Rattle.arc_covers.specs.Bounds.{ContourFor, DiscFor, FigureFor, OneContour, OneDisc, OneFigure, OrNone, figures_of}
 use Rattle.arc_covers.specs.declared.side.Side.{Side}
 use Rattle.arc_covers.specs.declared.side.Side.TheVariants.{Above, Below}
+
+pub of_figure : (P : Figure → Type 0) (f : Figure) (b : Bool) → IsTrue b ↔ P f → IsTrue b ↔ OneFigure P (f ∷ [])
+of_figure P f b told = (λ yes. (f, refl, told.0 yes), λ (g, same, taken). told.1 (let one : g ≡ f = cc in subst P one taken))
 
 -- ---- one figure of which something holds, or none
 
@@ -50,3 +53,8 @@ pub more_discs : (side : Side) (P : Spot → ℕ → Type 0) (pieces : List (Pla
 more_discs side P [] some = absurd (omega arith)
 more_discs side P (p ∷ []) some = absurd (omega arith)
 more_discs side P (p ∷ q ∷ rest) some = or_more side (OneDisc P) (figure_of p.shape) (figure_of q.shape) (figures_of (plain_pieces rest)) (figures_of (plain_pieces (p ∷ q ∷ rest))) false (λ (s, r, same, taken). absurd cc) refl refl
+
+pub more_figures : (side : Side) (P : Figure → Type 0) (pieces : List (Placed Shape)) → 2 ≤ length pieces → IsTrue false ↔ FigureFor side P (figures_of (plain_pieces pieces))
+more_figures side P [] some = absurd (omega arith)
+more_figures side P (p ∷ []) some = absurd (omega arith)
+more_figures side P (p ∷ q ∷ rest) some = or_more side (OneFigure P) (figure_of p.shape) (figure_of q.shape) (figures_of (plain_pieces rest)) (figures_of (plain_pieces (p ∷ q ∷ rest))) false (λ (f, same, taken). absurd cc) refl refl

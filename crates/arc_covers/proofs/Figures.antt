@@ -20,11 +20,13 @@ use Rattle.slants.specs.Laws.{DiscsAreBetween, PolygonIsBetween, TurnedIsBetween
 use Rattle.slants.specs.declared.Slant.{Slant}
 use Rattle.slants.specs.declared.discs.TurnedDisc.{TurnedDisc as Disc}
 use Rattle.slants.specs.declared.polygons.RegularPolygon.{RegularPolygon}
-use Rattle.arc_covers.specs.Bounds.{BoundRegion, DiscFor, IsBound, IsDiscBound, IsLineBound, IsOn, IsPolygonBound, IsTurnedBound, ContourFor, PiecesStandFor, StandFor, capsules_from, capsules_of, figures_of}
+use Rattle.fine_figures.specs.Laws.{FineIsBetween}
+use Rattle.fine_figures.specs.declared.FineFigure.{FineFigure}
+use Rattle.arc_covers.specs.Bounds.{BoundRegion, DiscFor, FigureFor, IsBound, IsDiscBound, IsFineBound, IsLineBound, IsOn, IsPolygonBound, IsTurnedBound, ContourFor, PiecesStandFor, StandFor, capsules_from, capsules_of, figures_of}
 use Rattle.arc_regions.specs.declared.Region.{Region as Contour}
-use Rattle.arc_covers.specs.Taken.{IsDiscTaken, IsLineTaken, IsPolygonTaken, IsTaken, IsTurnedTaken, PiecesAreTaken, RegionTaken, StandTaken}
+use Rattle.arc_covers.specs.Taken.{IsDiscTaken, IsFineTaken, IsLineTaken, IsPolygonTaken, IsTaken, IsTurnedTaken, PiecesAreTaken, RegionTaken, StandTaken}
 use Rattle.real_shapes.specs.declared.RealShape.{RealShape}
-use Rattle.real_shapes.specs.declared.RealShape.TheVariants.{ArcDraw, Plain, Polygon, Region, Slanted, Turned, TurnedDisc}
+use Rattle.real_shapes.specs.declared.RealShape.TheVariants.{ArcDraw, Fine, Plain, Polygon, Region, Slanted, Turned, TurnedDisc}
 use Rattle.arc_covers.specs.declared.side.Side.{Side}
 use Rattle.arc_covers.specs.declared.side.Side.TheVariants.{Above, Below}
 
@@ -180,8 +182,8 @@ pub layers_refused : (side : Side) (real : Placed RealShape) (pieces : List (Pla
 layers_refused side real pieces b on is off told = (λ yes. absurd cc, λ t. let yes = told.1 (of_pieces (IsOn real.top real.bottom) pieces t.layers) in absurd cc)
 
 -- what is taken stands
-pub stands : (side : Side) (real : Placed RealShape) (pieces : List PlainPiece) → TakenIsBetween → slants.TakenIsBetween → TurnedIsBetween → DiscsAreBetween → PolygonIsBetween → ((side : Side) (area : Contour) (figures : List Figure) → RegionTaken side area figures → BoundRegion side area figures) → PiecesAreTaken side real pieces → PiecesStandFor side real pieces
-stands side real pieces law lines turns discs polygons regions t = record { figures = by side real.shape t.figures; layers = t.layers }
+pub stands : (side : Side) (real : Placed RealShape) (pieces : List PlainPiece) → TakenIsBetween → slants.TakenIsBetween → TurnedIsBetween → DiscsAreBetween → PolygonIsBetween → FineIsBetween → ((side : Side) (area : Contour) (figures : List Figure) → RegionTaken side area figures → BoundRegion side area figures) → PiecesAreTaken side real pieces → PiecesStandFor side real pieces
+stands side real pieces law lines turns discs polygons fines regions t = record { figures = by side real.shape t.figures; layers = t.layers }
   where
     bound : (side : Side) (arc : Arc) (chain : List Spot) (r : ℕ) → IsTaken side arc chain r → IsBound side arc chain (pos r)
     bound Below arc chain r (inl none) = λ p inside. absurd (subst (λ (c : List Spot). InChain c (pos r) p) none inside)
@@ -209,6 +211,15 @@ stands side real pieces law lines turns discs polygons regions t = record { figu
     polygon_bound Below g points taken = λ p inside. (polygons g points p).0 taken inside
     polygon_bound Above g points taken = λ p inside. (polygons g points p).1 taken inside
 
+    fine_bound : (side : Side) (fine : FineFigure) (f : Figure) → IsFineTaken side fine f → IsFineBound side fine f
+    fine_bound Below fine f taken = λ p inside. (fines fine f p).0 taken inside
+    fine_bound Above fine f taken = λ p inside. (fines fine f p).1 taken inside
+
+    one_figure : (side : Side) (fine : FineFigure) (figures : List Figure) → FigureFor side (IsFineTaken side fine) figures → FigureFor side (IsFineBound side fine) figures
+    one_figure Below fine figures (inl none) = inl none
+    one_figure Below fine figures (inr (f, same, h)) = inr (f, same, fine_bound Below fine f h)
+    one_figure Above fine figures (f, same, h) = (f, same, fine_bound Above fine f h)
+
     one_area : (side : Side) (P Q : List Spot → Type 0) (figures : List Figure) → ((points : List Spot) → P points → Q points) → ContourFor side P figures → ContourFor side Q figures
     one_area Below P Q figures more (inl none) = inl none
     one_area Below P Q figures more (inr (points, same, h)) = inr (points, same, more points h)
@@ -222,3 +233,4 @@ stands side real pieces law lines turns discs polygons regions t = record { figu
     by side (Turned f) h = one_area side (IsTurnedTaken side f.contour.items f.about f.angle) (IsTurnedBound side f.contour.items f.about f.angle) (figures_of pieces) (turned_bound side f.contour.items f.about f.angle) h
     by side (TurnedDisc disc) h = one_disc side disc (figures_of pieces) h
     by side (Polygon g) h = one_area side (IsPolygonTaken side g) (IsPolygonBound side g) (figures_of pieces) (polygon_bound side g) h
+    by side (Fine fine) h = one_figure side fine (figures_of pieces) h

@@ -8,7 +8,7 @@ use Rattle.board_shapes.specs.declared.placed.Placed.{Placed}
 use Rattle.arcs.specs.Copper.{InChain, Possibly, Surely}
 use Rattle.arcs.specs.declared.Arc.{Arc}
 use Rattle.real_shapes.specs.declared.RealShape.{RealShape}
-use Rattle.real_shapes.specs.declared.RealShape.TheVariants.{Plain, ArcDraw, Slanted, Region, Turned, TurnedDisc, Polygon}
+use Rattle.real_shapes.specs.declared.RealShape.TheVariants.{Plain, ArcDraw, Slanted, Region, Turned, TurnedDisc, Polygon, Fine}
 use Rattle.slants.specs.Cones.{PossiblyTurned, SurelyTurned}
 use Rattle.slants.specs.Copper.{InSlant}
 use Rattle.slants.specs.Discs.{PossiblyInDisc, SurelyInDisc, disc_about}
@@ -17,6 +17,8 @@ use Rattle.slants.specs.declared.polygons.RegularPolygon.{RegularPolygon}
 use Rattle.arc_regions.specs.Copper.{PossiblyIn, SurelyIn}
 use Rattle.arc_regions.specs.declared.Region.{Region as Contour}
 use Rattle.contact.specs.Solid.{SharePoint}
+use Rattle.fine_figures.specs.Fine.{InFine}
+use Rattle.fine_figures.specs.declared.FineFigure.{FineFigure}
 use Rattle.slants.specs.declared.Slant.{Slant}
 use Rattle.slants.specs.declared.discs.TurnedDisc.{TurnedDisc as Disc}
 use Rattle.arc_covers.specs.declared.side.Side.{Side}
@@ -56,6 +58,15 @@ abbrev pub IsPolygonBound : Side → RegularPolygon → List Spot → Type 0
 IsPolygonBound Below g points = (p : Point) → InFigure (filled points) p → SurelyInPolygon g p
 IsPolygonBound Above g points = (p : Point) → PossiblyInPolygon g p → InFigure (filled points) p
 
+-- a figure lies in the fine one, or holds it
+abbrev pub IsFineBound : Side → FineFigure → Figure → Type 0
+IsFineBound Below fine f = (p : Point) → InFigure f p → InFine fine p
+IsFineBound Above fine f = (p : Point) → InFine fine p → InFigure f p
+
+-- the figures are one of which P holds
+abbrev pub OneFigure : (Figure → Type 0) → List Figure → Type 0
+OneFigure P figures = (f : Figure) × (figures ≡ f ∷ []) × P f
+
 -- the figures are one contour of which P holds
 abbrev pub OneContour : (List Spot → Type 0) → List Figure → Type 0
 OneContour P figures = (points : List Spot) × (figures ≡ filled points ∷ []) × P points
@@ -72,6 +83,9 @@ OrNone Above P figures = P figures
 -- they are so, or below there are none
 abbrev pub ContourFor : Side → (List Spot → Type 0) → List Figure → Type 0
 ContourFor side P figures = OrNone side (OneContour P) figures
+
+abbrev pub FigureFor : Side → (Figure → Type 0) → List Figure → Type 0
+FigureFor side P figures = OrNone side (OneFigure P) figures
 
 abbrev pub DiscFor : Side → (Spot → ℕ → Type 0) → List Figure → Type 0
 DiscFor side P figures = OrNone side (OneDisc P) figures
@@ -94,7 +108,7 @@ abbrev pub BoundRegion : Side → Contour → List Figure → Type 0
 BoundRegion Below area figures = ContourFor Below (λ points. (p : Point) → InFigure (filled points) p → SurelyIn area.start area.parts.items p) figures
 BoundRegion Above area figures = HoldTogether (PossiblyIn area.start area.parts.items) figures
 
--- for a figure stands the figure itself, for an arc draw the capsules of one chain of one radius that is a bound: below it maybe none; for a slanted line, a turned figure or a polygon one contour that is: below it maybe none; for a turned disc one disc, or below it none;
+-- for a figure stands the figure itself, for an arc draw the capsules of one chain of one radius that is a bound: below it maybe none; for a slanted line, a turned figure or a polygon one contour that is: below it maybe none; for a turned disc one disc, or below it none, for a fine figure one figure, or below it none;
 -- for a region below one contour that lies in it or none, above figures that hold it together
 abbrev pub StandFor : Side → RealShape → List Figure → Type 0
 StandFor side (Plain shape) figures = figures ≡ figure_of shape ∷ []
@@ -104,6 +118,7 @@ StandFor side (Region area) figures = BoundRegion side area figures
 StandFor side (Turned t) figures = ContourFor side (IsTurnedBound side t.contour.items t.about t.angle) figures
 StandFor side (TurnedDisc disc) figures = DiscFor side (IsDiscBound side disc) figures
 StandFor side (Polygon g) figures = ContourFor side (IsPolygonBound side g) figures
+StandFor side (Fine fine) figures = FigureFor side (IsFineBound side fine) figures
 
 -- the figures of the pieces
 abbrev pub figures_of : List PlainPiece → List Figure

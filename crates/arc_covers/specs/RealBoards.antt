@@ -1,19 +1,20 @@
--- Boards of figures, arc draws, slanted lines, regions with arcs, turned figures and regular polygons, and the copper that these may have.
+-- Boards of figures, arc draws, slanted lines, regions with arcs, turned figures, regular polygons and fine figures, and the copper that these may have.
 use Rattle.std.specs.Prelude.{ℕ, ◌≡◌, ◌↔◌, List, Some, map, slice_get}
 use Rattle.planar.specs.Plane.{Point}
 use Rattle.board_shapes.specs.Figures.{InFigure, figure_of}
 use Rattle.board_shapes.specs.declared.placed.Placed.{Placed}
 use Rattle.arcs.specs.Copper.{IsCopper}
 use Rattle.covers.specs.Boards.{Layout, Span}
+use Rattle.fine_figures.specs.Fine.{InFine}
 use Rattle.real_shapes.specs.declared.RealShape.{RealShape}
-use Rattle.real_shapes.specs.declared.RealShape.TheVariants.{Plain, ArcDraw, Slanted, Region, Turned, TurnedDisc, Polygon}
+use Rattle.real_shapes.specs.declared.RealShape.TheVariants.{Plain, ArcDraw, Slanted, Region, Turned, TurnedDisc, Polygon, Fine}
 use Rattle.slants.specs.Cones.{IsTurnedCopper}
 use Rattle.slants.specs.Copper.{InSlant}
 use Rattle.slants.specs.Discs.{IsDiscCopper}
 use Rattle.slants.specs.Polygons.{IsPolygonCopper}
 use Rattle.arc_regions.specs.Copper as regions
 
--- the points are those of the figure or the slanted line, or a copper of the arc draw, the region, the turned figure or disc, or the polygon
+-- the points are those of the figure, the slanted line or the fine figure, or a copper of the arc draw, the region, the turned figure or disc, or the polygon
 abbrev pub IsCopperOf : RealShape → (Point → Type 0) → Type 0
 IsCopperOf (Plain shape) holds = (p : Point) → InFigure (figure_of shape) p ↔ holds p
 IsCopperOf (ArcDraw arc) holds = IsCopper arc holds
@@ -22,6 +23,7 @@ IsCopperOf (Region area) holds = regions.IsCopper area.start area.parts.items ho
 IsCopperOf (Turned t) holds = IsTurnedCopper t.contour.items t.about t.angle holds
 IsCopperOf (TurnedDisc disc) holds = IsDiscCopper disc holds
 IsCopperOf (Polygon g) holds = IsPolygonCopper g holds
+IsCopperOf (Fine fine) holds = (p : Point) → InFine fine p ↔ holds p
 
 -- the layers of the piece
 abbrev pub real_span : Placed RealShape → Span

@@ -7,7 +7,7 @@ use Rattle.board_shapes.specs.declared.placed.Placed.{Placed}
 use Rattle.arcs.specs.Taken.{TakenAbove, TakenBelow}
 use Rattle.arcs.specs.declared.Arc.{Arc}
 use Rattle.real_shapes.specs.declared.RealShape.{RealShape}
-use Rattle.real_shapes.specs.declared.RealShape.TheVariants.{Plain, ArcDraw, Slanted, Region, Turned, TurnedDisc, Polygon}
+use Rattle.real_shapes.specs.declared.RealShape.TheVariants.{Plain, ArcDraw, Slanted, Region, Turned, TurnedDisc, Polygon, Fine}
 use Rattle.slants.specs.Cones.{FigureAbove, FigureBelow}
 use Rattle.slants.specs.Discs.{DiscAbove, DiscBelow}
 use Rattle.slants.specs.Polygons.{PolygonAbove, PolygonBelow}
@@ -16,9 +16,11 @@ use Rattle.slants.specs.declared.Slant.{Slant}
 use Rattle.slants.specs.declared.discs.TurnedDisc.{TurnedDisc as Disc}
 use Rattle.slants.specs.declared.polygons.RegularPolygon.{RegularPolygon}
 use Rattle.arc_regions.specs.declared.Region.{Region as Contour}
+use Rattle.fine_figures.specs.Taken as fine_figures
+use Rattle.fine_figures.specs.declared.FineFigure.{FineFigure}
 use Rattle.arc_covers.specs.Eighths.{LiesBelow}
 use Rattle.arc_covers.specs.Regions.{RegionAbove}
-use Rattle.arc_covers.specs.Bounds.{AddUp, IsOn, ContourFor, DiscFor, capsules_of, figures_of, share_of}
+use Rattle.arc_covers.specs.Bounds.{AddUp, IsOn, ContourFor, DiscFor, FigureFor, capsules_of, figures_of, share_of}
 use Rattle.arc_covers.specs.declared.side.Side.{Side}
 use Rattle.arc_covers.specs.declared.side.Side.TheVariants.{Below, Above}
 
@@ -47,13 +49,18 @@ abbrev pub IsPolygonTaken : Side → RegularPolygon → List Spot → Type 0
 IsPolygonTaken Below g points = PolygonBelow g points
 IsPolygonTaken Above g points = PolygonAbove g points
 
+-- the checks of `fine_figures` take the figure
+abbrev pub IsFineTaken : Side → FineFigure → Figure → Type 0
+IsFineTaken Below fine f = fine_figures.TakenBelow fine f
+IsFineTaken Above fine f = fine_figures.TakenAbove fine f
+
 -- below they are one contour that is taken, or none; above the polygon and the capsules of chains that are
 abbrev pub RegionTaken : Side → Contour → List Figure → Type 0
 RegionTaken Below area figures = ContourFor Below (LiesBelow area.start area.parts.items) figures
 RegionTaken Above area figures = RegionAbove area.start area.parts.items figures
 
 -- For a figure that figure, for a slanted line, a turned figure or a polygon one contour that is taken or below none. For an arc draw the capsules of one chain of one radius that is taken. Capsules have one chain; no capsules are those of none and of each single
--- spot, of which the former is taken below and nothing above. For a region what its own check takes, for a turned disc one disc that is taken or below none
+-- spot, of which the former is taken below and nothing above. For a region what its own check takes, for a turned disc one disc and for a fine figure one figure that is taken or below none
 abbrev pub StandTaken : Side → RealShape → List Figure → Type 0
 StandTaken side (Plain shape) figures = figures ≡ figure_of shape ∷ []
 StandTaken side (ArcDraw arc) figures = (chain : List Spot) × (r : ℕ) × (figures ≡ capsules_of chain (pos r)) × IsTaken side arc chain r
@@ -62,6 +69,7 @@ StandTaken side (Region area) figures = RegionTaken side area figures
 StandTaken side (Turned t) figures = ContourFor side (IsTurnedTaken side t.contour.items t.about t.angle) figures
 StandTaken side (TurnedDisc disc) figures = DiscFor side (IsDiscTaken side disc) figures
 StandTaken side (Polygon g) figures = ContourFor side (IsPolygonTaken side g) figures
+StandTaken side (Fine fine) figures = FigureFor side (IsFineTaken side fine) figures
 
 -- the pieces are taken for the real piece, all on its layers
 pub record PiecesAreTaken (side : Side) (real : Placed RealShape) (pieces : List PlainPiece) : Type 0 where

@@ -9,7 +9,9 @@ ghost use Rattle.std.specs.Prelude.{IfErr, IfOk, IsTrue, drop, length, sum, take
 
 use crate::laws::taken_are_bounds;
 use crate::regions::is_region;
-use crate::rows::{are_chain, are_contour, are_disc, are_on, are_polygon, are_turned, is_itself};
+use crate::rows::{
+    are_chain, are_contour, are_disc, are_fine, are_on, are_polygon, are_turned, is_itself,
+};
 use crate::side::Side;
 use board_shapes::Piece;
 use lengths::rows::NoMemory;
@@ -70,7 +72,8 @@ fn part(pieces: &[Piece], start: usize, count: u32) -> &[Piece]
 
 /// Whether the pieces are taken for the real piece on that side: they are its figure, the capsules of
 /// a chain that the checks take for its arc draw, a contour that they take for its slanted line, its turned
-/// figure or its polygon, a disc for its turned disc, or what they take for its region, on its layers. `NoMemory` where memory is wanted.
+/// figure or its polygon, a disc for its turned disc, a figure for its fine one, or what they take for its region, on its layers.
+/// `NoMemory` where memory is wanted.
 fn stand(alloc: Global, side: Side, real: &RealPiece, pieces: &[Piece]) -> Result<bool, NoMemory>
     ensures { IfOk result (λ yes. IsTrue yes ↔ PiecesAreTaken side real.now (plain_pieces pieces.now)) }
 {
@@ -85,6 +88,7 @@ fn stand(alloc: Global, side: Side, real: &RealPiece, pieces: &[Piece]) -> Resul
         RealShape::Turned(figure) => Ok(are_turned(side, figure, pieces)),
         RealShape::TurnedDisc(disc) => Ok(are_disc(side, disc, pieces)),
         RealShape::Polygon(polygon) => Ok(are_polygon(side, polygon, pieces)),
+        RealShape::Fine(fine) => Ok(are_fine(side, fine, pieces)),
     }
 }
 

@@ -5,6 +5,7 @@ use arc_regions::laws::{taken_holds, taken_lies};
 use board_shapes::laws::tables_are_unique;
 use covers::Copper;
 use covers::laws::verdicts_decide;
+use fine_figures::laws::fine_is_between;
 use slants::laws::{discs_are_between, polygon_is_between, turned_is_between};
 
 /// Pieces that are taken for those of a real board stand for them.
@@ -16,11 +17,12 @@ pub fn taken_are_bounds()
     turned_is_between();
     discs_are_between();
     polygon_is_between();
+    fine_is_between();
     taken_holds();
     taken_lies();
 }
 
-/// A board of figures, arc draws, slanted lines, regions with arcs and turned figures lies between two whose pieces stand for
+/// A board of figures, arc draws, slanted lines, regions with arcs, turned and fine figures lies between two whose pieces stand for
 /// its own, whatever copper it has of those that its pieces may have.
 pub fn bounds_lie_between<R: Copper>()
     ensures { BoundsLieBetween R.holds }

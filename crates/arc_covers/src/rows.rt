@@ -2,19 +2,20 @@
 ghost use Rattle.arc_covers.specs.Bounds.{IsOn, OneContour, OneDisc, capsules_from, capsules_of, figures_of};
 ghost use Rattle.arc_covers.specs.Taken.{IsDiscTaken, IsLineTaken, IsPolygonTaken, IsTurnedTaken, StandTaken};
 ghost use Rattle.arc_covers.specs.declared.side.Side.TheVariants.{Below};
-ghost use Rattle.real_shapes.specs.declared.RealShape.TheVariants.{ArcDraw, Polygon, Slanted, Turned, TurnedDisc as AnyDisc};
+ghost use Rattle.real_shapes.specs.declared.RealShape.TheVariants.{ArcDraw, Fine, Polygon, Slanted, Turned, TurnedDisc as AnyDisc};
 ghost use Rattle.board_shapes.specs.Figures.{Figure, area_figure, capsule_figure, figure_of, round};
 ghost use Rattle.board_shapes.specs.Pieces.{plain_piece, plain_pieces};
 ghost use Rattle.planar.specs.declared.Spot.{Spot};
 ghost use Rattle.std.specs.Prelude.{All, IfNone, IfOk, IfSome, IsTrue, List, length, pos, ◌≡◌, ◌↔◌, ◌∷◌, []};
 
 use crate::side::{
-    Side, is_disc_taken, is_line_taken, is_polygon_taken, is_taken, is_turned_taken,
+    Side, is_disc_taken, is_fine_taken, is_line_taken, is_polygon_taken, is_taken, is_turned_taken,
 };
 use arcs::{Arc, Spot};
 use area_contact::Area;
 use board_shapes::{Piece, Shape};
 use contact::Capsule;
+use fine_figures::FineFigure;
 use lengths::rows::NoMemory;
 use slants::{RegularPolygon, Slant, TurnedDisc, TurnedFigure};
 use std::alloc::Global;
@@ -243,6 +244,17 @@ pub fn are_polygon(side: Side, polygon: &RegularPolygon, pieces: &[Piece]) -> bo
     match pieces {
         [] => is_lower(side),
         [only] => is_polygon(side, polygon, &only.shape),
+        _ => false,
+    }
+}
+
+/// Whether the pieces are one figure that is taken for the fine one; below, none are taken too.
+pub fn are_fine(side: Side, fine: &FineFigure, pieces: &[Piece]) -> bool
+    ensures { IsTrue result ↔ StandTaken side (Fine fine.now) (figures_of (plain_pieces pieces.now)) }
+{
+    match pieces {
+        [] => is_lower(side),
+        [only] => is_fine_taken(side, fine, &only.shape),
         _ => false,
     }
 }

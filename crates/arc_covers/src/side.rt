@@ -1,8 +1,11 @@
 //! The board below a real one, and the board above.
-ghost use Rattle.arc_covers.specs.Taken.{IsDiscTaken, IsLineTaken, IsPolygonTaken, IsTaken, IsTurnedTaken};
+ghost use Rattle.arc_covers.specs.Taken.{IsDiscTaken, IsFineTaken, IsLineTaken, IsPolygonTaken, IsTaken, IsTurnedTaken};
+ghost use Rattle.board_shapes.specs.Figures.{figure_of};
 ghost use Rattle.std.specs.Prelude.{IsTrue, ◌↔◌};
 
 use arcs::{Arc, Spot, is_above, is_below};
+use board_shapes::Shape;
+use fine_figures::{FineFigure, is_fine_above, is_fine_below};
 use slants::{RegularPolygon, Slant, TurnedDisc, TurnedFigure};
 
 /// On which side of a real board another lies.
@@ -61,5 +64,15 @@ pub fn is_polygon_taken(side: Side, polygon: &RegularPolygon, points: &[Spot]) -
     match side {
         Side::Below => slants::is_below_polygon(polygon, points),
         Side::Above => slants::is_above_polygon(polygon, points),
+    }
+}
+
+/// Whether the figure is taken as a bound of the fine one.
+pub fn is_fine_taken(side: Side, fine: &FineFigure, bound: &Shape) -> bool
+    ensures { IsTrue result ↔ IsFineTaken side fine.now (figure_of bound.now) }
+{
+    match side {
+        Side::Below => is_fine_below(fine, bound),
+        Side::Above => is_fine_above(fine, bound),
     }
 }

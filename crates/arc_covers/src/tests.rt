@@ -7,7 +7,8 @@ use arc_regions::{Bend, Part, Region};
 use arcs::{Arc, Spot};
 use area_contact::Area;
 use board_shapes::{Origin, Piece, Placed, Shape};
-use contact::Capsule;
+use contact::{Bounds, Capsule};
+use fine_figures::{FineFigure, FineStroke};
 use lengths::rows::NoMemory;
 use planar::are_placed;
 use real_shapes::{RealPiece, RealShape};
@@ -439,6 +440,59 @@ fn a_turned_disc(rt: HostRuntime) -> Result<(), Fail> {
         let nothing = check_between(alloc, &real, &[], &[0], &[], &[0]);
         assert!(rt; nothing == above);
     }
+    Ok(())
+}
+
+/// A piece of a fine figure.
+fn fine(alloc: Global, figure: FineFigure) -> Result<Vec<RealPiece>, Fail> {
+    let mut real = Vec::new(alloc);
+    real.push(Placed {
+        shape: RealShape::Fine(figure),
+        top: 1,
+        bottom: 1,
+        origin: ORIGIN,
+    })?;
+    Ok(real)
+}
+
+/// An obround of 3,001 by 1,001 u about 0, between the sizes that are 1 u off, and not others; and a rectangle as large.
+#[test]
+fn odd_pads(rt: HostRuntime) -> Result<(), Fail> {
+    let alloc = rt.alloc();
+    let below = Err(BoundsFault::Piece(Side::Below, 0));
+    let above = Err(BoundsFault::Piece(Side::Above, 0));
+    let obround = FineStroke {
+        a: spot((-2000, 0)),
+        b: spot((2000, 0)),
+        r: 1001,
+    };
+    let real = fine(alloc, FineFigure::Round(obround))?;
+    for (end, small, large, told) in [
+        (1000, 500, 501, Ok(())),
+        (1000, 501, 501, below),
+        (1000, 500, 500, above),
+        (1001, 500, 501, below),
+        (-1000, 500, 501, below),
+    ] {
+        let lower = only(alloc, (-1000, 0), (end, 0), small)?;
+        let upper = only(alloc, (-1000, 0), (1000, 0), large)?;
+        assert!(rt; check_between(alloc, &real, &lower, &[1], &upper, &[1]) == told);
+        let none = check_between(alloc, &real, &[], &[0], &upper, &[1]);
+        assert!(rt; none == if told == above { above } else { Ok(()) });
+    }
+    let rectangle = FineFigure::Rectangle(Bounds {
+        left: -3001,
+        low: -1001,
+        right: 3001,
+        high: 1001,
+    });
+    let real = fine(alloc, rectangle)?;
+    let within = polygon(alloc, [(-1500, -500), (1500, -500), (1500, 500), (-1500, 500)])?;
+    let round = polygon(alloc, [(-1501, -501), (1501, -501), (1501, 501), (-1501, 501)])?;
+    assert!(rt; check_between(alloc, &real, &within, &[1], &round, &[1]) == Ok(()));
+    assert!(rt; check_between(alloc, &real, &round, &[1], &round, &[1]) == below);
+    assert!(rt; check_between(alloc, &real, &within, &[1], &within, &[1]) == above);
+    assert!(rt; check_between(alloc, &real, &[], &[0], &[], &[0]) == above);
     Ok(())
 }
 

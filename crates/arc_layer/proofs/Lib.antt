@@ -1,4 +1,5 @@
 pub mod EachEdge
+pub mod Fines
 pub mod Mute
 pub mod Numbers
 pub mod OnLayer

@@ -1,8 +1,10 @@
--- Bytes that no code of curves, no offset and no macro begins with, and no hole.
-use Rattle.std.proofs.Common.{◌≡◌, ℕ, ◌+◌, ◌==◌, Bool, true, false, cond, ◌&&◌, not, ◌||◌, nat_eq, List, [], ◌∷◌, ◌++◌, take, drop, length, codes, Option, None, refl, sym, ap, ◌∙◌, subst, arith, append_assoc, take-append-drop}
+-- Bytes that no code of curves, no offset and no macro begins with, no hole and no fine aperture.
+use Rattle.std.proofs.Common.{◌≡◌, ℕ, ◌+◌, ◌==◌, Bool, true, false, cond, ◌&&◌, not, ◌||◌, nat_eq, List, [], ◌∷◌, ◌++◌, take, drop, get_or, length, codes, Option, None, refl, sym, ap, ◌∙◌, subst, arith, append_assoc, take-append-drop}
 use Rattle.texts.specs.Words.{begins}
 use Rattle.apertures.specs.Definition.{digits_len, is_comma, is_x, name_text}
 use Rattle.apertures.specs.Holes.{ends_number, has_further, is_circle, is_rectangle, may_have_hole, parameters}
+use Rattle.apertures.specs.Fine.{has_seventh, is_seventh, may_be_fine}
+use Rattle.apertures.proofs.Fines.{seventh_before}
 use Rattle.apertures.proofs.Seen.{behind_drop}
 use Rattle.std.specs.List.{list_all, position_or_len}
 use Rattle.std.proofs.lemmas.List.Folds.{list_all-append}
@@ -15,7 +17,7 @@ use Rattle.gerber_layer.specs.MacroCommands.{loose_command}
 use Rattle.gerber_layer.specs.StraightCommands.{behind_code}
 use Rattle.gerber_layer.specs.WordCommands.{behind, number_len}
 use Rattle.arc_layer.specs.Marks.{HasNoMarks, mark_behind, marks_in}
-use Rattle.arc_layer.specs.Words.{IsQuiet, Saying, begins_offset, begins_telling, behind_numbers, curve_in, from_offsets, are_free, is_free, is_line, is_mute, is_quiet, plain, saying, silent, stop_saying}
+use Rattle.arc_layer.specs.Words.{IsQuiet, Saying, begins_offset, begins_telling, behind_numbers, curve_in, from_offsets, are_free, are_silent, is_free, is_line, is_mute, is_quiet, plain, saying, silent, stop_saying}
 use Rattle.arc_layer.specs.declared.words.Curve.{Curve}
 use Rattle.arc_layer.proofs.Quiet.{StillTo, all_still, quiet_text, still_more, still_stop}
 
@@ -73,6 +75,10 @@ mute_text (b ∷ text) h =
 abbrev Free : List ℕ → Type 0
 Free bytes = are_free bytes ≡ true
 
+false_of : (t : Bool) → not t ≡ true → t ≡ false
+false_of true k = sym k
+false_of false k = refl
+
 -- what such a byte is not
 record IsFreeByte (b : ℕ) (text : List ℕ) : Type 0 where
   mute : is_mute b ≡ true
@@ -84,10 +90,6 @@ free_byte b text h =
     let p = both (is_mute b) (not (65 == b && begins text (codes "M")) && not (ends_number b && begins text (codes "X"))) h in
     let q = both (not (65 == b && begins text (codes "M"))) (not (ends_number b && begins text (codes "X"))) p.1 in
     record { mute = p.0; macro = false_of (65 == b && begins text (codes "M")) q.0; further = false_of (ends_number b && begins text (codes "X")) q.1 }
-  where
-    false_of : (t : Bool) → not t ≡ true → t ≡ false
-    false_of true k = sym k
-    false_of false k = refl
 
 mutes : (text : List ℕ) → Free text → Mute text
 mutes [] h = refl
@@ -128,8 +130,37 @@ no_hole text h = by (begins text (codes "ADD")) (is_circle text) (is_rectangle t
     by true false false none last = refl
     by false b c none last = refl
 
-no_telling : (text : List ℕ) → Free text → begins_telling text ≡ false
-no_telling text h = rw (no_macro text h) (no_hole text h)
+-- no digit stands seven places behind a point, nor in a part of such a text
+abbrev Short : List ℕ → Type 0
+Short bytes = has_seventh bytes ≡ false
+
+neither : (a b : Bool) → (a || b) ≡ false → b ≡ false
+neither true b h = absurd cc
+neither false b h = h
+
+shorter : (b : ℕ) (text : List ℕ) → Short (b ∷ text) → Short text
+shorter b text h = neither (is_seventh b (get_or text 6 0)) (has_seventh text) h
+
+parted_short : (xs ys : List ℕ) → Short (xs ++ ys) → Short xs × Short ys
+parted_short xs ys h = (by (has_seventh xs) refl, behind_all xs h)
+  where
+    by : (b : Bool) → has_seventh xs ≡ b → b ≡ false
+    by true is = absurd (let some = seventh_before xs ys is in cc)
+    by false is = refl
+
+    behind_all : (zs : List ℕ) → Short (zs ++ ys) → Short ys
+    behind_all [] k = k
+    behind_all (b ∷ zs) k = behind_all zs (shorter b (zs ++ ys) k)
+
+no_fine : (text : List ℕ) → Short text → may_be_fine text ≡ false
+no_fine text h = by (begins text (codes "ADD"))
+  where
+    by : (b : Bool) → (b && has_seventh text) ≡ false
+    by true = h
+    by false = refl
+
+no_telling : (text : List ℕ) → Free text → Short text → begins_telling text ≡ false
+no_telling text h s = rw (no_macro text h, no_hole text h) (no_fine text s)
 
 -- whether bytes behind another are free, and with the first begin no macro and go on behind no number
 abbrev pub free_behind : ℕ → List ℕ → Bool
@@ -155,11 +186,11 @@ parted_free (b ∷ xs) ys h =
     let r = parted_free xs ys p.1 in
     (rw (front b xs ys p.0) r.0, r.1)
 
-quiet_word : (w : Entry) → Free w.text → IsQuiet (saying w)
-quiet_word w h = by w.extended
+quiet_word : (w : Entry) → Free w.text → Short w.text → IsQuiet (saying w)
+quiet_word w h s = by w.extended
   where
     by : (b : Bool) → IsQuiet (cond b (silent (loose_command w) (begins_telling w.text)) (plain (loose_command w) w.text))
-    by true = record { line = refl; i = refl; j = refl; more = refl; tells = no_telling w.text h }
+    by true = record { line = refl; i = refl; j = refl; more = refl; tells = no_telling w.text h s }
     by false = quiet_text (loose_command w) w.text (mute_text w.text (mutes w.text h))
 
 -- each word of free bytes is quiet
@@ -167,16 +198,17 @@ abbrev pub AllQuiet : List Entry → Type 0
 AllQuiet [] = Unit {0}
 AllQuiet (w ∷ words) = IsQuiet (saying w) × AllQuiet words
 
-quiet_parts : (pair : Pair) (at : ℕ) (parts : List Part) (rest : List ℕ) → Free (spelling parts ++ rest) → AllQuiet (entries pair at parts)
-quiet_parts pair at [] rest h = tt
-quiet_parts pair at (blank b ∷ parts) rest h = quiet_parts pair (at + 1) parts rest (both (is_free b (spelling parts ++ rest)) (are_free (spelling parts ++ rest)) h).1
-quiet_parts pair at (percent ∷ parts) rest h = quiet_parts (turned pair) (at + 1) parts rest (both (is_free 37 (spelling parts ++ rest)) (are_free (spelling parts ++ rest)) h).1
-quiet_parts pair at (word text ∷ parts) rest h =
+quiet_parts : (pair : Pair) (at : ℕ) (parts : List Part) (rest : List ℕ) → Free (spelling parts ++ rest) → Short (spelling parts ++ rest) → AllQuiet (entries pair at parts)
+quiet_parts pair at [] rest h s = tt
+quiet_parts pair at (blank b ∷ parts) rest h s = quiet_parts pair (at + 1) parts rest (both (is_free b (spelling parts ++ rest)) (are_free (spelling parts ++ rest)) h).1 (shorter b (spelling parts ++ rest) s)
+quiet_parts pair at (percent ∷ parts) rest h s = quiet_parts (turned pair) (at + 1) parts rest (both (is_free 37 (spelling parts ++ rest)) (are_free (spelling parts ++ rest)) h).1 (shorter 37 (spelling parts ++ rest) s)
+quiet_parts pair at (word text ∷ parts) rest h s =
     let whole = parted_free (text ++ 42 ∷ []) (spelling parts ++ rest) (subst Free (append_assoc (text ++ 42 ∷ []) (spelling parts) rest) h) in
-    (quiet_word _ (parted_free text (42 ∷ []) whole.0).0, quiet_parts (with_word pair text) (at + length text + 1) parts rest whole.1)
+    let short = parted_short (text ++ 42 ∷ []) (spelling parts ++ rest) (subst Short (append_assoc (text ++ 42 ∷ []) (spelling parts) rest) s) in
+    (quiet_word _ (parted_free text (42 ∷ []) whole.0).0 (parted_short text (42 ∷ []) short.0).0, quiet_parts (with_word pair text) (at + length text + 1) parts rest whole.1 short.1)
 
-quiet_words : (a : Ahead) (words : List Entry) (stop : Stop) → HasWords a words stop → Free a.bytes → AllQuiet words
-quiet_words a words stop had free = subst AllQuiet (sym had.are) (quiet_parts a.pair a.at had.parts had.cut.rest (subst Free had.cut.whole free))
+quiet_words : (a : Ahead) (words : List Entry) (stop : Stop) → HasWords a words stop → Free a.bytes → Short a.bytes → AllQuiet words
+quiet_words a words stop had free short = subst AllQuiet (sym had.are) (quiet_parts a.pair a.at had.parts had.cut.rest (subst Free had.cut.whole free) (subst Short had.cut.whole short))
 
 -- the words that are left are quiet
 rest_quiet : (size : ℕ) (words : List Entry) (stop : Stop) (all earlier : List (Item Saying)) → StillTo all earlier (items_with saying stop_saying size words stop) → AllQuiet words → IsRead mark_behind marks_in all (λ n. None)
@@ -184,8 +216,10 @@ rest_quiet size [] stop all earlier s q = still_stop all earlier size stop s
 rest_quiet size (w ∷ words) stop all earlier s q =
     rest_quiet size words stop all (word_item saying w ∷ earlier) (still_more all earlier (items_with saying stop_saying size words stop) (word_item saying w) s q.0) q.1
 
-pub no_marks : ((a : Ahead) → HasOneReadingAhead a) → (file : List ℕ) → are_free file ≡ true → HasNoMarks file
-no_marks one file free =
+pub no_marks : ((a : Ahead) → HasOneReadingAhead a) → (file : List ℕ) → are_silent file ≡ true → HasNoMarks file
+no_marks one file silent =
+    let parts = both (are_free file) (not (has_seventh file)) silent in
+    let short : has_seventh file ≡ false = false_of (has_seventh file) parts.1 in
     let w = one (start file) in
     let x = all_still file w.words w.stop w.is in
-    (x.all, x.are, rest_quiet (length file) w.words w.stop x.all [] x.to (quiet_words (start file) w.words w.stop w.is free))
+    (x.all, x.are, rest_quiet (length file) w.words w.stop x.all [] x.to (quiet_words (start file) w.words w.stop w.is parts.0 short))

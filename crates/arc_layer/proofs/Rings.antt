@@ -1,18 +1,20 @@
 -- Circles and rectangles with a hole, as their spots tell them.
-use Rattle.std.proofs.Common.{◌≡◌, ℕ, ℤ, pos, ◌+◌, ◌-◌, ◌*◌, ◌/◌, ◌%◌, ◌<◌, ◌≤◌, ◌==◌, ◌+ℤ◌, ◌-ℤ◌, nat_lt, Bool, true, false, cond, ◌&&◌, List, [], ◌∷◌, length, Option, Some, None, Result, Ok, Err, refl, ap, subst, arith}
+use Rattle.std.proofs.Common.{◌≡◌, ℕ, ℤ, pos, ◌+◌, ◌-◌, ◌*◌, ◌/◌, ◌%◌, ◌<◌, ◌≤◌, ◌==◌, ◌+ℤ◌, ◌-ℤ◌, nat_lt, Bool, true, false, cond, ◌&&◌, List, [], ◌∷◌, length, Option, Some, None, option_map, Result, Ok, Err, refl, ap, ◌∙◌, subst, arith}
 use Rattle.std.specs.Prelude.{unsigned_abs}
 use Rattle.std.specs.List.{list_all}
+use Rattle.std.proofs.lemmas.Bool.Decides.{Decides-int_eq}
 use Rattle.std.proofs.lemmas.Int.{ints}
 use Rattle.planar.specs.Plane.{is_placed}
 use Rattle.planar.specs.declared.Spot.{Spot}
 use Rattle.apertures.specs.Flash.{NoFlash, leaves, flash_of}
 use Rattle.apertures.specs.Holes.{is_ring}
-use Rattle.apertures.specs.Telling.{Frame, Ring, frame_told, ring_told, told_frame, told_ring}
+use Rattle.apertures.specs.Telling.{Fine, Frame, Ring, fine_told, frame_told, ring_told, told_frame, told_ring}
 use Rattle.board_shapes.specs.Figures.{Figure, filled}
 use Rattle.board_shapes.specs.Rectangles.{lower, upper}
 use Rattle.arc_layer.specs.Laws.{FramesAreUndone, RingsAreUndone}
 use Rattle.arc_layer.specs.Marks.{flash}
-use Rattle.arc_layer.specs.Real.{RealFigure, bent, frame_region, with_mark}
+use Rattle.arc_layer.specs.Fine.{fine_figure}
+use Rattle.arc_layer.specs.Real.{RealFigure, bent, bent_or, fine_or, frame_region, ring_draw, with_mark}
 
 -- longer contours tell none
 pub no_ring : (points : List Spot) → 7 ≤ length points → ring_told points ≡ None
@@ -46,12 +48,17 @@ sizes d hole h = by (nat_lt 0 hole) (nat_lt hole d) ((d + hole) % 4 == 0) refl r
     by true false c less whole h = absurd cc
     by false b c less whole h = absurd cc
 
+-- its spots are of one height, so it is no fine aperture
+level : (d hole : ℕ) (at : Spot) → fine_told (told_ring d hole at) ≡ None
+level d hole at = rw ((Decides-int_eq (at.y +ℤ pos 0) (at.y +ℤ pos 0)).1 refl) refl
+
 drawn : Spot → ℕ → ℕ → RealFigure
 drawn at d hole = bent (record { centre = at; start = upper at ((d + hole) / 2) 0; end = upper at ((d + hole) / 2) 0; width = (d - hole) / 2 })
 
 told : (d hole : ℕ) (at : Spot) → hole < d → (d + hole) % 4 ≡ 0 → hole % 2 ≡ 0 → with_mark (Some flash) (filled (told_ring d hole at)) ≡ drawn at d hole
 unfolding drawn
-told d hole at less whole even = ap (λ (pen : ℕ). bent (record { centre = at; start = upper at ((d + hole) / 2) 0; end = upper at ((d + hole) / 2) 0; width = pen })) (pen_is at.x d hole less whole even)
+told d hole at less whole even =
+    ap (λ (f : Option Fine). fine_or (option_map fine_figure f) (bent_or (option_map ring_draw (ring_told (told_ring d hole at))) (bent (record { centre = at; start = at; end = at; width = 0 })))) (level d hole at) ∙ ap (λ (pen : ℕ). bent (record { centre = at; start = upper at ((d + hole) / 2) 0; end = upper at ((d + hole) / 2) 0; width = pen })) (pen_is at.x d hole less whole even)
 
 pub rings : RingsAreUndone
 unfolding flash_of drawn

@@ -5,14 +5,16 @@ use Rattle.planar.specs.declared.Spot.{Spot}
 use Rattle.area_contact.specs.Contour.{IsClosed, IsContour}
 use Rattle.aperture_macros.specs.Telling.{told, told_round}
 use Rattle.apertures.specs.Flash.{IsLawful, flash_of}
-use Rattle.apertures.specs.declared.aperture.Aperture.TheVariants.{Frame, Ring}
+use Rattle.apertures.specs.declared.aperture.Aperture.TheVariants.{FineObround, FineRectangle, Frame, Ring}
 use Rattle.board_shapes.specs.Figures.{Figure, filled}
+use Rattle.fine_figures.specs.declared.FineFigure.TheVariants.{Round, Rectangle}
 use Rattle.board_shapes.specs.Rectangles.{lower, upper}
 use Rattle.regions.specs.Contours.{close_of}
 use Rattle.gerber_layer.specs.CommandEffects.{edges_in}
 use Rattle.gerber_layer.specs.Settings.{contour_before}
 use Rattle.arc_layer.specs.Marks.{contour, edges_before, flash, mark_behind}
-use Rattle.arc_layer.specs.Real.{bent, flashed, frame_region, plain, turned, turned_disc, with_mark}
+use Rattle.arc_layer.specs.Fine.{fine_sides, fine_stroke}
+use Rattle.arc_layer.specs.Real.{bent, fine, flashed, frame_region, plain, turned, turned_disc, with_mark}
 use Rattle.arc_layer.specs.State.{commands_of}
 use Rattle.arc_layer.specs.Words.{Saying}
 use Rattle.arc_layer.specs.declared.draws.Bend.{Bend}
@@ -53,6 +55,15 @@ FramesAreUndone = (x y hole : ℤ) (at : Spot) (figure : Figure) → flash_of (F
       low = lower at (unsigned_abs x) (unsigned_abs y);
       high = upper at (unsigned_abs x) (unsigned_abs y);
     })
+
+-- A flash of a fine aperture is its figure in half u about the spot, as wide and as high as the aperture.
+abbrev pub FineRectanglesAreUndone : Type 0
+FineRectanglesAreUndone = (x y : ℤ) (at : Spot) (figure : Figure) → IsLawful (FineRectangle x y) → flash_of (FineRectangle x y) at ≡ Ok (Some figure)
+    → with_mark (Some flash) figure ≡ fine (Rectangle (fine_sides at (unsigned_abs x) (unsigned_abs y)))
+
+abbrev pub FineObroundsAreUndone : Type 0
+FineObroundsAreUndone = (x y : ℤ) (at : Spot) (figure : Figure) → IsLawful (FineObround x y) → flash_of (FineObround x y) at ≡ Ok (Some figure)
+    → with_mark (Some flash) figure ≡ fine (Round (fine_stroke at (unsigned_abs x) (unsigned_abs y)))
 
 -- What a contour of a flash has before its turn is a contour, turned about a spot within one metre by some angle below a right one.
 abbrev pub TurnedAreContours : Type 0

@@ -1,5 +1,6 @@
 pub mod Bends
 pub mod Centres
+pub mod Fine
 pub mod Kinds
 pub mod Laws
 pub mod Marks

@@ -1,4 +1,4 @@
--- Real copper: the pieces of a copper file in which draws may be arcs, circles and rectangles may have round holes, and macros may have slanted lines and turned figures.
+-- Real copper: the pieces of a copper file in which draws may be arcs, circles and rectangles may have round holes, sizes may be odd, and macros may have slanted lines and turned figures.
 use Rattle.std.specs.Prelude.{◌≡◌, ℕ, ◌+◌, ◌-◌, ◌*◌, ◌^◌, ◌<◌, ◌≤◌, ◌-ℤ◌, Bool, false, ◌&&◌, ◌||◌, not, ◌==◌, nat_lt, int_lt, if◌then◌else◌, List, [], ◌∷◌, drop, map, Option, Some, None, option_map, unsigned_abs, Result, Ok, Err}
 use Rattle.std.specs.Ordering.{int_eq}
 use Rattle.planar.specs.declared.Spot.{Spot}
@@ -7,6 +7,7 @@ use Rattle.board_shapes.specs.Pieces.{PlainPiece}
 use Rattle.board_shapes.specs.declared.placed.Origin.{Origin}
 use Rattle.board_shapes.specs.declared.placed.Placed.{Placed}
 use Rattle.arcs.specs.declared.Arc.{Arc}
+use Rattle.fine_figures.specs.declared.FineFigure.{FineFigure}
 use Rattle.slants.specs.declared.Slant.{Slant}
 use Rattle.slants.specs.declared.discs.TurnedDisc.{TurnedDisc}
 use Rattle.arc_regions.specs.declared.Part.{Part}
@@ -23,6 +24,7 @@ use Rattle.apertures.specs.Telling.{Frame, Ring, frame_told, ring_told}
 use Rattle.aperture_macros.specs.Telling.{RoundTelling, Telling, round_told, told_in}
 use Rattle.arc_layer.specs.Marks.{AreMarks, IsBendRefused, PlainMark, arc, contour, flash}
 use Rattle.arc_layer.specs.Centres.{moved, same_spot}
+use Rattle.arc_layer.specs.Fine.{fine_in}
 use Rattle.arc_layer.specs.declared.draws.Bend.{Bend}
 use Rattle.arc_layer.specs.declared.kind.RealKind.{RealKind}
 use Rattle.arc_layer.specs.declared.kind.RealKind.TheVariants.{Copper}
@@ -32,7 +34,7 @@ use Rattle.slants.specs.declared.polygons.TheConstants.{PARTS}
 use Rattle.real_shapes.specs.declared.RealShape.{RealShape}
 use Rattle.real_shapes.specs.declared.RealShape.TheVariants as shape
 
--- a figure, an arc draw, the rectangle of a slanted line, a region whose contour has arcs, a contour that is turned about a spot, counterclockwise, by so many parts of 10^-7 degrees, a disc that is, or a regular polygon
+-- a figure, an arc draw, the rectangle of a slanted line, a region whose contour has arcs, a contour that is turned about a spot, counterclockwise, by so many parts of 10^-7 degrees, a disc that is, a regular polygon, or a figure in half u
 pub data RealFigure : Type 0 where
   plain : Figure → RealFigure
   bent : Arc → RealFigure
@@ -41,6 +43,7 @@ pub data RealFigure : Type 0 where
   turned : List Spot → Spot → ℕ → RealFigure
   turned_disc : TurnedDisc → RealFigure
   regular : RegularPolygon → RealFigure
+  fine : FineFigure → RealFigure
 
 -- one on a span of layers
 pub record PlainReal : Type 0 where
@@ -58,6 +61,7 @@ real_figure (shape.Region area) = curved area.start area.parts.items
 real_figure (shape.Turned t) = turned t.contour.items t.about t.angle
 real_figure (shape.TurnedDisc disc) = turned_disc disc
 real_figure (shape.Polygon g) = regular g
+real_figure (shape.Fine f) = fine f
 
 abbrev pub plain_real : Placed RealShape → PlainReal
 plain_real p = record { figure = real_figure p.shape; top = p.top; bottom = p.bottom; origin = p.origin }
@@ -155,13 +159,17 @@ abbrev pub frame_or : Option Frame → RealFigure → RealFigure
 frame_or (Some f) area = frame_region f
 frame_or None area = area
 
--- An area that a flash makes: that of a circle or a rectangle with a hole, or what it tells of a macro's.
+-- An area that a flash makes: a fine aperture, a circle or a rectangle with a hole, or what it tells of a macro's.
 abbrev pub bent_or : Option Arc → RealFigure → RealFigure
 bent_or (Some a) area = bent a
 bent_or None area = area
 
+abbrev pub fine_or : Option FineFigure → RealFigure → RealFigure
+fine_or (Some f) area = fine f
+fine_or None area = area
+
 abbrev pub flashed : List Spot → RealFigure
-flashed points = bent_or (ring_in points) (frame_or (frame_told points) (disc_or points (round_told points) (told_area points (told_in points))))
+flashed points = fine_or (fine_in points) (bent_or (ring_in points) (frame_or (frame_told points) (disc_or points (round_told points) (told_area points (told_in points)))))
 
 -- A draw with a bend is its arc, and an area behind the bends of its contour the region that they bound. A stroke along no axis that a flash makes is the vector line of a macro (Gerber Layer Format Specification,
 -- 4.5.1, code 20): other primitives make none, and obrounds run along an axis. An area that a flash makes is what it tells. Each other figure is what it is.

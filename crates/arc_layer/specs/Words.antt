@@ -1,6 +1,7 @@
--- What a word says of arcs (Gerber Layer Format Specification, 4.7 and 4.8), and whether it begins a macro (4.5) or may define a hole (4.4.6).
+-- What a word says of arcs (Gerber Layer Format Specification, 4.7 and 4.8), and whether it begins a macro (4.5), or may define a hole (4.4.6) or a fine aperture.
 use Rattle.std.specs.Prelude.{◌≡◌, ℕ, Bool, true, false, ◌&&◌, ◌||◌, ◌==◌, not, nat_lt, if◌then◌else◌, List, [], ◌∷◌, drop, codes, Option, Some, None, is_none, option_map}
 use Rattle.texts.specs.Words.{begins, is_word}
+use Rattle.apertures.specs.Fine.{has_seventh, may_be_fine}
 use Rattle.apertures.specs.Holes.{ends_number, may_have_hole}
 use Rattle.file_reading.specs.LookingBack.{latest}
 use Rattle.gerber_words.specs.Words.{Entry, Stop, begins_macro}
@@ -15,7 +16,7 @@ use Rattle.arc_layer.specs.declared.words.Quadrants.{Quadrants}
 use Rattle.arc_layer.specs.declared.words.Quadrants.TheVariants.{Single, Multi}
 use Rattle.arc_layer.specs.declared.words.Saying.{Saying as Seen}
 
--- what a word says: its command where arcs are straight, the curve and the quadrants that it sets, its offsets, and whether flashes behind it may tell more than they show: it begins a macro, or may define a hole
+-- what a word says: its command where arcs are straight, the curve and the quadrants that it sets, its offsets, and whether flashes behind it may tell more than they show: it begins a macro, or may define a hole or a fine aperture
 pub record Saying : Type 0 where
   pub command : Command
   pub curve : Option Curve
@@ -85,9 +86,13 @@ plain command text = with_offsets command (curve_in text) (quadrants_in text) (f
 abbrev pub silent : Command → Bool → Saying
 silent command tells = record { command = command; curve = None; quadrants = None; i = None; j = None; more = false; tells = tells }
 
--- it begins a macro, or may define a hole
+-- it may define a hole or a fine aperture
+abbrev pub may_define : List ℕ → Bool
+may_define text = may_have_hole text || may_be_fine text
+
+-- or it begins a macro
 abbrev pub begins_telling : List ℕ → Bool
-begins_telling text = begins_macro text || may_have_hole text
+begins_telling text = begins_macro text || may_define text
 
 -- Of arcs only plain words say something, and extended words alone define something.
 abbrev pub saying : Entry → Saying
@@ -126,6 +131,10 @@ is_free b bytes = is_mute b && (not (65 == b && begins bytes (codes "M")) && not
 abbrev pub are_free : List ℕ → Bool
 are_free [] = true
 are_free (b ∷ bytes) = is_free b bytes && are_free bytes
+
+-- and no digit stands seven places behind a point
+abbrev pub are_silent : List ℕ → Bool
+are_silent bytes = are_free bytes && not (has_seventh bytes)
 
 -- so of any word by what it says: behind lines, it makes no arc and has no fault of one; and no flash behind it may tell more
 pub record IsQuiet (w : Saying) : Type 0 where

@@ -1,6 +1,6 @@
 //! Laws over the definitions alone.
 ghost use Rattle.arc_layer.specs.Kinds.{RealKindsHaveOwnNumbers};
-ghost use Rattle.arc_layer.specs.Laws.{DiscsAreUndone, EachEdgeHasABend, FramesAreUndone, MarksFitAreas, RingsAreUndone, TurnedAreContours, TurnsAreUndone};
+ghost use Rattle.arc_layer.specs.Laws.{DiscsAreUndone, EachEdgeHasABend, FineObroundsAreUndone, FineRectanglesAreUndone, FramesAreUndone, MarksFitAreas, RingsAreUndone, TurnedAreContours, TurnsAreUndone};
 ghost use Rattle.arc_layer.specs.Real.{HasOneRealAnswer};
 ghost use Rattle.gerber_layer.specs.declared.place.Place.{Place};
 ghost use Rattle.std.specs.Prelude.{ℕ, List};
@@ -46,4 +46,10 @@ pub fn turns_are_told()
 pub fn holes_are_told()
     ensures rings { RingsAreUndone }
     ensures frames { FramesAreUndone }
+{}
+
+/// What a flash of a fine aperture tells is that rectangle or obround, in half u.
+pub fn fines_are_told()
+    ensures rectangles { FineRectanglesAreUndone }
+    ensures obrounds { FineObroundsAreUndone }
 {}

@@ -11,6 +11,7 @@
 mod centres;
 mod draws;
 mod edges;
+mod fine;
 mod kind;
 pub mod laws;
 mod mark;

@@ -15,7 +15,7 @@ use crate::edges::{closes, contour_mark, edges_behind, flashes, mark_by};
 use crate::kind::{RealFault, RealKind};
 use crate::mark::Mark;
 use crate::state::{State, at_start};
-use crate::words::{Saying, are_free, is_quiet, read_word, selects_alone};
+use crate::words::{Saying, are_silent, is_quiet, read_word, selects_alone};
 use file_reading::Halt;
 use gerber_layer::Command;
 use gerber_words::laws::words_lie_ahead;
@@ -153,7 +153,7 @@ fn is_straight(file: &[u8]) -> bool
     ensures none { result ≡ true → HasNoMarks file.now }
 {
     words_lie_ahead();
-    if are_free(file) {
+    if are_silent(file) {
         return true;
     }
     let mut words = Words::new(file);

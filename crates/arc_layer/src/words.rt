@@ -1,4 +1,4 @@
-//! What a word says of arcs, and whether it begins a macro or may define a hole.
+//! What a word says of arcs, and whether it begins a macro, or may define a hole or a fine aperture.
 ghost use Rattle.apertures.specs.Holes.{ends_number};
 ghost use Rattle.arc_layer.specs.Words as spec;
 ghost use Rattle.gerber_layer.specs.Command.{view};
@@ -8,7 +8,7 @@ ghost use Rattle.gerber_words.specs.Words as words;
 ghost use Rattle.std.specs.Option.{option_copied};
 ghost use Rattle.std.specs.Prelude.{◌≡◌, ◌≤◌, ◌==◌, ◌&&◌, not, true, length, option_map};
 
-use apertures::{is_further, may_have_hole};
+use apertures::{has_seventh, is_further, may_be_fine, may_have_hole};
 use gerber_layer::{Command, behind_code, goes_on, part, read_loose_command};
 use gerber_words::Word;
 use texts::{begins, is_word};
@@ -39,7 +39,7 @@ pub struct Saying<'a> {
     pub j: Option<&'a [u8]>,
     /// There are further offsets.
     pub more: bool,
-    /// Flashes behind it may tell more than they show: it begins a macro, or may define a hole.
+    /// Flashes behind it may tell more than they show: it begins a macro, or may define a hole or a fine aperture.
     pub tells: bool,
 }
 
@@ -49,10 +49,16 @@ fn begins_macro(text: &[u8]) -> bool
     begins(text, b"AM")
 }
 
+fn may_define(text: &[u8]) -> bool
+    ensures { result ≡ spec.may_define text.now }
+{
+    may_have_hole(text) || may_be_fine(text)
+}
+
 fn begins_telling(text: &[u8]) -> bool
     ensures { result ≡ spec.begins_telling text.now }
 {
-    begins_macro(text) || may_have_hole(text)
+    begins_macro(text) || may_define(text)
 }
 
 fn is_short(text: &[u8]) -> bool
@@ -222,9 +228,8 @@ fn goes_free(before: u8, b: u8) -> bool
     is_mute(b) && begins_none(before, b)
 }
 
-/// Whether no byte is from `G` to `J`, no macro begins and no `X` stands behind a number, so that no word of these bytes
-/// says anything. All bytes are looked at, for then a processor can look at many at a time.
-pub fn are_free(bytes: &[u8]) -> bool
+/// Whether no byte is from `G` to `J`, no macro begins and no `X` stands behind a number. All bytes are looked at, for then a processor can look at many at a time.
+fn are_free(bytes: &[u8]) -> bool
     ensures { result ≡ spec.are_free bytes.now }
 {
     let mut free = true;
@@ -234,6 +239,13 @@ pub fn are_free(bytes: &[u8]) -> bool
         before = *b;
     }
     free
+}
+
+/// Whether also no digit stands seven places behind a point, so that no word of these bytes says anything.
+pub fn are_silent(bytes: &[u8]) -> bool
+    ensures { result ≡ spec.are_silent bytes.now }
+{
+    are_free(bytes) && !has_seventh(bytes)
 }
 
 // Most words begin with no code: they set no curve.
@@ -247,7 +259,7 @@ fn is_quiet_text(text: &[u8]) -> bool
     }
 }
 
-/// Whether a word says nothing of arcs, begins no macro and defines no hole, so that behind lines its command need not be read.
+/// Whether a word says nothing of arcs, begins no macro and defines no hole and no fine aperture, so that behind lines its command need not be read.
 pub fn is_quiet(word: Word) -> bool
     ensures { result ≡ true → spec.IsQuiet (spec.saying (entry_of word.entry)) }
 {

@@ -3,6 +3,7 @@
 use arc_layer::{Arc, RealFault, RealPiece, RealShape, read_real};
 use arc_regions::Part;
 use board_shapes::{Room, Shape};
+use fine_figures::FineFigure;
 use gerber_layer::Place;
 use planar::Spot;
 use std::alloc::{AllocError, Global};
@@ -79,6 +80,14 @@ fn shown(alloc: Global, piece: &RealPiece) -> Result<String, AllocError> {
                 "{n} corners about {} {} by {} at {}",
                 c.x, c.y, g.diameter, g.angle
             )?;
+        },
+        RealShape::Fine(FineFigure::Round(f)) => {
+            let (a, b, r) = (f.a, f.b, f.r);
+            write!(line, "in halves {} {}, {} {}, {r}", a.x, a.y, b.x, b.y)?;
+        },
+        RealShape::Fine(FineFigure::Rectangle(f)) => {
+            let (left, low, right, high) = (f.left, f.low, f.right, f.high);
+            write!(line, "in halves from {left} {low} to {right} {high}")?;
         },
     }
     write!(line, " by {}.{}", piece.origin.command, piece.origin.copy)?;
@@ -437,6 +446,42 @@ fn of_holes() -> [(&'static str, &'static str); 7] {
     ]
 }
 
+// Flashes of odd sizes, all of this crate's own: in half u, also in copies; and no pens.
+fn of_fines() -> [(&'static str, &'static str); 8] {
+    [
+        (
+            "%ADD11C,1.0000001*%D11*X1000000Y0D03*D10*D03*M02*",
+            "in halves 20000000 0, 20000000 0, 10000001 by 7.0\n10000000 0, 10000000 0, 5000000 by 9.0",
+        ),
+        (
+            "%ADD11R,1.0X0.5000001*%D11*X0Y1000000D03*M02*",
+            "in halves from -10000000 14999999 to 10000000 25000001 by 7.0",
+        ),
+        (
+            "%ADD11O,0.5X0.3000001*%%SRX2Y1I3.0J0*%D11*X0Y0D03*%SR*%M02*",
+            "in halves -1999999 0, 1999999 0, 3000001 by 8.0\nin halves 58000001 0, 61999999 0, 3000001 by 8.1",
+        ),
+        (
+            "%ADD11O,0.3000001X0.5*%D11*X0Y0D03*M02*",
+            "in halves 0 -1999999, 0 1999999, 3000001 by 7.0",
+        ),
+        (
+            "%FSLAX26Y26*%%MOIN*%%ADD11R,0.0000005X0.1*%D11*X0Y0D03*M02*",
+            "in halves from -127 -25400000 to 127 25400000 by 5.0",
+        ),
+        // Behind such a definition other flashes are as they were.
+        (
+            "%ADD11C,1.0000001*%%ADD12R,2.0X1.0*%D12*X0Y0D03*M02*",
+            "an area, -10000000 -5000000, 10000000 -5000000, 10000000 5000000, -10000000 5000000, -10000000 -5000000 by 8.0",
+        ),
+        (
+            "%ADD11C,1.0000001*%D11*X1000000D01*M02*",
+            "Copper(Gerber(PenNotCircle)) at command 7",
+        ),
+        ("%ADD11C,1.00000001*%M02*", "Copper(Gerber(OffGrid)) at command 5"),
+    ]
+}
+
 // Contours with arcs, all of this crate's own; one without is an area.
 fn of_regions() -> [(&'static str, &'static str); 6] {
     [
@@ -482,6 +527,10 @@ fn arcs_are_read(rt: HostRuntime) -> Result<(), Fail> {
         assert_eq!(rt; read.as_str(), expected);
     }
     for (words, expected) in of_holes() {
+        let read = told(rt.alloc(), words)?;
+        assert_eq!(rt; read.as_str(), expected);
+    }
+    for (words, expected) in of_fines() {
         let read = told(rt.alloc(), words)?;
         assert_eq!(rt; read.as_str(), expected);
     }

@@ -9,7 +9,9 @@ use Rattle.apertures.specs.declared.aperture.Aperture.{Aperture}
 use Rattle.apertures.specs.declared.fault.ApertureFault.{ApertureFault}
 use Rattle.apertures.specs.declared.fault.ApertureFault.TheVariants as aperture
 use Rattle.apertures.specs.Definition.{aperture_at, name_of}
-use Rattle.apertures.specs.Holes.{or_holed, real_aperture_at, holed_at}
+use Rattle.apertures.specs.Fine.{fine_at}
+use Rattle.apertures.specs.Holes.{holed_at}
+use Rattle.apertures.specs.Real.{or_real, real_aperture_at}
 use Rattle.aperture_macros.specs.BodyWord.{PlainPrimitive, primitive_at}
 use Rattle.aperture_macros.specs.declared.fault.MacroFault.{MacroFault}
 use Rattle.aperture_macros.specs.declared.primitive.Copper.{Copper}
@@ -51,9 +53,9 @@ unfolding fill_macro
 filled_is k copper text e h = filled (has_room k.macros.latest) (primitive_at copper text) e h
 
 -- a definition of an aperture by a macro
-of_macro : (r holed : Result (ℕ × Aperture) ApertureFault) (other : Option (ℕ × Tool)) → is_of_macro r ≡ true → tool_by (or_holed r holed) other ≡ other
-of_macro (Err aperture.Macro) holed other h = refl
-of_macro any holed other h = cc
+of_macro : (r holed fine : Result (ℕ × Aperture) ApertureFault) (other : Option (ℕ × Tool)) → is_of_macro r ≡ true → tool_by (or_real r holed fine) other ≡ other
+of_macro (Err aperture.Macro) holed fine other h = refl
+of_macro any holed fine other h = cc
 
 -- what it makes
 record Composed (text : List ℕ) (unit : Measure) (e : Effect) : Type 0 where
@@ -110,7 +112,7 @@ defined_any copper k text e h =
           n = digits_value 10 (number_digits text);
           tool = composed (name_of (name_text text)) c.parameters unit;
           unit_is = is;
-          read_is = of_macro (aperture_at text unit) (holed_at text unit) (composed_in text unit) of ∙ ap (option_map (λ (ps : List Fraction). (digits_value 10 (number_digits text), composed (name_of (name_text text)) ps unit))) c.read;
+          read_is = of_macro (aperture_at text unit) (holed_at text unit) (fine_at text unit) (composed_in text unit) of ∙ ap (option_map (λ (ps : List Fraction). (digits_value 10 (number_digits text), composed (name_of (name_text text)) ps unit))) c.read;
           is = c.is;
         }
     by unit is false of h = standard_did copper k text unit e is (gerber_ok (define_in copper k text unit) e h)

@@ -9,7 +9,7 @@ use Rattle.apertures.specs.declared.aperture.Aperture.{Aperture}
 use Rattle.apertures.specs.declared.fault.ApertureFault.{ApertureFault}
 use Rattle.apertures.specs.declared.fault.ApertureFault.TheVariants as aperture
 use Rattle.apertures.specs.Definition.{aperture_at, name_of}
-use Rattle.apertures.specs.Holes.{real_aperture_at}
+use Rattle.apertures.specs.Real.{real_aperture_at}
 use Rattle.aperture_macros.specs.BodyWord.{PlainPrimitive, primitive_at}
 use Rattle.aperture_macros.specs.Flashes.{judged}
 use Rattle.aperture_macros.specs.declared.fault.MacroFault.{MacroFault}
@@ -87,7 +87,7 @@ abbrev pub is_of_macro : Result (ℕ × Aperture) ApertureFault → Bool
 is_of_macro (Err aperture.Macro) = true
 is_of_macro other = false
 
--- the row of a definition of a standard aperture in such copper: in real copper a circle or a rectangle may have a hole
+-- the row of a definition of a standard aperture in such copper: in real copper a circle or a rectangle may have a hole, and sizes may be odd
 unfoldable pub define_real : Known → List ℕ → Measure → Result Effect GerberKind
 define_real k text unit = read (real_aperture_at text unit) >>= λ made. define_as k made
 

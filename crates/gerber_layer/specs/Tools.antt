@@ -11,7 +11,7 @@ use Rattle.apertures.specs.declared.fault.ApertureFault.TheVariants as aperture
 use Rattle.apertures.specs.Flash.{pen_of}
 pub use Rattle.apertures.specs.Definition.{name_text, number_digits}
 use Rattle.apertures.specs.Definition.{is_comma, is_x, name_of}
-use Rattle.apertures.specs.Holes.{real_aperture_at}
+use Rattle.apertures.specs.Real.{real_aperture_at}
 use Rattle.aperture_macros.specs.BodyWord.{PlainPrimitive}
 
 -- An aperture: a standard one, or the macro of a name with its parameters and their unit.
@@ -86,6 +86,6 @@ tool_by (Ok made) other = Some (made.0, standard made.1)
 tool_by (Err aperture.Macro) other = other
 tool_by (Err fault) other = None
 
--- what an `AD` word defines: a standard aperture, or one of a macro. Where copper is taken exactly, a hole is refused.
+-- what an `AD` word defines: a standard aperture, or one of a macro. Where copper is taken exactly, a hole and an odd size are refused.
 abbrev pub tool_in : List ℕ → Measure → Option (ℕ × Tool)
 tool_in word unit = tool_by (real_aperture_at word unit) (composed_in word unit)

@@ -192,7 +192,7 @@ impl<'a> Reader<'a> {
         Ok(Effect::Makes(n, Tool::Composed(name, parameters, unit, marks)))
     }
 
-    // A standard aperture, which in real copper may have a hole.
+    // A standard aperture, which in real copper may have a hole or odd sizes.
     #[tactic(auto, unfolding(crate::specs::MacroTable::define_real))]
     fn define_real(&self, text: &[u8], unit: Unit) -> Result<Effect<'a>, GerberKind>
         ensures value { showing (known_of self.now) result ≡ spec.define_real (known_of self.now) text.now unit }

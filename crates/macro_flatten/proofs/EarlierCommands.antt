@@ -18,7 +18,7 @@ use Rattle.apertures.specs.declared.aperture.Aperture.{Aperture}
 use Rattle.apertures.specs.declared.fault.ApertureFault.{ApertureFault}
 use Rattle.apertures.specs.declared.fault.ApertureFault.TheVariants as aperture
 use Rattle.apertures.specs.Definition.{name_of}
-use Rattle.apertures.specs.Holes.{real_aperture_at}
+use Rattle.apertures.specs.Real.{real_aperture_at}
 use Rattle.apertures.specs.Flash.{IsLawful}
 use Rattle.apertures.proofs.Lawful.{real_lawful}
 use Rattle.aperture_macros.specs.declared.primitive.Copper.{Copper}

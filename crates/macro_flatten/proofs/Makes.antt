@@ -13,7 +13,7 @@ use Rattle.area_contact.specs.Contour.{end_from}
 use Rattle.board_shapes.specs.Figures.{Figure, round, figure_edges}
 use Rattle.board_shapes.specs.Pieces.{PlainPiece}
 use Rattle.apertures.specs.declared.aperture.Aperture.{Aperture}
-use Rattle.apertures.specs.declared.aperture.Aperture.TheVariants.{Circle, Rectangle, Obround, Ring, Frame}
+use Rattle.apertures.specs.declared.aperture.Aperture.TheVariants.{Circle, Rectangle, Obround, Ring, Frame, FineRectangle, FineObround}
 use Rattle.apertures.specs.Definition.{is_zero}
 use Rattle.apertures.specs.Flash.{NoFlash, IsNarrow, IsSize, IsLawful, flash_of, half}
 use Rattle.aperture_macros.specs.BodyWord.{PlainPrimitive}
@@ -145,6 +145,8 @@ pen_size (standard (Rectangle x y)) d h e = cc
 pen_size (standard (Obround x y)) d h e = cc
 pen_size (standard (Ring x hole)) d h e = cc
 pen_size (standard (Frame x y hole)) d h e = cc
+pen_size (standard (FineRectangle x y)) d h e = cc
+pen_size (standard (FineObround x y)) d h e = cc
 pen_size (composed name parameters unit) d h e = cc
 
 -- ---- Draws and flashes

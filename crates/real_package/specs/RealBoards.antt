@@ -1,6 +1,6 @@
 -- Boards of real copper as plain data, and what such a board keeps.
 use Rattle.std.specs.Prelude.{◌≡◌, ℕ, ◌-◌, ◌^◌, nat_lt, if◌then◌else◌, List, [], ◌++◌, map, sum_by, length}
-use Rattle.arc_layer.specs.Real.{PlainReal, RealFigure, plain, bent, slanted, curved, turned, turned_disc, regular, plain_reals}
+use Rattle.arc_layer.specs.Real.{PlainReal, RealFigure, plain, bent, slanted, curved, turned, turned_disc, regular, fine, plain_reals}
 use Rattle.real_shapes.specs.declared.RealShape.{RealShape}
 use Rattle.board_shapes.specs.Figures.{figure_edges}
 use Rattle.board_shapes.specs.Pieces.{PlainPiece}
@@ -46,7 +46,7 @@ as_reals pieces = map as_real pieces
 abbrev pub counted : ℕ → ℕ
 counted n = if nat_lt n (2 ^ 32) then n else 2 ^ 32 - 1
 
--- arc draws, slanted lines and turned discs have no edges, as strokes have none; a region has as many as parts, a turned figure those of its contour, and a regular polygon as many as corners
+-- arc draws, slanted lines, turned discs and fine figures have no edges, as strokes have none; a region has as many as parts, a turned figure those of its contour, and a regular polygon as many as corners
 abbrev pub real_edges : RealFigure → ℕ
 real_edges (plain figure) = figure_edges figure
 real_edges (bent arc) = 0
@@ -55,6 +55,7 @@ real_edges (curved start parts) = counted (length parts)
 real_edges (turned contour about rest) = counted (length contour - 1)
 real_edges (turned_disc disc) = 0
 real_edges (regular g) = g.corners
+real_edges (fine f) = 0
 
 abbrev pub edges_in : List PlainReal → ℕ
 edges_in pieces = sum_by (λ (p : PlainReal). real_edges p.figure) pieces

@@ -36,6 +36,7 @@ fn edges_of(shape: &RealShape) -> u32
         RealShape::Turned(figure) => counted(figure.contour.len().saturating_sub(1)),
         RealShape::TurnedDisc(_) => 0,
         RealShape::Polygon(polygon) => polygon.corners,
+        RealShape::Fine(_) => 0,
     }
 }
 

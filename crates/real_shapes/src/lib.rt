@@ -6,10 +6,12 @@
 use arc_regions::Region;
 use arcs::Arc;
 use board_shapes::{Placed, Shape};
+use fine_figures::FineFigure;
 use slants::{RegularPolygon, Slant, TurnedDisc, TurnedFigure};
 
 /// A figure of ours, an arc draw with a round pen, a rectangle about a slanted line, a region whose
-/// contour has arcs, a figure or a disc turned by degrees, or a regular polygon in any direction.
+/// contour has arcs, a figure or a disc turned by degrees, a regular polygon in any direction, or a figure on
+/// the grid of half a u.
 #[derive(Drop)]
 pub enum RealShape {
     Plain(Shape),
@@ -19,6 +21,7 @@ pub enum RealShape {
     Turned(TurnedFigure),
     TurnedDisc(TurnedDisc),
     Polygon(RegularPolygon),
+    Fine(FineFigure),
 }
 
 /// Such a shape on a span of layers, with what made it.

@@ -2,7 +2,7 @@ mod Around
 mod Circle
 mod Corners
 mod Halves
-mod Inside
+pub mod Inside
 mod Level
 mod Moved
 mod Near

@@ -152,9 +152,11 @@ class Files(unittest.TestCase):
         self.assertEqual((copper.replaced, [line for line in copper.sides[0].lines if "LM" in line]), (1, []))
 
     def test_odd_sizes(self):
-        copper = copper_of("%ADD10C,0.0000003*%", "D10*", "X0Y0D03*")
-        self.assertEqual([line for side in copper.sides for line in side.lines if line.startswith("%AD")],
-                         ["%ADD10C,0.0000002*%", "%ADD10C,0.0000004*%"])
+        for it, low, high in (("C,0.0000003", "C,0.0000002", "C,0.0000004"), ("R,0.0000003X0.0000002", "R,0.0000002X0.0000002", "R,0.0000004X0.0000002"),
+                              ("O,0.0000009X0.0000008", "O,0.0000008X0.0000006", "O,0.0000010X0.0000010"),
+                              ("O,0.0000007X0.0000008", "O,0.0000006X0.0000008", "O,0.0000008X0.0000008")):
+            copper = copper_of(f"%ADD10{it}*%", "D10*", "X0Y0D03*")
+            self.assertEqual([line for side in copper.sides for line in side.lines if line.startswith("%AD")], [f"%ADD10{low}*%", f"%ADD10{high}*%"])
 
     def test_turned_macros(self):
         """A macro at many angles, in a file: places of it lie on the right side of both bounds."""

@@ -107,6 +107,13 @@ class Asked(made.Case):
         self.assertEqual([thin, last], [" ".join(str(self.links(side, number)) for side in ("lower", "upper")) for number in (19, 21)])
         self.assertEqual(thin.split(" ")[0], "0")
 
+    def test_counts_of_odd_sizes(self):
+        """A line for each flash of an odd size, which has one figure on both sides, or none below; a definition alone is no piece."""
+        odd = ["%ADD14C,0.0000003*%", "%ADD15O,0.0000001X0.4*%", "%ADD16R,1X0.4000001*%"]
+        program = Recorder(Answer(3, b"", "no"))
+        self.told(program, [*HALF, *odd, "D15*", "%SRX2Y1I9.0J0*%", "X0Y5000000D03*", "%SR*%", "D16*", "X0Y5000000D03*"], [A, B])
+        self.assertEqual(program.texts[3].split("\n")[2:-1], ["0 1", "0 1", "1 1"])
+
     def test_counts_of_frames(self):
         """A line for each rectangle with a hole, a region, of which there is one area below, or none where it is thin."""
         holes = ["%ADD14R,3X2X1*%", "%ADD15R,1X1X0.99*%", "D14*", "%SRX2Y1I9.0J0*%", "X0Y5000000D03*", "%SR*%", "D15*", "X0Y0D03*"]
@@ -145,7 +152,7 @@ class Asked(made.Case):
 
     def test_not_asked(self):
         """Where other copper is outside the profile, in any file; and where there is nothing to ask."""
-        rows = [["%ADD14C,0.0000003*%"], ["%LPC*%", "D11*", "X9000000Y0D03*"], ["D12*", "X0Y5000000D02*", "X1Y5000001D01*"], ["%LR90*%", "D11*", "X9000000Y0D03*"],
+        rows = [["%ADD14C,0.00000035*%"], ["%ADD14C,0.2000001*%", "D14*", "X0Y5000000D02*", "X1Y5000001D01*"], ["%ADD14C,0.2000001*%", "D14*", *HALF], ["%LPC*%", "D11*", "X9000000Y0D03*"], ["D12*", "X0Y5000000D02*", "X1Y5000001D01*"], ["%LR90*%", "D11*", "X9000000Y0D03*"],
                 ["G36*", "X9000000Y0D02*", "G03X9000000Y0I1000000J0D01*", "G37*"], ["X0Y0D03*", "X5Y5*"],
                 ["%AMA*", "20,1,0.2,0,0,0.3,0.4,30*%", "%ADD14A*%", "D14*", "X0Y5000000D03*"], ["%AMA*", "5,1,7,0.1,0,0.2,30*%", "%ADD14A*%", "D14*", "X0Y5000000D03*"],
                 ["%AMA*", "4,1,5,0,0,2,0,2,2,1,1,0,2,0,0,30*%", "%ADD14A*%", "D14*", "X0Y5000000D03*"], ["%AMA*", "4,1,4,0,0,1,1,1,0,0,1,0,0,30*%", "%ADD14A*%", "D14*", "X0Y5000000D03*"],
@@ -199,6 +206,11 @@ class Taken(made.Case):
         ("nearer to the border of a hole", ["%ADD14C,3X2*%", "D14*", "X0Y0D03*"], [record("A", "J1.1", 1.2, 0), record("A", "J1.2", -1.0001, 0)], "undecided"),
         ("a rectangle with a hole", ["%ADD14R,3X2X1*%", "D14*", "X0Y0D03*"], [record("A", "J1.1", 1, .4), record("A", "J1.2", -.6, 0)], "agrees"),
         ("a point in the hole of a rectangle", ["%ADD14R,3X2X1*%", "D14*", "%SRX2Y1I5.0J0*%", "X0Y0D03*", "%SR*%"], [A, record("B", "J1.2", 5, 0)], "differs"),
+        ("a circle of an odd size", ["%ADD14C,2.0000001*%", "D14*", "X0Y0D03*"], [A, B], "agrees"),
+        ("nearer to the border of an odd size", ["%ADD14C,1.9999999*%", "D14*", "X0Y0D03*"], [A, B], "undecided"),
+        ("odd sizes", ["%ADD14R,2.0000001X0.4*%", "%ADD15O,2.0000001X0.4*%", "%ADD16O,0.4000001X2*%", "%ADD17C,0.0000001*%",
+                       *(word for k in range(14, 18) for word in (f"D{k}*", f"X0Y{k - 14}000000D03*"))],
+         [A, B, record("B", "J2.1", 1, 1), record("B", "J2.2", -1, 1), record("C", "J3.1", 0, 1.21), record("C", "J3.2", 0, 2.9)], "differs"),
         ("regions with arcs", ROUNDED, [record("A", "J1.1", 1, .5), record("A", "J1.2", .5, 1), record("B", "J2.1", 7.5, .4)], "agrees"),
         ("regions with arcs, two distances", UNEVEN, [record("A", "J1.1", 1, .5), record("A", "J1.2", .8, 1.5)], "agrees"),
     ]

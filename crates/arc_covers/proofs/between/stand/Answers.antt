@@ -1,6 +1,6 @@
 use Rattle.std.proofs.Common.{refl}
 use Rattle.arc_covers.proofs.Figures.{answer_taken, layers_refused, pieces_taken}
-use Rattle.real_shapes.specs.declared.RealShape.TheVariants.{ArcDraw, Plain, Polygon, Region, Slanted, Turned, TurnedDisc}
+use Rattle.real_shapes.specs.declared.RealShape.TheVariants.{ArcDraw, Fine, Plain, Polygon, Region, Slanted, Turned, TurnedDisc}
 use Rattle.arc_covers.proofs.between.stand.Goals as goal
 
 pub returns-then-not-are_on : goal.returns-then-not-are_on
@@ -26,3 +26,6 @@ returns-in-TurnedDisc c = pieces_taken c.args.side c.args.real.now (TurnedDisc c
 
 pub returns-in-Polygon : goal.returns-in-Polygon
 returns-in-Polygon c = pieces_taken c.args.side c.args.real.now (Polygon c.in-Polygon.polygon) c.args.pieces.now c.are_polygon.result c.in-Polygon.is (c.are_on.ensures.0 c.if-not-are_on.false) c.are_polygon.ensures
+
+pub returns-in-Fine : goal.returns-in-Fine
+returns-in-Fine c = pieces_taken c.args.side c.args.real.now (Fine c.in-Fine.fine) c.args.pieces.now c.are_fine.result c.in-Fine.is (c.are_on.ensures.0 c.if-not-are_on.false) c.are_fine.ensures

@@ -76,7 +76,8 @@ fn chain(alloc: Global, pad: &str, pen: &str) -> Result<Vec<u8>, NoMemory> {
     )
 }
 
-fn row_package(alloc: Global, row: &Row) -> Result<MemoryPackage, NoMemory> {
+/// The three manifests.
+fn manifests(alloc: Global) -> Result<MemoryPackage, NoMemory> {
     let mut package = MemoryPackage::new(alloc);
     for (name, manifest) in [
         (
@@ -94,6 +95,11 @@ fn row_package(alloc: Global, row: &Row) -> Result<MemoryPackage, NoMemory> {
     ] {
         package.hold(name, manifest.as_bytes())?;
     }
+    Ok(package)
+}
+
+fn row_package(alloc: Global, row: &Row) -> Result<MemoryPackage, NoMemory> {
+    let mut package = manifests(alloc)?;
     package.hold("r.gbr", real(alloc, row.0)?.as_slice())?;
     package.hold("l.gbr", chain(alloc, row.0, row.1)?.as_slice())?;
     package.hold("u.gbr", chain(alloc, row.0, row.2)?.as_slice())?;
@@ -210,6 +216,52 @@ fn a_quarter_circle_between_chains(rt: HostRuntime) -> Result<(), Fail> {
         let (status, out, notes) = answer(alloc, BETWEEN, &mut package)?;
         assert_eq!(rt; (status, shown(&notes)), (row.5, row.6));
         assert_eq!(rt; out.bytes().is_empty(), status == 3);
+    }
+    Ok(())
+}
+
+/// An aperture of an odd size, those below and above, the status and the line.
+type OddRow = (
+    &'static str,
+    &'static str,
+    &'static str,
+    u8,
+    &'static str,
+);
+
+const BELOW: &str = "boardnet: r.json: file 0, command 5, copy 0: not bounded below\n";
+
+const ABOVE: &str = "boardnet: r.json: file 0, command 5, copy 0: not bounded above\n";
+
+fn odd_rows() -> [OddRow; 7] {
+    let agrees = "boardnet: agrees\n";
+    [
+        ("%ADD11C,0.0020001*%", "%ADD11C,0.0020000*%", "%ADD11C,0.0020002*%", 0, agrees),
+        ("%ADD11C,0.0020001*%", "%ADD11C,0.0020002*%", "%ADD11C,0.0020002*%", 3, BELOW),
+        ("%ADD11C,0.0020001*%", "%ADD11C,0.0020000*%", "%ADD11C,0.0020000*%", 3, ABOVE),
+        ("%ADD11R,0.0020001X0.001*%", "%ADD11R,0.0020000X0.001*%", "%ADD11R,0.0020002X0.001*%", 0, agrees),
+        ("%ADD11R,0.0020001X0.001*%", "%ADD11R,0.0020000X0.0010002*%", "%ADD11R,0.0020002X0.001*%", 3, BELOW),
+        ("%ADD11O,0.001X0.0020001*%", "%ADD11O,0.0009998X0.0020000*%", "%ADD11O,0.0010002X0.0020002*%", 0, agrees),
+        ("%ADD11O,0.001X0.0020001*%", "%ADD11O,0.0009998X0.0020000*%", "%ADD11O,0.0009998X0.0020002*%", 3, ABOVE),
+    ]
+}
+
+fn flash(alloc: Global, aperture: &str) -> Result<Vec<u8>, NoMemory> {
+    gerber(alloc, &[aperture, "D11*", "X0Y7000D03*"])
+}
+
+#[test]
+fn pads_of_odd_sizes(rt: HostRuntime) -> Result<(), Fail> {
+    let alloc = rt.alloc();
+    for (real, lower, upper, status, line) in odd_rows() {
+        let mut package = manifests(alloc)?;
+        package.hold("r.gbr", flash(alloc, real)?.as_slice())?;
+        package.hold("l.gbr", flash(alloc, lower)?.as_slice())?;
+        package.hold("u.gbr", flash(alloc, upper)?.as_slice())?;
+        package.hold("n.ipc", netlist(alloc, &ONE_NAME[..1])?.as_slice())?;
+        package.hold("c.txt", b"boardnet-bounds 1\n1 1\n")?;
+        let (told, _, notes) = answer(alloc, BETWEEN, &mut package)?;
+        assert_eq!(rt; (told, shown(&notes)), (status, line));
     }
     Ok(())
 }

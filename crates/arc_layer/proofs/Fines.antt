@@ -1,0 +1,82 @@
+-- Fine apertures, as their spots tell them.
+use Rattle.std.proofs.Common.{◌≡◌, ℕ, ℤ, pos, ◌+◌, ◌/◌, ◌<◌, ◌≤◌, ◌+ℤ◌, ◌-ℤ◌, Bool, true, false, cond, List, [], ◌∷◌, length, Option, Some, None, Result, Ok, Err, refl, ap, ◌∙◌, subst, arith}
+use Rattle.std.specs.Prelude.{int_lt, unsigned_abs}
+use Rattle.std.specs.List.{list_all}
+use Rattle.std.specs.Ordering.{int_eq}
+use Rattle.std.proofs.lemmas.Bool.Decides.{Decides-int_eq}
+use Rattle.std.proofs.lemmas.Int.{ints}
+use Rattle.planar.specs.Plane.{is_placed}
+use Rattle.planar.specs.declared.Spot.{Spot}
+use Rattle.apertures.specs.Flash.{IsFineSize, NoFlash, leaves, flash_of}
+use Rattle.apertures.specs.Telling.{Fine, fine_told, told_fine}
+use Rattle.board_shapes.specs.Figures.{Figure, filled}
+use Rattle.fine_figures.specs.declared.FineFigure.{FineFigure}
+use Rattle.fine_figures.specs.declared.FineFigure.TheVariants.{Round, Rectangle}
+use Rattle.arc_layer.specs.Fine.{fine_figure, fine_sides, fine_stroke}
+use Rattle.arc_layer.specs.Laws.{FineObroundsAreUndone, FineRectanglesAreUndone}
+use Rattle.arc_layer.specs.Marks.{flash}
+use Rattle.arc_layer.specs.Real.{RealFigure, bent_or, fine, fine_or, flashed, with_mark}
+
+-- longer contours tell none
+pub no_fine : (points : List Spot) → 7 ≤ length points → fine_told points ≡ None
+no_fine [] h = absurd (omega (arith, h))
+no_fine (a ∷ []) h = absurd (omega (arith, h))
+no_fine (a ∷ b ∷ []) h = absurd (omega (arith, h))
+no_fine (a ∷ b ∷ c ∷ []) h = absurd (omega (arith, h))
+no_fine (a ∷ b ∷ c ∷ d ∷ []) h = absurd (omega (arith, h))
+no_fine (a ∷ b ∷ c ∷ d ∷ e ∷ rest) h = refl
+
+-- how far the spots are apart, and which is lower
+low_first : (z : ℤ) (n : ℕ) → unsigned_abs ((z -ℤ pos ((n + 1) / 2)) -ℤ (z +ℤ pos (n / 2))) ≡ n
+low_first z n = omega (arith, ints)
+
+high_first : (z : ℤ) (n : ℕ) → unsigned_abs ((z +ℤ pos (n / 2)) -ℤ (z -ℤ pos ((n + 1) / 2))) ≡ n
+high_first z n = omega (arith, ints)
+
+is_lower : (z : ℤ) (n : ℕ) → 1 ≤ n → int_lt (z -ℤ pos ((n + 1) / 2)) (z +ℤ pos (n / 2)) ≡ true
+is_lower z n some = grind (arith, ints, some)
+
+not_lower : (z : ℤ) (n : ℕ) → int_lt (z +ℤ pos (n / 2)) (z -ℤ pos ((n + 1) / 2)) ≡ false
+not_lower z n = grind (arith, ints)
+
+no_equal : (p q : ℤ) → (p ≡ q → ⊥) → int_eq p q ≡ false
+no_equal p q apart = by (int_eq p q) refl
+  where
+    by : (b : Bool) → int_eq p q ≡ b → b ≡ false
+    by true is = absurd (apart ((Decides-int_eq p q).0 is))
+    by false is = refl
+
+differ_up : (z : ℤ) (n : ℕ) → 1 ≤ n → int_eq (z -ℤ pos ((n + 1) / 2)) (z +ℤ pos (n / 2)) ≡ false
+differ_up z n some = no_equal (z -ℤ pos ((n + 1) / 2)) (z +ℤ pos (n / 2)) (λ same. omega (arith, ints, some, same))
+
+differ_down : (z : ℤ) (n : ℕ) → 1 ≤ n → int_eq (z +ℤ pos (n / 2)) (z -ℤ pos ((n + 1) / 2)) ≡ false
+differ_down z n some = no_equal (z +ℤ pos (n / 2)) (z -ℤ pos ((n + 1) / 2)) (λ same. omega (arith, ints, some, same))
+
+some_of : (z : ℤ) → IsFineSize z → 1 ≤ unsigned_abs z
+some_of z size = let s = size.some in omega (arith, ints, s)
+
+rectangle_told : (w h : ℕ) (at : Spot) → 1 ≤ h → flashed (told_fine false w h at) ≡ fine (Rectangle (fine_sides at w h))
+rectangle_told w h at some = rw (differ_up at.y h some, not_lower at.y h, low_first at.x w, low_first at.y h) refl
+
+obround_told : (w h : ℕ) (at : Spot) → 1 ≤ h → flashed (told_fine true w h at) ≡ fine (Round (fine_stroke at w h))
+obround_told w h at some = rw (differ_down at.y h some, is_lower at.y h some, high_first at.x w, high_first at.y h) refl
+
+-- an area within 1 m is that area
+same_area : (points : List Spot) (figure : Figure) (r : RealFigure) → flashed points ≡ r → cond (list_all is_placed points) (Ok (Some (filled points))) (Err leaves) ≡ Ok (Some figure) → with_mark (Some flash) figure ≡ r
+same_area points figure r is h = by (list_all is_placed points) h
+  where
+    by : (b : Bool) → ◌≡◌ {A = Result (Option Figure) NoFlash} (cond b (Ok (Some (filled points))) (Err leaves)) (Ok (Some figure)) → with_mark (Some flash) figure ≡ r
+    by true k =
+        let same : filled points ≡ figure = cc in
+        subst (λ (f : Figure). with_mark (Some flash) f ≡ r) same is
+    by false k = cc
+
+pub rectangles : FineRectanglesAreUndone
+unfolding flash_of
+rectangles x y at figure lawful h =
+    same_area (told_fine false (unsigned_abs x) (unsigned_abs y) at) figure (fine (Rectangle (fine_sides at (unsigned_abs x) (unsigned_abs y)))) (rectangle_told (unsigned_abs x) (unsigned_abs y) at (some_of y lawful.1)) h
+
+pub obrounds : FineObroundsAreUndone
+unfolding flash_of
+obrounds x y at figure lawful h =
+    same_area (told_fine true (unsigned_abs x) (unsigned_abs y) at) figure (fine (Round (fine_stroke at (unsigned_abs x) (unsigned_abs y)))) (obround_told (unsigned_abs x) (unsigned_abs y) at (some_of y lawful.1)) h

@@ -1,0 +1,35 @@
+-- Fine apertures as their spots tell them: figures in half u.
+use Rattle.std.specs.Prelude.{ℕ, ◌-◌, nat_lt, if◌then◌else◌, List, pos, ◌+ℤ◌, ◌-ℤ◌, Option, option_map}
+use Rattle.planar.specs.declared.Spot.{Spot}
+use Rattle.contact.specs.declared.Bounds.{Bounds}
+use Rattle.fine_figures.specs.declared.FineFigure.{FineFigure}
+use Rattle.fine_figures.specs.declared.FineFigure.TheVariants.{Round, Rectangle}
+use Rattle.fine_figures.specs.declared.FineStroke.{FineStroke}
+use Rattle.apertures.specs.Telling.{Fine, fine_told}
+
+-- in half u, the spots so far to the left of and below a spot, and to the right of and above it
+abbrev pub left_below : Spot → ℕ → ℕ → Spot
+left_below m w h = record { x = m.x +ℤ m.x -ℤ pos w; y = m.y +ℤ m.y -ℤ pos h }
+
+abbrev pub right_above : Spot → ℕ → ℕ → Spot
+right_above m w h = record { x = m.x +ℤ m.x +ℤ pos w; y = m.y +ℤ m.y +ℤ pos h }
+
+-- a rectangle about its middle (Gerber Layer Format Specification, 4.4.3)
+abbrev pub fine_sides : Spot → ℕ → ℕ → Bounds
+fine_sides m w h =
+    let low = left_below m w h in
+    let high = right_above m w h in
+    record { left = low.x; low = low.y; right = high.x; high = high.y }
+
+-- an obround (4.4.4), or with equal sizes a circle (4.4.2): a wide one lies, any other stands
+abbrev pub fine_stroke : Spot → ℕ → ℕ → FineStroke
+fine_stroke m w h =
+    if nat_lt h w then record { a = left_below m (w - h) 0; b = right_above m (w - h) 0; r = h }
+    else record { a = left_below m 0 (h - w); b = right_above m 0 (h - w); r = w }
+
+-- what is told, as a figure
+abbrev pub fine_figure : Fine → FineFigure
+fine_figure f = if f.round then Round (fine_stroke f.middle f.width f.height) else Rectangle (fine_sides f.middle f.width f.height)
+
+abbrev pub fine_in : List Spot → Option FineFigure
+fine_in points = option_map fine_figure (fine_told points)

@@ -1,0 +1,98 @@
+//! Fine apertures, as the spots of an area tell them.
+ghost use Rattle.arc_layer.specs.Fine as spec;
+ghost use Rattle.planar.specs.Plane.{IsPlaced};
+ghost use Rattle.std.specs.Prelude.{◌≡◌, ◌≤◌, ◌-ℤ◌, unsigned_abs, All, pos};
+
+use contact::Bounds;
+use fine_figures::{FineFigure, FineStroke};
+use planar::Spot;
+
+fn way(n: u64) -> i64
+    requires { n ≤ 20_000_000_000 }
+    ensures { result ≡ pos n }
+{
+    n as i64
+}
+
+/// In half u, the spots so far to the left of and below a spot, and to the right of and above it.
+fn around(middle: Spot, w: u64, h: u64) -> (Spot, Spot)
+    requires placed { IsPlaced middle }
+    requires w { w ≤ 20_000_000_000 }
+    requires h { h ≤ 20_000_000_000 }
+    ensures low { result.0 ≡ spec.left_below middle w h }
+    ensures high { result.1 ≡ spec.right_above middle w h }
+{
+    let across = way(w);
+    let up = way(h);
+    let low = Spot {
+        x: middle.x + middle.x - across,
+        y: middle.y + middle.y - up,
+    };
+    let high = Spot {
+        x: middle.x + middle.x + across,
+        y: middle.y + middle.y + up,
+    };
+    (low, high)
+}
+
+/// A rectangle about its middle.
+fn fine_sides(middle: Spot, w: u64, h: u64) -> Bounds
+    requires placed { IsPlaced middle }
+    requires w { w ≤ 20_000_000_000 }
+    requires h { h ≤ 20_000_000_000 }
+    ensures { result ≡ spec.fine_sides middle w h }
+{
+    let (low, high) = around(middle, w, h);
+    Bounds {
+        left: low.x,
+        low: low.y,
+        right: high.x,
+        high: high.y,
+    }
+}
+
+/// An obround, or with equal sizes a circle.
+fn fine_stroke(middle: Spot, w: u64, h: u64) -> FineStroke
+    requires placed { IsPlaced middle }
+    requires w { w ≤ 20_000_000_000 }
+    requires h { h ≤ 20_000_000_000 }
+    ensures { result ≡ spec.fine_stroke middle w h }
+{
+    if w > h {
+        let (a, b) = around(middle, w - h, 0);
+        FineStroke { a, b, r: h }
+    } else {
+        let (a, b) = around(middle, 0, h - w);
+        FineStroke { a, b, r: w }
+    }
+}
+
+/// How far two spots are apart, across and up.
+fn sizes_of(one: Spot, other: Spot) -> (u64, u64)
+    requires one { IsPlaced one }
+    requires other { IsPlaced other }
+    ensures width { result.0 ≡ unsigned_abs (one.x -ℤ other.x) }
+    ensures height { result.1 ≡ unsigned_abs (one.y -ℤ other.y) }
+    ensures small { (result.0 ≤ 20_000_000_000) × (result.1 ≤ 20_000_000_000) }
+{
+    (one.x.abs_diff(other.x), one.y.abs_diff(other.y))
+}
+
+/// The fine figure, where the spots of an area tell one.
+pub fn fine_in(points: &[Spot]) -> Option<FineFigure>
+    requires { All IsPlaced points.now }
+    ensures { result ≡ spec.fine_in points.now }
+{
+    let [middle, one, other, _] = points else {
+        return None;
+    };
+    if one.y == other.y {
+        return None;
+    }
+    let (w, h) = sizes_of(*one, *other);
+    if other.y < one.y {
+        Some(FineFigure::Round(fine_stroke(*middle, w, h)))
+    } else {
+        Some(FineFigure::Rectangle(fine_sides(*middle, w, h)))
+    }
+}

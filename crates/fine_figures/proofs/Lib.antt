@@ -1,0 +1,4 @@
+mod Capsules
+mod Fine
+mod Read
+mod Rectangles
