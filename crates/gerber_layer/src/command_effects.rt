@@ -89,7 +89,8 @@ pub fn is_of_layer(function: Option<&[u8]>, field: Option<&[u8]>, layer: u8) -> 
     }
 }
 
-// Where a coordinate leads.
+// Where a coordinate leads. It is inlined into its callers, and they into the operation, so that settings and numbers are not copied.
+#[inline(always)]
 fn position(format: Format, unit: Unit, digits: &[u8]) -> Result<Len, GerberKind>
     requires decimals { format.decimals ≤ 7 }
     requires whole { is_whole digits.now ≡ true }
@@ -108,6 +109,7 @@ pub struct Here {
 }
 
 /// Where a coordinate leads, in u, and here where none is named; or its fault.
+#[inline(always)]
 #[tactic(auto, unfolding(crate::specs::CommandEffects::coordinate))]
 pub fn coordinate(
     format: Format,
@@ -132,6 +134,7 @@ pub fn coordinate(
 
 /// Where an operation leads, in u, by the current point for a coordinate that is not named; or its
 /// fault.
+#[inline(always)]
 #[tactic(auto, unfolding(crate::specs::CommandEffects::target))]
 pub fn target(settings: Settings, x: Option<&[u8]>, y: Option<&[u8]>) -> Result<Spot, GerberKind>
     requires lawful { AreLawfulSettings settings }

@@ -67,6 +67,7 @@ impl Dialect for Plain {
         read_command(word)
     }
 
+    #[inline(always)]
     fn obey<'a>(
         reader: &mut Reader<'a>,
         alloc: Global,

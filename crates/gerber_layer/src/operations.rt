@@ -65,7 +65,8 @@ impl<'a> Reader<'a> {
         code.is_none() && !is_drawing(self.settings.last)
     }
 
-    // Obeys an operation outside a region.
+    // Obeys an operation outside a region. It is inlined into the loop over words, as a selection is.
+    #[inline(always)]
     #[tactic(auto, unfolding(crate::specs::CommandEffects::operate))]
     fn operate_at_once(
         &mut self,
@@ -99,6 +100,7 @@ impl<'a> Reader<'a> {
     }
 
     // Obeys a selection.
+    #[inline(always)]
     #[tactic(auto, unfolding(crate::specs::CommandEffects::row))]
     fn select(&mut self, n: u32) -> Result<(), Halt<GerberKind>>
         requires few { self.old.commands + 1 < 2 ^ 32 }
@@ -116,6 +118,7 @@ impl<'a> Reader<'a> {
     }
 
     /// Obeys a command in a file without macros. An `Err` leaves a reader that is of no more use.
+    #[inline(always)]
     #[tactic(auto, unfolding(crate::specs::CommandEffects::effect, crate::specs::CommandEffects::row))]
     pub fn obey(&mut self, alloc: Global, command: &Command<'a>) -> Result<(), Halt<GerberKind>>
         requires lawful { IsLawfulReader self.old }

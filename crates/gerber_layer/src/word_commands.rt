@@ -1,5 +1,5 @@
 //! How a command is read from a word.
-ghost use Rattle.std.specs.Prelude.{◌≡◌, ◌≤◌, ◌&&◌, nat_le, nat_lt, length, take, drop, option_map, IfSome};
+ghost use Rattle.std.specs.Prelude.{true, ◌≡◌, ◌≤◌, ◌&&◌, nat_le, nat_lt, length, take, drop, option_map, IfSome};
 ghost use Rattle.std.specs.List.{before_first, list_all, slice_split};
 ghost use Rattle.std.specs.Option.{option_copied};
 ghost use Rattle.lengths.specs.Decimal.{decimal, unsigned as unsigned_text};
@@ -95,6 +95,7 @@ fn is_signed(text: &[u8]) -> bool
 
 // How many digits and signs stand in front, and whether they are a number. Each byte is looked at once, unless a sign stands
 // behind a digit.
+#[inline(always)]
 fn number_front(text: &[u8]) -> (usize, bool)
     ensures len { result.0 ≡ spec.number_len text.now }
     ensures within { result.0 ≤ length text.now }
@@ -103,10 +104,20 @@ fn number_front(text: &[u8]) -> (usize, bool)
     let body = unsigned(text);
     let digits = digits_len(body);
     if is_signed(behind(body, digits)) {
-        let len = run_len::<Numeric>(text);
-        return (len, is_number(&text[..len]));
+        return mixed_front(text);
     }
     (text.len() - body.len() + digits, are_few(digits))
+}
+
+// The same where signs stand anywhere.
+#[inline(never)]
+fn mixed_front(text: &[u8]) -> (usize, bool)
+    ensures len { result.0 ≡ spec.number_len text.now }
+    ensures within { result.0 ≤ length text.now }
+    ensures number { result.1 ≡ spec.is_number (take result.0 text.now) }
+{
+    let len = run_len::<Numeric>(text);
+    (len, is_number(&text[..len]))
 }
 
 // The number behind a letter, if the text begins with it; whether it is one; and what stands behind. It is inlined, so that these
@@ -144,9 +155,21 @@ pub fn read_command<'a>(word: Word<'a>) -> Command<'a>
     ensures value { view result ≡ spec.command_of (entry_of word.entry) }
     ensures lawful { IsLawfulCommand (view result) }
 {
-    if !word.extended {
-        return plain(word.text);
+    if word.extended {
+        extended_word(word)
+    } else {
+        plain(word.text)
     }
+}
+
+// The command that an extended word is. It is a call, since few words are one.
+#[inline(never)]
+#[tactic(auto, unfolding(crate::specs::WordCommands::command_of))]
+fn extended_word<'a>(word: Word<'a>) -> Command<'a>
+    requires { word.extended ≡ true }
+    ensures value { view result ≡ spec.command_of (entry_of word.entry) }
+    ensures lawful { IsLawfulCommand (view result) }
+{
     match said_by(word.attribute()) {
         Some(command) => command,
         None => extended(word.text),
@@ -370,7 +393,9 @@ fn is_neutral(text: &[u8]) -> bool
         || is_attribute(text)
 }
 
-// Most words are coordinates or a selection, which their first letter tells.
+// Most words are coordinates or a selection, which their first letter tells. What reads these is inlined, so that a command is made where
+// it is obeyed; what reads others is called.
+#[inline(always)]
 #[tactic(auto, unfolding(crate::specs::WordCommands::plain, crate::specs::WordCommands::coded, crate::specs::WordCommands::operation))]
 fn plain(text: &[u8]) -> Command<'_>
     ensures value { view result ≡ spec.plain text.now }
@@ -383,6 +408,7 @@ fn plain(text: &[u8]) -> Command<'_>
     }
 }
 
+#[inline(never)]
 #[tactic(auto, unfolding(crate::specs::WordCommands::plain))]
 fn general(text: &[u8]) -> Command<'_>
     ensures value { view result ≡ spec.plain text.now }
@@ -440,6 +466,7 @@ pub fn goes_on(text: &[u8]) -> bool
     matches!(text, [] | [b'X' | b'Y' | b'I' | b'J' | b'D', ..])
 }
 
+#[inline(always)]
 #[tactic(auto, unfolding(crate::specs::WordCommands::coded))]
 fn coded(text: &[u8]) -> Command<'_>
     ensures value { view result ≡ spec.coded text.now }
@@ -480,6 +507,7 @@ fn selected(digits: &[u8]) -> Option<u32>
     Some(n)
 }
 
+#[inline(never)]
 #[tactic(auto, unfolding(crate::specs::WordCommands::operation))]
 fn operation(text: &[u8]) -> Command<'_>
     ensures value { view result ≡ spec.operation text.now }
@@ -488,6 +516,7 @@ fn operation(text: &[u8]) -> Command<'_>
     from_x(behind_line_code(text))
 }
 
+#[inline(always)]
 #[tactic(auto, unfolding(crate::specs::WordCommands::from_x))]
 pub fn from_x(text: &[u8]) -> Command<'_>
     ensures value { view result ≡ spec.from_x text.now }
