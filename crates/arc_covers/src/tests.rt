@@ -487,8 +487,14 @@ fn odd_pads(rt: HostRuntime) -> Result<(), Fail> {
         high: 1001,
     });
     let real = fine(alloc, rectangle)?;
-    let within = polygon(alloc, [(-1500, -500), (1500, -500), (1500, 500), (-1500, 500)])?;
-    let round = polygon(alloc, [(-1501, -501), (1501, -501), (1501, 501), (-1501, 501)])?;
+    let within = polygon(
+        alloc,
+        [(-1500, -500), (1500, -500), (1500, 500), (-1500, 500)],
+    )?;
+    let round = polygon(
+        alloc,
+        [(-1501, -501), (1501, -501), (1501, 501), (-1501, 501)],
+    )?;
     assert!(rt; check_between(alloc, &real, &within, &[1], &round, &[1]) == Ok(()));
     assert!(rt; check_between(alloc, &real, &round, &[1], &round, &[1]) == below);
     assert!(rt; check_between(alloc, &real, &within, &[1], &within, &[1]) == above);

@@ -1,5 +1,5 @@
 -- Sums and differences of coordinates.
-use Rattle.std.proofs.Common.{◌≡◌, ℕ, ℤ, pos, ◌+ℤ◌, ◌-ℤ◌, ◌*ℤ◌, to_z, of_z, w64, refl, arith}
+use Rattle.std.proofs.Common.{◌≡◌, ◌≤◌, ℕ, ℤ, pos, ◌+ℤ◌, ◌-ℤ◌, ◌*ℤ◌, to_z, of_z, w64, refl, arith}
 use Rattle.std.specs.Prelude.{FitsSigned}
 use Rattle.std.proofs.lemmas.Int.{ints}
 use Rattle.planar.specs.Plane.{IsReached, IsWithin}
@@ -27,3 +27,11 @@ both_read a b c d ha hb hc hd = rw (apart_wrapped a b ha hb, apart_wrapped c d h
 
 pub both_fit : (a b c d : ℤ) → IsReached a → IsReached b → IsReached c → IsReached d → FitsSigned w64 (pos 30000 *ℤ (b -ℤ a) +ℤ (d -ℤ c))
 both_fit a b c d ha hb hc hd = omega (arith, ints)
+
+-- ---- twice a coordinate, and a length
+
+pub twice_less : (a b : ℤ) (n : ℕ) → IsReached a → b ≡ pos n → n ≤ 20000000000 → wrapped (wrapped (wrapped a +ℤ wrapped a) -ℤ wrapped b) ≡ (a +ℤ a -ℤ pos n)
+twice_less a b n h is most = rw is (omega (arith, ints, h, most))
+
+pub twice_more : (a b : ℤ) (n : ℕ) → IsReached a → b ≡ pos n → n ≤ 20000000000 → wrapped (wrapped (wrapped a +ℤ wrapped a) +ℤ wrapped b) ≡ (a +ℤ a +ℤ pos n)
+twice_more a b n h is most = rw is (omega (arith, ints, h, most))

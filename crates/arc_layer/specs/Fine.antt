@@ -1,5 +1,5 @@
 -- Fine apertures as their spots tell them: figures in half u.
-use Rattle.std.specs.Prelude.{ℕ, ◌-◌, nat_lt, if◌then◌else◌, List, pos, ◌+ℤ◌, ◌-ℤ◌, Option, option_map}
+use Rattle.std.specs.Prelude.{ℕ, ◌-◌, nat_lt, if◌then◌else◌, List, [], ◌∷◌, pos, ◌+ℤ◌, ◌-ℤ◌, Option, option_map}
 use Rattle.planar.specs.declared.Spot.{Spot}
 use Rattle.contact.specs.declared.Bounds.{Bounds}
 use Rattle.fine_figures.specs.declared.FineFigure.{FineFigure}
@@ -30,6 +30,10 @@ fine_stroke m w h =
 -- what is told, as a figure
 abbrev pub fine_figure : Fine → FineFigure
 fine_figure f = if f.round then Round (fine_stroke f.middle f.width f.height) else Rectangle (fine_sides f.middle f.width f.height)
+
+-- the figure of a middle and two spots, and of the spots of an area
+abbrev pub fine_by : Spot → Spot → Spot → Option FineFigure
+fine_by middle one other = option_map fine_figure (fine_told (middle ∷ one ∷ other ∷ middle ∷ []))
 
 abbrev pub fine_in : List Spot → Option FineFigure
 fine_in points = option_map fine_figure (fine_told points)

@@ -78,6 +78,24 @@ fn sizes_of(one: Spot, other: Spot) -> (u64, u64)
     (one.x.abs_diff(other.x), one.y.abs_diff(other.y))
 }
 
+/// The fine figure that a middle and two spots tell, where these are not of one height.
+fn fine_by(middle: Spot, one: Spot, other: Spot) -> Option<FineFigure>
+    requires middle_placed { IsPlaced middle }
+    requires one_placed { IsPlaced one }
+    requires other_placed { IsPlaced other }
+    ensures { result ≡ spec.fine_by middle one other }
+{
+    if one.y == other.y {
+        return None;
+    }
+    let (w, h) = sizes_of(one, other);
+    if other.y < one.y {
+        Some(FineFigure::Round(fine_stroke(middle, w, h)))
+    } else {
+        Some(FineFigure::Rectangle(fine_sides(middle, w, h)))
+    }
+}
+
 /// The fine figure, where the spots of an area tell one.
 pub fn fine_in(points: &[Spot]) -> Option<FineFigure>
     requires { All IsPlaced points.now }
@@ -86,13 +104,5 @@ pub fn fine_in(points: &[Spot]) -> Option<FineFigure>
     let [middle, one, other, _] = points else {
         return None;
     };
-    if one.y == other.y {
-        return None;
-    }
-    let (w, h) = sizes_of(*one, *other);
-    if other.y < one.y {
-        Some(FineFigure::Round(fine_stroke(*middle, w, h)))
-    } else {
-        Some(FineFigure::Rectangle(fine_sides(*middle, w, h)))
-    }
+    fine_by(*middle, *one, *other)
 }

@@ -221,13 +221,7 @@ fn a_quarter_circle_between_chains(rt: HostRuntime) -> Result<(), Fail> {
 }
 
 /// An aperture of an odd size, those below and above, the status and the line.
-type OddRow = (
-    &'static str,
-    &'static str,
-    &'static str,
-    u8,
-    &'static str,
-);
+type OddRow = (&'static str, &'static str, &'static str, u8, &'static str);
 
 const BELOW: &str = "boardnet: r.json: file 0, command 5, copy 0: not bounded below\n";
 
@@ -236,13 +230,55 @@ const ABOVE: &str = "boardnet: r.json: file 0, command 5, copy 0: not bounded ab
 fn odd_rows() -> [OddRow; 7] {
     let agrees = "boardnet: agrees\n";
     [
-        ("%ADD11C,0.0020001*%", "%ADD11C,0.0020000*%", "%ADD11C,0.0020002*%", 0, agrees),
-        ("%ADD11C,0.0020001*%", "%ADD11C,0.0020002*%", "%ADD11C,0.0020002*%", 3, BELOW),
-        ("%ADD11C,0.0020001*%", "%ADD11C,0.0020000*%", "%ADD11C,0.0020000*%", 3, ABOVE),
-        ("%ADD11R,0.0020001X0.001*%", "%ADD11R,0.0020000X0.001*%", "%ADD11R,0.0020002X0.001*%", 0, agrees),
-        ("%ADD11R,0.0020001X0.001*%", "%ADD11R,0.0020000X0.0010002*%", "%ADD11R,0.0020002X0.001*%", 3, BELOW),
-        ("%ADD11O,0.001X0.0020001*%", "%ADD11O,0.0009998X0.0020000*%", "%ADD11O,0.0010002X0.0020002*%", 0, agrees),
-        ("%ADD11O,0.001X0.0020001*%", "%ADD11O,0.0009998X0.0020000*%", "%ADD11O,0.0009998X0.0020002*%", 3, ABOVE),
+        (
+            "%ADD11C,0.0020001*%",
+            "%ADD11C,0.0020000*%",
+            "%ADD11C,0.0020002*%",
+            0,
+            agrees,
+        ),
+        (
+            "%ADD11C,0.0020001*%",
+            "%ADD11C,0.0020002*%",
+            "%ADD11C,0.0020002*%",
+            3,
+            BELOW,
+        ),
+        (
+            "%ADD11C,0.0020001*%",
+            "%ADD11C,0.0020000*%",
+            "%ADD11C,0.0020000*%",
+            3,
+            ABOVE,
+        ),
+        (
+            "%ADD11R,0.0020001X0.001*%",
+            "%ADD11R,0.0020000X0.001*%",
+            "%ADD11R,0.0020002X0.001*%",
+            0,
+            agrees,
+        ),
+        (
+            "%ADD11R,0.0020001X0.001*%",
+            "%ADD11R,0.0020000X0.0010002*%",
+            "%ADD11R,0.0020002X0.001*%",
+            3,
+            BELOW,
+        ),
+        (
+            "%ADD11O,0.001X0.0020001*%",
+            "%ADD11O,0.0009998X0.0020000*%",
+            "%ADD11O,0.0010002X0.0020002*%",
+            0,
+            agrees,
+        ),
+        (
+            "%ADD11O,0.001X0.0020001*%",
+            "%ADD11O,0.0009998X0.0020000*%",
+            "%ADD11O,0.0009998X0.0020002*%",
+            3,
+            ABOVE,
+        ),
     ]
 }
 
