@@ -5,7 +5,7 @@ ghost use Rattle.std.specs.Prelude.{◌≡◌, ◌≢◌, ℕ, ◌+◌, ◌<◌,
 ghost use Rattle.verdict.specs.Forest.{AreTrees, StandOnce, Holds, pieces_of, first_piece};
 ghost use Rattle.witness_check.specs.Nets.{AreNew, HangsByStamp, HasStanding, IsKnownTree, IsStood, twig_count};
 
-use crate::contacts::are_near;
+use crate::contacts::are_joined;
 use board_shapes::Board;
 use lengths::rows::NoMemory;
 use std::alloc::Global;
@@ -133,7 +133,7 @@ fn hangs<L: Ledger>(
     if twig.piece < first || stamps[parent] != stamp {
         return false;
     }
-    are_near(board, parent, piece, tests)
+    are_joined(board, parent, piece, tests)
 }
 
 /// Where each piece stands: the number of its net, and its place there.
