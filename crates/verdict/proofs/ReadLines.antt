@@ -179,7 +179,7 @@ net_number_takes bytes p rest e = by (behind (codes " -") bytes) refl e
         let t = word_takes bytes n.0 n.1 hn in
         subst (λ (x : Option ℕ × List ℕ). (bytes ≡ net_text x.0 ++ x.1) × IfSome x.0 IsNumber) (some_is (Some n.0, n.1) (p, rest) k1) t)
 
-net_number_again : (p : Option ℕ) (rest : List ℕ) → IfSome p IsNumber → net_number_at (net_text p ++ (end ++ rest)) ≡ Some (p, end ++ rest)
+pub net_number_again : (p : Option ℕ) (rest : List ℕ) → IfSome p IsNumber → net_number_at (net_text p ++ (end ++ rest)) ≡ Some (p, end ++ rest)
 unfolding net_number_at
 net_number_again None rest h =
     let s : behind (codes " -") (codes " -" ++ (end ++ rest)) ≡ Some (end ++ rest) = behind_again (codes " -") (end ++ rest) in

@@ -55,7 +55,7 @@ signed_takes bytes z rest e = by (behind (45 ∷ []) bytes) refl e
     by (Some r) h k = bind_then (wide_at r) _ (z, rest) k (λ n hn k1. taken n.0 n.1 r (behind_takes (45 ∷ []) bytes r h) (wide_takes r n.0 n.1 hn).0 k1)
 
 -- digits do not begin with a minus
-no_minus : (ds rest : List ℕ) → 0 < length ds → list_all is_decimal_digit ds ≡ true → starts (λ b. eqb b 45) (ds ++ rest) ≡ false
+pub no_minus : (ds rest : List ℕ) → 0 < length ds → list_all is_decimal_digit ds ≡ true → starts (λ b. eqb b 45) (ds ++ rest) ≡ false
 no_minus [] rest some all = absurd (omega arith)
 no_minus (d ∷ ds) rest some all = by (eqb d 45) refl
   where

@@ -157,15 +157,12 @@ wide_is bytes digits rest len value e front back some is small =
     rw (numeral, worth, below, left) refl
 
 -- two digits or more in front, of which the first is no zero, are a number
-pub number_is : (bytes rest : List ℕ) (len value : ℕ) → IsRun bytes len value → 2 ≤ len → len ≤ 18 → 48 < get_or bytes 0 0 → value < 2 ^ 32 → rest ≡ drop len bytes → number_at bytes ≡ Some (value, rest)
-unfolding number_at
-number_is bytes rest len value run some few high small back =
-    let within = run.within in
+pub wide_from_run : (bytes rest : List ℕ) (len value : ℕ) → IsRun bytes len value → 2 ≤ len → len ≤ 18 → 48 < get_or bytes 0 0 → rest ≡ drop len bytes → wide_at bytes ≡ Some (value, rest)
+wide_from_run bytes rest len value run some few high back =
     let first : get_or (take len bytes) 0 0 ≡ get_or bytes 0 0 = get_or-take len bytes 0 0 (omega (arith, some)) in
-    let long : length (take len bytes) ≡ len = length-take-le len bytes within in
+    let long : length (take len bytes) ≡ len = length-take-le len bytes run.within in
     let numeral : is_numeral (take len bytes) ≡ true = numeral_from (take len bytes) (omega (arith, long, some)) (omega (arith, first, high)) in
-    let wide : wide_at bytes ≡ Some (value, rest) = wide_is bytes (take len bytes) rest len value run.long refl back numeral (run.worth few) (run.small few) in
-    rw (wide, lt-ltb value (2 ^ 32) small) refl
+    wide_is bytes (take len bytes) rest len value run.long refl back numeral (run.worth few) (run.small few)
 
 pub wide_takes : (bytes : List ℕ) (n : ℕ) (rest : List ℕ) → wide_at bytes ≡ Some (n, rest) → (bytes ≡ decimal n ++ rest) × (n < 2 ^ 64)
 unfolding wide_at value_of

@@ -145,19 +145,43 @@ pub fn wide(bytes: &[u8]) -> Result<(u64, &[u8]), ReadFault>
     }
 }
 
-/// A number below 2^32. One of two to eighteen digits, as most are, is told with few tests. It is inlined, so that what it gives is
-/// not stored to be read again.
+// A number of two to eighteen digits, as most are, where one stands in front. It is told with few tests, and inlined, so that
+// what it gives is not stored to be read again.
+#[inline(always)]
+fn usual_wide(bytes: &[u8]) -> Option<(u64, &[u8])>
+    ensures { IfSome result (λ x. spec.wide_at bytes.now ≡ Some (x.0, x.1.now)) }
+{
+    let (len, value) = leading(bytes);
+    if len >= 2 && len <= 18 && bytes[0] > b'0' {
+        let (_, rest) = bytes.split_at(len);
+        return Some((value, rest));
+    }
+    None
+}
+
+// The same below 2^32.
+#[inline(always)]
+#[tactic(auto, using(crate::proofs::Usual::number_reads))]
+fn usual_number(bytes: &[u8]) -> Option<(u32, &[u8])>
+    ensures { IfSome result (λ x. spec.number_at bytes.now ≡ Some (x.0, x.1.now)) }
+{
+    let (n, rest) = usual_wide(bytes)?;
+    if n >= 4_294_967_296 {
+        return None;
+    }
+    Some((n as u32, rest))
+}
+
+/// A number below 2^32. Mostly it is a usual one.
 #[inline(always)]
 pub fn number(bytes: &[u8]) -> Result<(u32, &[u8]), ReadFault>
     ensures reads { spec.Gives (λ x. (x.0, x.1.now)) result (spec.number_at bytes.now) }
     ensures cause { IfErr result (λ fault. fault ≡ ReadFault.NotAReport) }
 {
-    let (len, value) = leading(bytes);
-    if len >= 2 && len <= 18 && bytes[0] > b'0' && value < 4_294_967_296 {
-        let (_, rest) = bytes.split_at(len);
-        return Ok((value as u32, rest));
+    match usual_number(bytes) {
+        Some((n, rest)) => Ok((n, rest)),
+        None => any_number(bytes),
     }
-    any_number(bytes)
 }
 
 // The same of any digits.
@@ -206,6 +230,17 @@ pub fn word(bytes: &[u8]) -> Result<(u32, &[u8]), ReadFault>
     number(rest)
 }
 
+/// A blank and a usual number, where they stand in front.
+#[inline(always)]
+pub fn usual_word(bytes: &[u8]) -> Option<(u32, &[u8])>
+    ensures { IfSome result (λ x. spec.word_at bytes.now ≡ Some (x.0, x.1.now)) }
+{
+    match behind_byte(bytes, b' ') {
+        Some(rest) => usual_number(rest),
+        None => None,
+    }
+}
+
 // A number of one digit, where such a number stands in front.
 fn one_digit(bytes: &[u8]) -> Option<(u8, &[u8])>
     ensures { IfSome result (λ x. (x.0 < 10) × (spec.number_at bytes.now ≡ Some (x.0, x.1.now))) }
@@ -219,33 +254,15 @@ fn one_digit(bytes: &[u8]) -> Option<(u8, &[u8])>
     Some((*digit - b'0', rest))
 }
 
-// A blank and a number of one digit, where such a number stands in front.
-fn short(bytes: &[u8]) -> Option<(u8, &[u8])>
+/// A blank and a number of one digit, where such a number stands in front.
+#[inline(always)]
+pub fn short(bytes: &[u8]) -> Option<(u8, &[u8])>
     ensures { IfSome result (λ x. (x.0 < 10) × (spec.word_at bytes.now ≡ Some (x.0, x.1.now))) }
 {
     match behind_byte(bytes, b' ') {
         Some(rest) => one_digit(rest),
         None => None,
     }
-}
-
-/// A blank and a number below 2^32 that mostly has one digit.
-pub fn short_word(bytes: &[u8]) -> Result<(u32, &[u8]), ReadFault>
-    ensures { spec.Gives (λ x. (x.0, x.1.now)) result (spec.word_at bytes.now) }
-{
-    match short(bytes) {
-        Some((n, rest)) => Ok((u32::from(n), rest)),
-        None => long_word(bytes),
-    }
-}
-
-// The same of any number of digits.
-#[cold]
-#[inline(never)]
-fn long_word(bytes: &[u8]) -> Result<(u32, &[u8]), ReadFault>
-    ensures { spec.Gives (λ x. (x.0, x.1.now)) result (spec.word_at bytes.now) }
-{
-    word(bytes)
 }
 
 /// A title, a number below 2^32 and the end of the line.
@@ -301,6 +318,20 @@ pub fn signed_word(bytes: &[u8]) -> Result<(i64, &[u8]), ReadFault>
 {
     let rest = expect_byte(bytes, b' ')?;
     signed(rest)
+}
+
+/// A blank and a number of two to eighteen digits, as most places have, where they stand in front.
+#[inline(always)]
+#[tactic(auto, using(crate::proofs::Usual::place_reads))]
+pub fn usual_place(bytes: &[u8]) -> Option<(i64, &[u8])>
+    ensures { IfSome result (λ x. spec.signed_word_at bytes.now ≡ Some (x.0, x.1.now)) }
+{
+    let digits = behind_byte(bytes, b' ')?;
+    let (n, rest) = usual_wide(digits)?;
+    match i64::try_from(n) {
+        Ok(z) => Some((z, rest)),
+        Err(_) => None,
+    }
 }
 
 /// A blank and a number below 2^8.

@@ -1,5 +1,5 @@
 //! The lines of a report and lists of them, each as it is read and as it is written.
-ghost use Rattle.std.specs.Prelude.{◌≡◌, ◌++◌, ℕ, List, Option, OnOk, IfSome, length};
+ghost use Rattle.std.specs.Prelude.{◌≡◌, ◌++◌, ℕ, List, Option, OnOk, IfSome, Some, length};
 ghost use Rattle.std.specs.List.{AllByRecursion, flat_map};
 ghost use Rattle.lengths.specs.Text.{IsText};
 ghost use Rattle.verdict.specs.Lawful.{IsBranchLine, IsNumber, IsOpen, IsPointLine, IsShort, IsSourceLine, IsSpotLine, IsTwig};
@@ -7,8 +7,8 @@ ghost use Rattle.verdict.specs.ReportReading as spec;
 ghost use Rattle.verdict.specs.ReportText as report;
 
 use crate::fields::{
-    begins_blank, count, expect, expect_byte, expect_line_number, layer, line_end, net_number,
-    parent, short_word, signed_word, titled, word,
+    begins_blank, behind, behind_byte, count, expect, expect_byte, expect_line_number, layer,
+    line_end, net_number, parent, short, signed_word, titled, usual_place, usual_word, word,
 };
 use crate::line_number::LineNumber;
 use crate::report_reading::ReadFault;
@@ -141,6 +141,18 @@ fn heading<'a>(bytes: &'a [u8], title: &[u8], line: LineNumber) -> Result<&'a [u
     expect_line_number(rest, line)
 }
 
+// A title and the number of a line, where they stand in front.
+#[inline(always)]
+#[tactic(auto, using(crate::proofs::Usual::heading_reads))]
+fn usual_heading<'a>(bytes: &'a [u8], title: &[u8], line: LineNumber) -> Option<&'a [u8]>
+    ensures { IfSome result (λ rest. spec.heading_at title.now line.number bytes.now ≡ Some rest.now) }
+{
+    let behind_title = behind(bytes, title)?;
+    let behind_blank = behind_byte(behind_title, b' ')?;
+    let rest = line.behind(behind_blank)?;
+    Some(rest)
+}
+
 // Writes a title and the number of a line. It is inlined, so that a title that is known is stored directly.
 #[inline(always)]
 fn write_heading(out: &mut Vec<u8>, title: &[u8], number: u64) -> Result<(), AllocError>
@@ -227,6 +239,48 @@ impl Line for Text {
     }
 }
 
+// The line of a point as most are, on a net and a layer of one digit, where one stands in front.
+#[inline(always)]
+fn usual_point(bytes: &[u8], line: LineNumber) -> Option<(PointLine, &[u8])>
+    ensures { IfSome result (λ x. spec.point_at line.number bytes.now ≡ Some (x.0, x.1.now)) }
+{
+    let rest = usual_heading(bytes, b"point", line)?;
+    let (number, behind_number) = usual_word(rest)?;
+    let (layer, behind_layer) = short(behind_number)?;
+    let (name, behind_name) = usual_word(behind_layer)?;
+    let (net, behind_net) = usual_word(behind_name)?;
+    let end = behind_byte(behind_net, b'\n')?;
+    let net = Some(net);
+    let line = PointLine {
+        number,
+        layer,
+        name,
+        net,
+    };
+    Some((line, end))
+}
+
+// The line of any point.
+#[cold]
+#[inline(never)]
+#[tactic(auto, unfolding(crate::specs::ReportReading::point_at))]
+fn any_point(bytes: &[u8], line: LineNumber) -> Result<(PointLine, &[u8]), ReadFault>
+    ensures { spec.Gives (λ x. (x.0, x.1.now)) result (spec.point_at line.number bytes.now) }
+{
+    let rest = heading(bytes, b"point", line)?;
+    let (number, rest) = word(rest)?;
+    let (layer, rest) = layer(rest)?;
+    let (name, rest) = word(rest)?;
+    let (net, rest) = net_number(rest)?;
+    let line = PointLine {
+        number,
+        layer,
+        name,
+        net,
+    };
+    line_end(line, rest)
+}
+
 impl Line for PointLine {
     ghost at = { spec.point_at };
 
@@ -234,20 +288,11 @@ impl Line for PointLine {
 
     ghost is_lawful = { IsPointLine };
 
-    #[tactic(auto, unfolding(crate::specs::ReportReading::point_at))]
     fn read(_: Global, line: LineNumber, bytes: &[u8]) -> Result<(PointLine, &[u8]), ReadFault> {
-        let rest = heading(bytes, b"point", line)?;
-        let (number, rest) = word(rest)?;
-        let (layer, rest) = layer(rest)?;
-        let (name, rest) = word(rest)?;
-        let (net, rest) = net_number(rest)?;
-        let line = PointLine {
-            number,
-            layer,
-            name,
-            net,
-        };
-        line_end(line, rest)
+        match usual_point(bytes, line) {
+            Some((point, rest)) => Ok((point, rest)),
+            None => any_point(bytes, line),
+        }
     }
 
     fn write(&self, number: u64, out: &mut Vec<u8>) -> Result<(), AllocError> {
@@ -370,6 +415,33 @@ fn write_place(out: &mut Vec<u8>, spot: &SpotLine) -> Result<(), AllocError>
     put_blank_signed(out, spot.y)
 }
 
+// The line of a place as most are, where one stands in front.
+#[inline(always)]
+#[tactic(auto, using(crate::proofs::Usual::spot_reads))]
+fn usual_spot(bytes: &[u8], line: LineNumber) -> Option<(SpotLine, &[u8])>
+    ensures { IfSome result (λ s. spec.spot_at line.number bytes.now ≡ Some (s.0, s.1.now)) }
+{
+    let rest = usual_heading(bytes, b"spot", line)?;
+    let (x, behind_x) = usual_place(rest)?;
+    let (y, behind_y) = usual_place(behind_x)?;
+    let end = behind_byte(behind_y, b'\n')?;
+    let line = SpotLine { x, y };
+    Some((line, end))
+}
+
+// The line of any place.
+#[cold]
+#[inline(never)]
+#[tactic(auto, unfolding(crate::specs::ReportReading::spot_at))]
+fn any_spot(bytes: &[u8], line: LineNumber) -> Result<(SpotLine, &[u8]), ReadFault>
+    ensures { spec.Gives (λ x. (x.0, x.1.now)) result (spec.spot_at line.number bytes.now) }
+{
+    let rest = heading(bytes, b"spot", line)?;
+    let (x, rest) = signed_word(rest)?;
+    let (y, rest) = signed_word(rest)?;
+    line_end(SpotLine { x, y }, rest)
+}
+
 impl Line for SpotLine {
     ghost at = { spec.spot_at };
 
@@ -377,12 +449,11 @@ impl Line for SpotLine {
 
     ghost is_lawful = { IsSpotLine };
 
-    #[tactic(auto, unfolding(crate::specs::ReportReading::spot_at))]
     fn read(_: Global, line: LineNumber, bytes: &[u8]) -> Result<(SpotLine, &[u8]), ReadFault> {
-        let rest = heading(bytes, b"spot", line)?;
-        let (x, rest) = signed_word(rest)?;
-        let (y, rest) = signed_word(rest)?;
-        line_end(SpotLine { x, y }, rest)
+        match usual_spot(bytes, line) {
+            Some((spot, rest)) => Ok((spot, rest)),
+            None => any_spot(bytes, line),
+        }
     }
 
     fn write(&self, number: u64, out: &mut Vec<u8>) -> Result<(), AllocError> {
@@ -423,6 +494,53 @@ fn write_copy_and_span(out: &mut Vec<u8>, source: &SourceLine) -> Result<(), All
     put(out, b"\n")
 }
 
+// The line of a source as most are, of one digit each but for its command, where one stands in front.
+#[inline(always)]
+fn usual_source(bytes: &[u8], line: LineNumber) -> Option<(SourceLine, &[u8])>
+    ensures { IfSome result (λ x. spec.source_at line.number bytes.now ≡ Some (x.0, x.1.now)) }
+{
+    let rest = usual_heading(bytes, b"source", line)?;
+    let (file, behind_file) = short(rest)?;
+    let (command, behind_command) = usual_word(behind_file)?;
+    let (copy, behind_copy) = short(behind_command)?;
+    let (top, behind_top) = short(behind_copy)?;
+    let (bottom, behind_bottom) = short(behind_top)?;
+    let end = behind_byte(behind_bottom, b'\n')?;
+    let file = u32::from(file);
+    let copy = u32::from(copy);
+    let line = SourceLine {
+        file,
+        command,
+        copy,
+        top,
+        bottom,
+    };
+    Some((line, end))
+}
+
+// The line of any source.
+#[cold]
+#[inline(never)]
+#[tactic(auto, unfolding(crate::specs::ReportReading::source_at))]
+fn any_source(bytes: &[u8], line: LineNumber) -> Result<(SourceLine, &[u8]), ReadFault>
+    ensures { spec.Gives (λ x. (x.0, x.1.now)) result (spec.source_at line.number bytes.now) }
+{
+    let rest = heading(bytes, b"source", line)?;
+    let (file, rest) = word(rest)?;
+    let (command, rest) = word(rest)?;
+    let (copy, rest) = word(rest)?;
+    let (top, rest) = layer(rest)?;
+    let (bottom, rest) = layer(rest)?;
+    let line = SourceLine {
+        file,
+        command,
+        copy,
+        top,
+        bottom,
+    };
+    line_end(line, rest)
+}
+
 impl Line for SourceLine {
     ghost at = { spec.source_at };
 
@@ -430,22 +548,11 @@ impl Line for SourceLine {
 
     ghost is_lawful = { IsSourceLine };
 
-    #[tactic(auto, unfolding(crate::specs::ReportReading::source_at))]
     fn read(_: Global, line: LineNumber, bytes: &[u8]) -> Result<(SourceLine, &[u8]), ReadFault> {
-        let rest = heading(bytes, b"source", line)?;
-        let (file, rest) = short_word(rest)?;
-        let (command, rest) = word(rest)?;
-        let (copy, rest) = short_word(rest)?;
-        let (top, rest) = layer(rest)?;
-        let (bottom, rest) = layer(rest)?;
-        let line = SourceLine {
-            file,
-            command,
-            copy,
-            top,
-            bottom,
-        };
-        line_end(line, rest)
+        match usual_source(bytes, line) {
+            Some((source, rest)) => Ok((source, rest)),
+            None => any_source(bytes, line),
+        }
     }
 
     fn write(&self, number: u64, out: &mut Vec<u8>) -> Result<(), AllocError> {
