@@ -17,9 +17,9 @@ loop-i-preserved c =
       | then-stamps-net+in_ok-push+in_ok-push-2 w ↦ (
           let m : Mark = record { name = c.args.name; probe = s.probe } in
           let below : s.net < length c.loop-i.marks = omega arith in
-          let row : c.if-stamps-net.row ≡ c.loop-i.row ++ s ∷ [] = w.row-is ∙ w.in_ok-push-2.ensures in
+          let row : c.if-stamps-net.row ≡ c.loop-i.row ++ s ∷ [] = w.row-is ∙ w.in_ok-push-2.ensures.ok in
           let put : c.if-stamps-net.marks ≡ set c.loop-i.marks s.net (marks_at c.loop-i.marks s.net ++ m ∷ []) =
-          w.marks-is ∙ (ap (set c.loop-i.marks s.net) w.in_ok-push.ensures ∙ ap (λ (xs : List Mark). set c.loop-i.marks s.net (xs ++ m ∷ [])) (get_or_default c.loop-i.marks s.net w.index-marks-net.result [] below)) in (
+          w.marks-is ∙ (ap (set c.loop-i.marks s.net) w.in_ok-push.ensures.ok ∙ ap (λ (xs : List Mark). set c.loop-i.marks s.net (xs ++ m ∷ [])) (get_or_default c.loop-i.marks s.net w.index-marks-net.result [] below)) in (
             kept_is c.args.seats.now (c.args.name + 1) _ (i + 1) (c.loop-i.row ++ s ∷ []) c.if-stamps-net.row (set c.loop-i.stamps s.net (c.args.name + 1)) c.if-stamps-net.stamps row w.stamps-is
                 (kept_more c.args.seats.now (c.args.name + 1) _ i none c.loop-i.row c.loop-i.stamps c.loop-i-test.true within w.if-stamps-net.true c.loop-i.invariant.0),
             marks_are c.args.name (c.loop-i.row ++ s ∷ []) c.if-stamps-net.row c.args.marks.now c.if-stamps-net.marks c.if-stamps-net.marks row refl (marks_more c.args.name c.loop-i.row s c.args.marks.now c.loop-i.marks c.if-stamps-net.marks below put c.loop-i.invariant.1),
