@@ -63,6 +63,7 @@ const FRONT: usize = 11;
 
 // How many digits stand in front, and their value where they are at most 18. A front of known length is asked first: it needs no
 // test at each byte whether one is there.
+#[inline(always)]
 fn leading(bytes: &[u8]) -> (usize, u64)
     ensures { spec.IsRun bytes.now result.0 result.1 }
 {

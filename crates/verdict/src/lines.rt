@@ -264,16 +264,16 @@ fn usual_point(bytes: &[u8], line: LineNumber) -> Option<(PointLine, &[u8])>
 #[cold]
 #[inline(never)]
 #[tactic(auto, unfolding(crate::specs::ReportReading::point_at))]
-fn any_point(bytes: &[u8], line: LineNumber) -> Result<(PointLine, &[u8]), ReadFault>
-    ensures { spec.Gives (λ x. (x.0, x.1.now)) result (spec.point_at line.number bytes.now) }
+fn any_point(bytes: &[u8], number: u64) -> Result<(PointLine, &[u8]), ReadFault>
+    ensures { spec.Gives (λ x. (x.0, x.1.now)) result (spec.point_at number bytes.now) }
 {
-    let rest = heading(bytes, b"point", line)?;
-    let (number, rest) = word(rest)?;
+    let rest = heading(bytes, b"point", LineNumber::of(number))?;
+    let (record, rest) = word(rest)?;
     let (layer, rest) = layer(rest)?;
     let (name, rest) = word(rest)?;
     let (net, rest) = net_number(rest)?;
     let line = PointLine {
-        number,
+        number: record,
         layer,
         name,
         net,
@@ -291,7 +291,7 @@ impl Line for PointLine {
     fn read(_: Global, line: LineNumber, bytes: &[u8]) -> Result<(PointLine, &[u8]), ReadFault> {
         match usual_point(bytes, line) {
             Some((point, rest)) => Ok((point, rest)),
-            None => any_point(bytes, line),
+            None => any_point(bytes, line.number),
         }
     }
 
@@ -433,10 +433,10 @@ fn usual_spot(bytes: &[u8], line: LineNumber) -> Option<(SpotLine, &[u8])>
 #[cold]
 #[inline(never)]
 #[tactic(auto, unfolding(crate::specs::ReportReading::spot_at))]
-fn any_spot(bytes: &[u8], line: LineNumber) -> Result<(SpotLine, &[u8]), ReadFault>
-    ensures { spec.Gives (λ x. (x.0, x.1.now)) result (spec.spot_at line.number bytes.now) }
+fn any_spot(bytes: &[u8], number: u64) -> Result<(SpotLine, &[u8]), ReadFault>
+    ensures { spec.Gives (λ x. (x.0, x.1.now)) result (spec.spot_at number bytes.now) }
 {
-    let rest = heading(bytes, b"spot", line)?;
+    let rest = heading(bytes, b"spot", LineNumber::of(number))?;
     let (x, rest) = signed_word(rest)?;
     let (y, rest) = signed_word(rest)?;
     line_end(SpotLine { x, y }, rest)
@@ -452,7 +452,7 @@ impl Line for SpotLine {
     fn read(_: Global, line: LineNumber, bytes: &[u8]) -> Result<(SpotLine, &[u8]), ReadFault> {
         match usual_spot(bytes, line) {
             Some((spot, rest)) => Ok((spot, rest)),
-            None => any_spot(bytes, line),
+            None => any_spot(bytes, line.number),
         }
     }
 
@@ -522,10 +522,10 @@ fn usual_source(bytes: &[u8], line: LineNumber) -> Option<(SourceLine, &[u8])>
 #[cold]
 #[inline(never)]
 #[tactic(auto, unfolding(crate::specs::ReportReading::source_at))]
-fn any_source(bytes: &[u8], line: LineNumber) -> Result<(SourceLine, &[u8]), ReadFault>
-    ensures { spec.Gives (λ x. (x.0, x.1.now)) result (spec.source_at line.number bytes.now) }
+fn any_source(bytes: &[u8], number: u64) -> Result<(SourceLine, &[u8]), ReadFault>
+    ensures { spec.Gives (λ x. (x.0, x.1.now)) result (spec.source_at number bytes.now) }
 {
-    let rest = heading(bytes, b"source", line)?;
+    let rest = heading(bytes, b"source", LineNumber::of(number))?;
     let (file, rest) = word(rest)?;
     let (command, rest) = word(rest)?;
     let (copy, rest) = word(rest)?;
@@ -551,7 +551,7 @@ impl Line for SourceLine {
     fn read(_: Global, line: LineNumber, bytes: &[u8]) -> Result<(SourceLine, &[u8]), ReadFault> {
         match usual_source(bytes, line) {
             Some((source, rest)) => Ok((source, rest)),
-            None => any_source(bytes, line),
+            None => any_source(bytes, line.number),
         }
     }
 
