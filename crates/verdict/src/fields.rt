@@ -211,7 +211,7 @@ pub fn expect_line_number(bytes: &[u8], line: LineNumber) -> Result<&[u8], ReadF
     }
 }
 
-// The same by writing the number. No text of a verdict with a line behind this one comes here.
+// The same by writing the number: of lines from 10,000,000 on, and where fewer than eight bytes are left.
 #[cold]
 #[inline(never)]
 fn expect_written(bytes: &[u8], number: u64) -> Result<&[u8], ReadFault>

@@ -81,7 +81,7 @@ impl LineNumber {
         }
     }
 
-    /// The bytes behind its text, where that stands in front of bytes that are not few.
+    /// The bytes behind its text, where that stands in front. None also from 10,000,000 on, and where fewer than eight bytes are left.
     #[inline(always)]
     pub fn behind(self, bytes: &[u8]) -> Option<&[u8]>
         ensures { IfSome result (λ rest. spec.behind (decimal self.number) bytes.now ≡ Some rest.now) }
