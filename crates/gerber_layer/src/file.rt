@@ -18,6 +18,7 @@ use std::alloc::Global;
 use texts::MOST_BYTES;
 
 // Obeys a command that stands at a place.
+#[inline(always)]
 fn obey_at<'a, D: Dialect>(
     alloc: Global,
     reader: &mut Reader<'a>,

@@ -36,6 +36,7 @@ impl<'a> Reader<'a> {
     }
 
     // Performs an operation.
+    #[inline(always)]
     #[tactic(auto, unfolding(crate::specs::CommandEffects::perform))]
     fn perform_at_once(
         &mut self,

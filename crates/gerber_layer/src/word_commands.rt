@@ -491,6 +491,7 @@ fn selection(text: &[u8]) -> &[u8]
 }
 
 // The number that a selection's digits spell.
+#[inline(always)]
 fn selected(digits: &[u8]) -> Option<u32>
     ensures { result ≡ spec.selected digits.now }
 {
@@ -551,6 +552,7 @@ fn are_numbers(text: &[u8]) -> bool
 }
 
 // The numbers are good where both are numbers.
+#[inline(always)]
 #[tactic(auto, unfolding(crate::specs::WordCommands::from_i))]
 fn from_i<'a>(x: Option<&'a [u8]>, y: Option<&'a [u8]>, good: bool, text: &'a [u8]) -> Command<'a>
     requires good { good ≡ (spec.is_number_if (option_copied x) && spec.is_number_if (option_copied y)) }
@@ -562,6 +564,7 @@ fn from_i<'a>(x: Option<&'a [u8]>, y: Option<&'a [u8]>, good: bool, text: &'a [u
 }
 
 // An operation by its parts, where behind them stands a text.
+#[inline(always)]
 #[tactic(auto, unfolding(crate::specs::WordCommands::operation_of))]
 fn operation_of<'a>(
     x: Option<&'a [u8]>,
