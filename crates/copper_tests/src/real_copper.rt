@@ -478,7 +478,10 @@ fn of_fines() -> [(&'static str, &'static str); 8] {
             "%ADD11C,1.0000001*%D11*X1000000D01*M02*",
             "Copper(Gerber(PenNotCircle)) at command 7",
         ),
-        ("%ADD11C,1.00000001*%M02*", "Copper(Gerber(OffGrid)) at command 5"),
+        (
+            "%ADD11C,1.00000001*%M02*",
+            "Copper(Gerber(OffGrid)) at command 5",
+        ),
     ]
 }
 
