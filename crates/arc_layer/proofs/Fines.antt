@@ -1,5 +1,5 @@
 -- Fine apertures, as their spots tell them.
-use Rattle.std.proofs.Common.{◌≡◌, ℕ, ℤ, pos, ◌+◌, ◌/◌, ◌<◌, ◌≤◌, ◌+ℤ◌, ◌-ℤ◌, Bool, true, false, cond, List, [], ◌∷◌, length, Option, Some, None, Result, Ok, Err, refl, ap, ◌∙◌, subst, arith}
+use Rattle.std.proofs.Common.{◌≡◌, ℕ, ℤ, pos, ◌+◌, ◌/◌, ◌≤◌, ◌+ℤ◌, ◌-ℤ◌, Bool, true, false, cond, List, [], ◌∷◌, length, Option, Some, None, Result, Ok, Err, refl, subst, arith}
 use Rattle.std.specs.Prelude.{int_lt, unsigned_abs}
 use Rattle.std.specs.List.{list_all}
 use Rattle.std.specs.Ordering.{int_eq}
@@ -8,14 +8,13 @@ use Rattle.std.proofs.lemmas.Int.{ints}
 use Rattle.planar.specs.Plane.{is_placed}
 use Rattle.planar.specs.declared.Spot.{Spot}
 use Rattle.apertures.specs.Flash.{IsFineSize, NoFlash, leaves, flash_of}
-use Rattle.apertures.specs.Telling.{Fine, fine_told, told_fine}
+use Rattle.apertures.specs.Telling.{fine_told, told_fine}
 use Rattle.board_shapes.specs.Figures.{Figure, filled}
-use Rattle.fine_figures.specs.declared.FineFigure.{FineFigure}
 use Rattle.fine_figures.specs.declared.FineFigure.TheVariants.{Round, Rectangle}
-use Rattle.arc_layer.specs.Fine.{fine_figure, fine_sides, fine_stroke}
+use Rattle.arc_layer.specs.Fine.{fine_sides, fine_stroke}
 use Rattle.arc_layer.specs.Laws.{FineObroundsAreUndone, FineRectanglesAreUndone}
 use Rattle.arc_layer.specs.Marks.{flash}
-use Rattle.arc_layer.specs.Real.{RealFigure, bent_or, fine, fine_or, flashed, with_mark}
+use Rattle.arc_layer.specs.Real.{RealFigure, fine, flashed, with_mark}
 
 -- longer contours tell none
 pub no_fine : (points : List Spot) → 7 ≤ length points → fine_told points ≡ None

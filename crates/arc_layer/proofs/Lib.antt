@@ -4,6 +4,7 @@ pub mod Mute
 pub mod Numbers
 pub mod OnLayer
 pub mod OneAnswer
+pub mod Polygons
 pub mod Quiet
 pub mod ReadSoFar
 pub mod Refusals

@@ -13,7 +13,7 @@ use Rattle.apertures.specs.Telling.{Fine, Frame, Ring, fine_told, frame_told, ri
 use Rattle.board_shapes.specs.Figures.{filled}
 use Rattle.arc_layer.specs.Laws.{DiscsAreUndone, TurnedAreContours, TurnsAreUndone}
 use Rattle.arc_layer.specs.Fine.{fine_figure}
-use Rattle.arc_layer.specs.Real.{bent_or, disc_area, disc_or, fine_or, frame_or, plain, ring_draw, told_area, turned, turned_disc, RealFigure, polygon_told, regular_or}
+use Rattle.arc_layer.specs.Real.{bent_or, disc_or, fine_or, frame_or, plain, ring_draw, told_area, turned, turned_disc, RealFigure, polygon_told, regular_or}
 use Rattle.slants.specs.declared.cones.TheConstants.{RIGHT_ANGLE}
 use Rattle.slants.specs.declared.polygons.RegularPolygon.{RegularPolygon}
 use Rattle.arc_layer.proofs.Fines.{no_fine}
@@ -21,7 +21,7 @@ use Rattle.arc_layer.proofs.Rings.{no_frame, no_ring}
 use Rattle.arc_layer.proofs.Tails.{IsTold, is_told}
 
 -- what is told of a contour tells no disc
-no_round : (about : Spot) (rest : ℕ) (contour : List Spot) → IsClosed contour → 4 ≤ length contour → round_told (told about rest contour) ≡ None
+pub no_round : (about : Spot) (rest : ℕ) (contour : List Spot) → IsClosed contour → 4 ≤ length contour → round_told (told about rest contour) ≡ None
 unfolding told
 no_round about rest [] closed long = absurd (omega (arith, long))
 no_round about rest (a ∷ []) closed long = absurd (omega (arith, long))

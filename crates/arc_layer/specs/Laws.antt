@@ -1,9 +1,13 @@
 -- Laws over the definitions.
-use Rattle.std.specs.Prelude.{◌≡◌, ℕ, ◌+◌, ◌-◌, ◌/◌, ◌==◌, ◌<◌, ◌≤◌, if◌then◌else◌, List, length, ℤ, pos, unsigned_abs, Option, Some, Ok}
+use Rattle.std.specs.Prelude.{◌≡◌, ℕ, ◌+◌, ◌-◌, ◌*◌, ◌/◌, ◌^◌, ◌==◌, ◌<◌, ◌≤◌, if◌then◌else◌, List, length, map, ℤ, pos, unsigned_abs, Option, Some, Ok}
 use Rattle.planar.specs.Plane.{IsPlaced}
 use Rattle.planar.specs.declared.Spot.{Spot}
 use Rattle.area_contact.specs.Contour.{IsClosed, IsContour}
-use Rattle.aperture_macros.specs.Telling.{told, told_round}
+use Rattle.aperture_macros.specs.Images.{polygon_spots, set_down}
+use Rattle.aperture_macros.specs.Telling.{told, told_rest, told_round}
+use Rattle.aperture_macros.specs.declared.primitive.Form.TheVariants.{Polygon}
+use Rattle.aperture_macros.specs.declared.primitive.Rotation.{Rotation}
+use Rattle.aperture_macros.specs.declared.primitive.Rotation.TheVariants.{Half, Quarter, ThreeQuarters, Unturned}
 use Rattle.apertures.specs.Flash.{IsLawful, flash_of}
 use Rattle.apertures.specs.declared.aperture.Aperture.TheVariants.{FineObround, FineRectangle, Frame, Ring}
 use Rattle.board_shapes.specs.Figures.{Figure, filled}
@@ -14,11 +18,12 @@ use Rattle.gerber_layer.specs.CommandEffects.{edges_in}
 use Rattle.gerber_layer.specs.Settings.{contour_before}
 use Rattle.arc_layer.specs.Marks.{contour, edges_before, flash, mark_behind}
 use Rattle.arc_layer.specs.Fine.{fine_sides, fine_stroke}
-use Rattle.arc_layer.specs.Real.{bent, fine, flashed, frame_region, plain, turned, turned_disc, with_mark}
+use Rattle.arc_layer.specs.Real.{bent, fine, flashed, frame_region, plain, regular, turned, turned_disc, with_mark}
 use Rattle.arc_layer.specs.State.{commands_of}
 use Rattle.arc_layer.specs.Words.{Saying}
 use Rattle.arc_layer.specs.declared.draws.Bend.{Bend}
 use Rattle.slants.specs.declared.cones.TheConstants.{RIGHT_ANGLE}
+use Rattle.slants.specs.declared.polygons.TheConstants.{PARTS}
 
 -- Behind any history, the open contour has as many bends of edges as edges, which are its points less one.
 abbrev pub EachEdgeHasABend : Type 0
@@ -35,6 +40,18 @@ TurnsAreUndone = (about : Spot) (rest : ℕ) (contour : List Spot) → IsClosed 
 -- A disc that is told is that disc before the turn.
 abbrev pub DiscsAreUndone : Type 0
 DiscsAreUndone = (about a : Spot) (rest n : ℕ) → 1 ≤ rest → rest < RIGHT_ANGLE → flashed (told_round about rest (record { a = a; b = a; r = pos n })) ≡ turned_disc (record { centre = a; radius = n; about = about; angle = rest })
+
+-- how many quarter turns it is
+abbrev pub quarters_of : Rotation → ℕ
+quarters_of Unturned = 0
+quarters_of Quarter = 1
+quarters_of Half = 2
+quarters_of ThreeQuarters = 3
+
+-- A polygon that is told is that polygon about its turned middle, its first corner in the direction of the quarter turns and of what is left.
+abbrev pub PolygonsAreUndone : Type 0
+PolygonsAreUndone = (rotation : Rotation) (at p : Spot) (d n rest : ℕ) → 1 ≤ d → n < 2 ^ 32 → rest < RIGHT_ANGLE → flashed (told at (told_rest (Polygon n) rest) (map (set_down rotation at) (polygon_spots p d n)))
+    ≡ regular (record { centre = set_down rotation at p; corners = n; diameter = d * PARTS; angle = quarters_of rotation * RIGHT_ANGLE + rest })
 
 -- A flash of a circle with a hole is a draw once round the spot. The middle of its pen lies halfway between the hole and the outside, at a quarter of the sum of both diameters; the pen is as wide as the copper, half their difference.
 abbrev pub RingsAreUndone : Type 0

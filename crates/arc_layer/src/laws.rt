@@ -1,6 +1,6 @@
 //! Laws over the definitions alone.
 ghost use Rattle.arc_layer.specs.Kinds.{RealKindsHaveOwnNumbers};
-ghost use Rattle.arc_layer.specs.Laws.{DiscsAreUndone, EachEdgeHasABend, FineObroundsAreUndone, FineRectanglesAreUndone, FramesAreUndone, MarksFitAreas, RingsAreUndone, TurnedAreContours, TurnsAreUndone};
+ghost use Rattle.arc_layer.specs.Laws.{DiscsAreUndone, EachEdgeHasABend, FineObroundsAreUndone, FineRectanglesAreUndone, FramesAreUndone, MarksFitAreas, PolygonsAreUndone, RingsAreUndone, TurnedAreContours, TurnsAreUndone};
 ghost use Rattle.arc_layer.specs.Real.{HasOneRealAnswer};
 ghost use Rattle.gerber_layer.specs.declared.place.Place.{Place};
 ghost use Rattle.std.specs.Prelude.{ℕ, List};
@@ -32,11 +32,12 @@ pub fn each_edge_has_a_bend()
 {}
 
 /// A macro's area is its contour again, turned by what is left to turn where something is; and what is turned is a contour,
-/// by an angle below a right one. A disc is that disc, so turned.
+/// by an angle below a right one. A disc is that disc, so turned, and a regular polygon that polygon.
 pub fn turns_are_told()
     ensures undone { TurnsAreUndone }
     ensures lawful { TurnedAreContours }
     ensures discs { DiscsAreUndone }
+    ensures polygons { PolygonsAreUndone }
 {
     told_is_found();
     round_told_is_found();
