@@ -30,8 +30,8 @@ both_fit a b c d ha hb hc hd = omega (arith, ints)
 
 -- ---- twice a coordinate, and a length
 
-pub twice_less : (a b : ℤ) (n : ℕ) → IsReached a → b ≡ pos n → n ≤ 20000000000 → wrapped (wrapped (wrapped a +ℤ wrapped a) -ℤ wrapped b) ≡ (a +ℤ a -ℤ pos n)
+pub twice_less : (a b : ℤ) (n : ℕ) → IsReached a → b ≡ pos n → n ≤ TWO_METRES → wrapped (wrapped (wrapped a +ℤ wrapped a) -ℤ wrapped b) ≡ (a +ℤ a -ℤ pos n)
 twice_less a b n h is most = rw is (omega (arith, ints, h, most))
 
-pub twice_more : (a b : ℤ) (n : ℕ) → IsReached a → b ≡ pos n → n ≤ 20000000000 → wrapped (wrapped (wrapped a +ℤ wrapped a) +ℤ wrapped b) ≡ (a +ℤ a +ℤ pos n)
+pub twice_more : (a b : ℤ) (n : ℕ) → IsReached a → b ≡ pos n → n ≤ TWO_METRES → wrapped (wrapped (wrapped a +ℤ wrapped a) +ℤ wrapped b) ≡ (a +ℤ a +ℤ pos n)
 twice_more a b n h is most = rw is (omega (arith, ints, h, most))

@@ -1,6 +1,7 @@
 //! Fine apertures, as the spots of an area tell them.
 ghost use Rattle.arc_layer.specs.Fine as spec;
 ghost use Rattle.planar.specs.Plane.{IsPlaced};
+ghost use Rattle.planar.specs.declared.TheConstants.{TWO_METRES};
 ghost use Rattle.std.specs.Prelude.{◌≡◌, ◌≤◌, ◌-ℤ◌, unsigned_abs, All, pos};
 
 use contact::Bounds;
@@ -8,7 +9,7 @@ use fine_figures::{FineFigure, FineStroke};
 use planar::Spot;
 
 fn way(n: u64) -> i64
-    requires { n ≤ 20_000_000_000 }
+    requires { n ≤ TWO_METRES }
     ensures { result ≡ pos n }
 {
     n as i64
@@ -17,8 +18,8 @@ fn way(n: u64) -> i64
 /// In half u, the spots so far to the left of and below a spot, and to the right of and above it.
 fn around(middle: Spot, w: u64, h: u64) -> (Spot, Spot)
     requires placed { IsPlaced middle }
-    requires w { w ≤ 20_000_000_000 }
-    requires h { h ≤ 20_000_000_000 }
+    requires w { w ≤ TWO_METRES }
+    requires h { h ≤ TWO_METRES }
     ensures low { result.0 ≡ spec.left_below middle w h }
     ensures high { result.1 ≡ spec.right_above middle w h }
 {
@@ -38,8 +39,8 @@ fn around(middle: Spot, w: u64, h: u64) -> (Spot, Spot)
 /// A rectangle about its middle.
 fn fine_sides(middle: Spot, w: u64, h: u64) -> Bounds
     requires placed { IsPlaced middle }
-    requires w { w ≤ 20_000_000_000 }
-    requires h { h ≤ 20_000_000_000 }
+    requires w { w ≤ TWO_METRES }
+    requires h { h ≤ TWO_METRES }
     ensures { result ≡ spec.fine_sides middle w h }
 {
     let (low, high) = around(middle, w, h);
@@ -54,8 +55,8 @@ fn fine_sides(middle: Spot, w: u64, h: u64) -> Bounds
 /// An obround, or with equal sizes a circle.
 fn fine_stroke(middle: Spot, w: u64, h: u64) -> FineStroke
     requires placed { IsPlaced middle }
-    requires w { w ≤ 20_000_000_000 }
-    requires h { h ≤ 20_000_000_000 }
+    requires w { w ≤ TWO_METRES }
+    requires h { h ≤ TWO_METRES }
     ensures { result ≡ spec.fine_stroke middle w h }
 {
     if w > h {
@@ -73,7 +74,7 @@ fn sizes_of(one: Spot, other: Spot) -> (u64, u64)
     requires other { IsPlaced other }
     ensures width { result.0 ≡ unsigned_abs (one.x -ℤ other.x) }
     ensures height { result.1 ≡ unsigned_abs (one.y -ℤ other.y) }
-    ensures small { (result.0 ≤ 20_000_000_000) × (result.1 ≤ 20_000_000_000) }
+    ensures small { (result.0 ≤ TWO_METRES) × (result.1 ≤ TWO_METRES) }
 {
     (one.x.abs_diff(other.x), one.y.abs_diff(other.y))
 }
