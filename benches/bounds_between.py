@@ -28,13 +28,13 @@ PADS = ["%AMRotRect*", "21,1,$1,$2,0,0,$3*%", "%AMOutline4P*", "4,1,4,$1,$2,$3,$
 
 
 class Layer:
-    """A copper file: figures, arc draws of every kind, macros with slanted lines, pads turned by degrees, round holes, regions with arcs, blocks. `arcs` counts
+    """A copper file: figures, arc draws of every kind, macros with slanted lines, pads turned by degrees, round holes, odd sizes, regions with arcs, blocks. `arcs` counts
     the draws, and `made` what else of the file is outside the profile; lengths are counted in the file's units. At 0 is a pad for both points."""
 
     def __init__(self, rng, arcs, most=METRE // 20):
         self.rng, self.arcs, self.made, (digits, unit, self.unit) = rng, 0, Counter(), rng.choice(FORMATS)
         self.scale, self.most = 254 * 10 ** 6 if unit == "IN" else 10 ** 7, most // self.unit
-        self.lines = [f"%FSLAX{digits}Y{digits}*%", f"%MO{unit}*%", *self.apertures(), *self.macros(), *self.pads(), *self.holes(), "%ADD60C,0.01*%", "G01*", "D60*", "X0Y0D03*"]
+        self.lines = [f"%FSLAX{digits}Y{digits}*%", f"%MO{unit}*%", *self.apertures(), *self.macros(), *self.pads(), *self.holes(), *self.odds(), "%ADD60C,0.01*%", "G01*", "D60*", "X0Y0D03*"]
         while self.arcs < arcs:
             self.block() if rng.random() < .03 else self.object()
         self.lines += ["G01*", "M02*"]
@@ -58,7 +58,7 @@ class Layer:
         self.lines.append(f"{before}X{spot[0]}Y{spot[1]}{behind}D0{code}*")
 
     def object(self):
-        self.rng.choice((self.arc, self.arc, self.arc, self.arc, self.draw, self.flash, self.area, self.macro, self.pad, self.holed, self.bent))()
+        self.rng.choice((self.arc, self.arc, self.arc, self.arc, self.draw, self.flash, self.area, self.macro, self.pad, self.holed, self.odd, self.bent))()
 
     def block(self):
         gap = self.rng.randrange(1, 10 ** 7) * self.step() / self.scale
@@ -119,7 +119,7 @@ class Layer:
                 yield from (f"%AMP{k}*", f"{self.outline(size)},{turn}*%", f"%ADD{k}P{k}*%")
             elif k % 4 == 0:
                 middle = self.rng.choice(("0,0", f"{left},-{right}"))
-                corners = self.rng.choice((5, 6, 8, 9, 10, 12))
+                corners = self.rng.randrange(3, 13)
                 yield from (f"%AMP{k}*", f"21,1,{w},{h},0,0,{turn}*", f"1,1,{w},{middle},{turn}*", f"5,1,{corners},0,0,{right},{turn}*")
                 yield from (f"20,1,{h},0,0,{w},0,{turn}*%", f"%ADD{k}P{k}*%")
             elif k % 4 == 1:
@@ -157,6 +157,19 @@ class Layer:
         self.pick(61, 68)
         self.go(self.place(), 3)
         self.made["flashes with a hole"] += 1
+
+    def odds(self):
+        """Circles, rectangles and obrounds of which at least one size is an odd number of u."""
+        for k, name in enumerate("CROCRO", 70):
+            steps = [factor * (int(10 ** self.rng.uniform(0, 6)) // self.step()) + 1 for factor in (2, 1)]
+            self.rng.shuffle(steps)
+            sizes = [next(it for it in steps if it % 2)] if name == "C" else steps
+            yield f"%ADD{k}{name},{'X'.join(f'{it * self.step() / self.scale:.7f}' for it in sizes)}*%"
+
+    def odd(self):
+        self.pick(70, 75)
+        self.go(self.place(), 3)
+        self.made["flashes of odd sizes"] += 1
 
     def macro(self):
         self.pick(40, 49)

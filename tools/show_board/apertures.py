@@ -77,20 +77,24 @@ def even_up(length):
 
 
 def even_sizes(name, lengths):
-    """Sizes of a shape within and round one: of an obround whose longer side alone is no even number the other is 2 less and more, so
-    that the ends of its middle line are no further off than the radii are."""
+    """Sizes of a shape within and round one, and whether `between` takes these: of an obround whose longer side alone is odd the other is
+    2 less and more, so that the ends of its middle line are no further off than the radii are. Where that leaves nothing, or is too wide, it
+    is as it was."""
     low, high = [even_down(v) for v in lengths], [even_up(v) for v in lengths]
-    short = lengths.index(min(lengths))
-    if name == OBROUND and low != high and low[short] == high[short] > 0:
+    short, is_read = lengths.index(min(lengths)), all(v.denominator == 1 for v in lengths)
+    if name != OBROUND or low == high or low[short] != high[short]:
+        return low, high, is_read
+    is_read = is_read and 2 < low[short] and high[short] < MOST_WIDE
+    if is_read:
         low[short], high[short] = low[short] - 2, high[short] + 2
-    return low, high
+    return low, high, is_read
 
 
 def standard(name, lengths, hole):
     """A circle, rectangle or obround of lengths in u, fractions, with a round hole or none."""
     if min(lengths) < 0 or hole < 0:
         raise Refused("a size under 0")
-    low, high = even_sizes(name, lengths)
+    low, high, is_read = even_sizes(name, lengths)
     if hole and name == OBROUND:
         return holed_shape(obround(*lengths), hole)
     if name == CIRCLE and is_ring(*lengths, hole):
@@ -100,7 +104,6 @@ def standard(name, lengths, hole):
     if hole:
         lower, upper = holed(name, low, hole), solid(name, high)
         return Shape(lower, upper, "a shape with a hole" if upper and not lower else None)
-    is_read = all(v.denominator == 1 for v in lengths)
     if low != high and 0 in low:
         return Shape([], solid(name, high), "a size under 0.2 nm", rows=[(0, 1)] if is_read and min(lengths) else None)
     return Pen(name, lengths[0] / 2 if name == CIRCLE else None, (low, high), is_read)
