@@ -150,12 +150,20 @@ class Proof:
 
     def step(self, places):
         """Notes which crates are proved since, and begins what can begin with so many jobs in all."""
-        for name in [name for name, (_, child) in self.running.items() if child.status() is not None]:
+        done = [name for name, (_, child) in self.running.items() if child.status() is not None]
+        for name in done:
             self.ended(name)
         ready = [name for name in self.left if name not in self.running and not self.below[name] & set(self.left)]
         running = {name: jobs for name, (jobs, _) in self.running.items()}
         for name, jobs in order.chosen(ready, self.chain, running, places).items():
             self.begin(name, jobs)
+        for name in done:
+            self.clear(name)
+
+    def clear(self, name):
+        """Removes from a copy the crates below: at the end so many files would keep the caller waiting."""
+        for it in self.below[name]:
+            shutil.rmtree(self.crate(it, name), ignore_errors=True)
 
     def ended(self, name):
         """Notes what a crate's check said; a crate is proved where its library was built, and the program where it was run."""
