@@ -8,7 +8,7 @@ use Rattle.planar.specs.Plane.{is_placed}
 use Rattle.planar.specs.declared.Spot.{Spot}
 use Rattle.apertures.specs.Flash.{NoFlash, leaves, flash_of}
 use Rattle.apertures.specs.Holes.{is_ring}
-use Rattle.apertures.specs.Telling.{Fine, Frame, Ring, fine_told, frame_told, ring_told, told_frame, told_ring}
+use Rattle.apertures.specs.Telling.{Fine, Frame, fine_told, frame_told, ring_told, told_frame, told_ring}
 use Rattle.board_shapes.specs.Figures.{Figure, filled}
 use Rattle.board_shapes.specs.Rectangles.{lower, upper}
 use Rattle.arc_layer.specs.Laws.{FramesAreUndone, RingsAreUndone}

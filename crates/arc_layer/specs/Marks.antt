@@ -37,7 +37,7 @@ abbrev pub is_flash : Code → Bool
 is_flash Flash = true
 is_flash other = false
 
--- a flash behind the name of a macro, or behind a word that may define a hole
+-- a flash behind the name of a macro, or behind a word that may define a hole or an odd size
 abbrev pub flashes : Command → State → Bool
 flashes (operates x y code) s = s.tells && is_flash (code_of code)
 flashes other s = false

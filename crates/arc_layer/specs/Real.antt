@@ -1,4 +1,4 @@
--- Real copper: the pieces of a copper file in which draws may be arcs, circles and rectangles may have round holes, sizes may be odd, and macros may have slanted lines and turned figures.
+-- Real copper: the pieces of a copper file in which draws may be arcs, circles and rectangles may have round holes, sizes may be odd, and macros may have slanted lines, turned figures and regular polygons.
 use Rattle.std.specs.Prelude.{◌≡◌, ℕ, ◌+◌, ◌-◌, ◌*◌, ◌^◌, ◌<◌, ◌≤◌, ◌-ℤ◌, Bool, false, ◌&&◌, ◌||◌, not, ◌==◌, nat_lt, int_lt, if◌then◌else◌, List, [], ◌∷◌, drop, map, Option, Some, None, option_map, unsigned_abs, Result, Ok, Err}
 use Rattle.std.specs.Ordering.{int_eq}
 use Rattle.planar.specs.declared.Spot.{Spot}

@@ -31,7 +31,7 @@ fn is_move(code: Code) -> bool
     matches!(code, Code::Move)
 }
 
-/// Whether a command is a flash behind the name of a macro.
+/// Whether a command is a flash behind the name of a macro, or behind a word that may define a hole or an odd size.
 pub fn flashes(command: &Command, state: &State) -> bool
     ensures { result ≡ spec.flashes (view command.now) state.now }
 {

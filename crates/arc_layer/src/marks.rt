@@ -146,8 +146,8 @@ impl Reader {
     }
 }
 
-// Whether no word of a file says anything of arcs, and none begins a macro. Such a file has no marks, and no command
-// of it need be read.
+// Whether no word of a file says anything of arcs, none begins a macro, and none may define a hole or an odd size. Such a file
+// has no marks, and no command of it need be read.
 fn is_straight(file: &[u8]) -> bool
     requires size { length file.now ≤ MOST_BYTES }
     ensures none { result ≡ true → HasNoMarks file.now }
