@@ -50,7 +50,8 @@ abbrev pub is_number : Fraction → ℕ → Bool
 is_number d n = d.whole == n * 10 ^ d.places && (not d.negative || n == 0)
 
 -- What stands in a body word, form by form: so many parts before the lengths (the code and the exposure, at an outline the
--- number of its edges, at a polygon that of its corners), then sizes (a diameter, a width, a height), then points, then the rotation, which a circle may lack.
+-- number of its edges, at a polygon that of its corners), then sizes (a diameter, a width, a height), then points (of a polygon the
+-- point stands before its diameter), then the rotation, which a circle may lack.
 -- `1,e,d,x,y`, `1,e,d,x,y,r`, `4,e,n,` with n + 1 points and `r`, `20,e,w,x,y,x,y,r`, `21,e,w,h,x,y,r`, `5,e,n,x,y,d,r`.
 abbrev pub row : Form → Row
 row Circle = record { head = 2; sizes = 1; points = 1; needs_rotation = false }

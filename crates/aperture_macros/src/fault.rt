@@ -10,14 +10,15 @@ pub enum MacroFault {
     /// The exposure is not equal to 1.
     #[error("an exposure that is not on")]
     ExposureOff,
-    /// The rotation is not equal to 0, 90, 180 or 270 degrees.
+    /// The rotation is not equal to 0, 90, 180 or 270 degrees; in real copper, only of a vector line along no axis and of a
+    /// polygon off the origin, which quarter turns alone may turn.
     #[error("a turn that is no quarter turn")]
     Turn,
-    /// A term is no whole number of u, or a width, a height or a diameter no even one.
+    /// A term is no whole number of u, of a rotation of 10^-7 degrees, or a width, a height or a diameter is no even one.
     #[error("a length off the grid")]
     OffGrid,
-    /// A term, a length or a corner is over 1 m from 0, a size is negative, or a diameter or the width of a slanted line is over
-    /// 50 mm.
+    /// A term, a length or a corner is over 1 m from 0, of a rotation over 1,000 degrees, a size is negative, or a diameter or the
+    /// width of a slanted line is over 50 mm.
     #[error("a length out of range")]
     OutOfRange,
     /// A vector line is along no axis, where those alone are taken that are.

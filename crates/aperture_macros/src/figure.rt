@@ -121,7 +121,7 @@ impl<'a> Primitive<'a> {
         read_turn(part(self.form.row().count(), self.lengths), parameters)
     }
 
-    // Whether other turns than quarter turns would slant its stroke.
+    // Whether other turns than quarter turns would slant its stroke, or move its polygon off the grid.
     #[tactic(auto, unfolding(crate::specs::Flashes::needs_quarters))]
     fn needs_quarters(&self, parameters: &[Decimal], unit: Unit) -> bool
         ensures { result ≡ flashes.needs_quarters self.now.form self.now.lengths.now parameters.now unit }
@@ -243,7 +243,7 @@ fn turned_round(
     }
 }
 
-// Whether another turn than quarter turns would slant a stroke.
+// Whether another turn than quarter turns would slant it, or move it off the grid: a stroke, or a polygon off the origin.
 fn is_slanted(sketch: Result<Option<Sketch>, MacroFault>) -> bool
     ensures { result ≡ flashes.is_slanted sketch }
 {

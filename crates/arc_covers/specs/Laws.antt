@@ -47,7 +47,7 @@ pub record AreBoundsOf (lower upper : PlainBoard) (holds : ℕ → Point → Typ
   pub lower_netlist : HasItsNetlist lower real
   pub upper_netlist : HasItsNetlist upper real
 
--- A board of figures, arc draws, slanted lines, regions with arcs, turned and fine figures lies between two whose pieces stand for its own, whatever copper it has of those that its pieces may have
+-- A board of figures, arc draws, slanted lines, regions with arcs, turned figures and discs, regular polygons and fine figures lies between two whose pieces stand for its own, whatever copper it has of those that its pieces may have
 abbrev pub BoundsLieBetween : (ℕ → Point → Type 0) → Type 0
 BoundsLieBetween holds = (lower upper : PlainBoard) (real : Layout) → AreBoundsOf lower upper holds real → LiesBetween lower holds real upper
 

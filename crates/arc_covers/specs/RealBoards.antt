@@ -1,4 +1,4 @@
--- Boards of figures, arc draws, slanted lines, regions with arcs, turned figures, regular polygons and fine figures, and the copper that these may have.
+-- Boards of figures, arc draws, slanted lines, regions with arcs, turned figures and discs, regular polygons and fine figures, and the copper that these may have.
 use Rattle.std.specs.Prelude.{ℕ, ◌≡◌, ◌↔◌, List, Some, map, slice_get}
 use Rattle.planar.specs.Plane.{Point}
 use Rattle.board_shapes.specs.Figures.{InFigure, figure_of}

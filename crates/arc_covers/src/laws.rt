@@ -22,8 +22,8 @@ pub fn taken_are_bounds()
     taken_lies();
 }
 
-/// A board of figures, arc draws, slanted lines, regions with arcs, turned and fine figures lies between two whose pieces stand for
-/// its own, whatever copper it has of those that its pieces may have.
+/// A board of figures, arc draws, slanted lines, regions with arcs, turned figures and discs, regular polygons and fine figures lies
+/// between two whose pieces stand for its own, whatever copper it has of those that its pieces may have.
 pub fn bounds_lie_between<R: Copper>()
     ensures { BoundsLieBetween R.holds }
 {}

@@ -1,7 +1,7 @@
 //! Real boards between bounds.
 //!
-//! Whether two boards of figures lie below and above one with arc draws, slanted lines, regions with arcs and turned
-//! figures: `check_between`, by the counts of `read_counts`.
+//! Whether two boards of figures lie below and above one with arc draws, slanted lines, regions with arcs, turned figures
+//! and discs, regular polygons and odd sizes: `check_between`, by the counts of `read_counts`.
 //!
 //! - `side`: the boards below and above a real one, and what a chain has to be there.
 //! - `rows`: whether pieces are a figure, a contour, or the capsules of a chain.

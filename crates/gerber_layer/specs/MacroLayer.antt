@@ -14,7 +14,7 @@ use Rattle.gerber_layer.specs.CommandEffects.{Place}
 abbrev pub with_macros : Dialect FlattenKind
 with_macros = record { command = command_with_macros; table = effect_with_macros }
 
--- The dialect of real copper: each arc draw is straight, and there may be macros, whose lines may be slanted and whose turns are by degrees.
+-- The dialect of real copper: each arc draw is straight, apertures may have holes and odd sizes, and there may be macros, whose lines may be slanted and whose turns are by degrees.
 abbrev pub loose : Dialect FlattenKind
 loose = record { command = loose_command; table = effect_loosely }
 

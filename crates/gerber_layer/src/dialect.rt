@@ -109,8 +109,8 @@ impl Dialect for WithMacros {
     }
 }
 
-/// Real copper: each arc draw is straight, and there may be aperture macros, whose lines may be slanted and whose turns are
-/// by degrees.
+/// Real copper: each arc draw is straight, apertures may have holes and odd sizes, and there may be aperture macros, whose lines
+/// may be slanted and whose turns are by degrees.
 pub struct Loose;
 
 impl Dialect for Loose {
