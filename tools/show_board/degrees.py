@@ -55,6 +55,11 @@ def meet(u, v):
     return u[0] * v[0] - u[1] * v[1], u[0] * v[1] + u[1] * v[0], u[0] * v[0] + u[1] * v[1]
 
 
+def headings(first, last):
+    """The three places of a cone: both turns, and where the tangents at them meet."""
+    return meet(first, first), meet(first, last), meet(last, last)
+
+
 def lean(b, c, heading):
     """How far a place (p, q), turned so about the origin, is on the left of the line from b to c, times n and the line's length: w + u p + v q."""
     (x, y, n), ahead, aside = heading, c[0] - b[0], c[1] - b[1]
@@ -69,10 +74,10 @@ def goes_once(corners):
 
 
 def lies_round(figure, first, last, found):
-    """All corners of the figure are on one side of each edge, at both turns and where the tangents at them meet."""
-    headings, round_it = (meet(first, first), meet(first, last), meet(last, last)), edges(found)
+    """All corners of the figure are on one side of each edge, at the three places of the cone."""
+    places, round_it = headings(first, last), edges(found)
     ways = round_it, [(c, b) for b, c in round_it]
-    lies = lambda way: all(w + u * p + v * q >= 0 for b, c in way for w, u, v in (lean(b, c, d) for d in headings) for p, q in figure)
+    lies = lambda way: all(w + u * p + v * q >= 0 for b, c in way for w, u, v in (lean(b, c, d) for d in places) for p, q in figure)
     return goes_once(found) and any(map(lies, ways))
 
 
@@ -83,10 +88,9 @@ def lies_within(figure, first, last, found):
 
 
 def stays_near(centre, first, last, spot, far):
-    """The centre comes at most so far from the spot, at both turns and where the tangents at them meet."""
+    """The centre comes at most so far from the spot, at the three places of the cone."""
     still = far * far - dot(ORIGIN, centre, centre) - dot(ORIGIN, spot, spot)
-    headings = meet(first, first), meet(first, last), meet(last, last)
-    return all(still * n + 2 * dot(ORIGIN, centre, spot) * x + 2 * cross(ORIGIN, centre, spot) * y >= 0 for x, y, n in headings)
+    return all(still * n + 2 * dot(ORIGIN, centre, spot) * x + 2 * cross(ORIGIN, centre, spot) * y >= 0 for x, y, n in headings(first, last))
 
 
 # ---- the discs
@@ -121,6 +125,13 @@ def near(corners, way, by):
     return [(round((p * x - q * y) / n), round((p * y + q * x) / n)) for p, q in mitres(corners, -by)]
 
 
+def first_of(near_by, is_within, is_round):
+    """The first contour within and the first round a figure, of those so much further out: as pieces; None where there is none round it."""
+    inner = next((found for found in (list(near_by(-by)) for by in FURTHER) if area(found) > 0 and is_within(found)), None)
+    outer = next((found for found in (list(near_by(by)) for by in FURTHER) if is_round(found)), None)
+    return ([("area", inner)] if inner else [], [("area", outer)]) if outer else None
+
+
 @lru_cache(4096)
 def turned_bounds(corners, angle):
     """The pieces within and round a convex figure that is turned about the origin by less than a right angle; None where it is not convex, or
@@ -128,7 +139,4 @@ def turned_bounds(corners, angle):
     cone, shape = cone_of(angle), bends(corners)
     if not is_convex(shape):
         return None
-    tried = lambda way_out: (near(shape, way_of(angle), way_out * by) for by in FURTHER)
-    inner = next((found for found in tried(-1) if area(found) > 0 and lies_within(corners, *cone, found)), None)
-    outer = next((found for found in tried(1) if lies_round(corners, *cone, found)), None)
-    return ([("area", inner)] if inner else [], [("area", outer)]) if outer else None
+    return first_of(lambda by: near(shape, way_of(angle), by), lambda found: lies_within(corners, *cone, found), lambda found: lies_round(corners, *cone, found))

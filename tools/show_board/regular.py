@@ -3,10 +3,10 @@
 How the corners were found does not matter: they are tested, at each turn of the cones of the polygon's directions.
 """
 from fractions import Fraction as Q
-from functools import lru_cache
+from functools import lru_cache, partial
 
 from .cones import DEGREE, RADIUS, RIGHT_ANGLE, cone_of, way_of
-from .degrees import FURTHER, area, goes_once, lean, meet
+from .degrees import first_of, goes_once, headings, lean, meet
 from .spots import edges
 
 MOST_DIAMETER = 500_000_000         # u
@@ -35,11 +35,6 @@ def direction(n, angle, steps, spot):
     for _ in range(quarters % 4):
         spot = -spot[1], spot[0]
     return spot, rest
-
-
-def headings(first, last):
-    """The three places of a cone."""
-    return meet(first, first), meet(first, last), meet(last, last)
 
 
 # ---- the check
@@ -81,7 +76,4 @@ def regular_bounds(n, diameter, angle, centre=(0, 0)):
 @lru_cache(4096)
 def bounds_about_0(n, diameter, angle):
     """So about the origin."""
-    tried = lambda way_out: (list(near(n, diameter, angle, way_out * by)) for by in FURTHER)
-    inner = next((found for found in tried(-1) if area(found) > 0 and lies_within(n, diameter, angle, found)), None)
-    outer = next((found for found in tried(1) if lies_round(n, diameter, angle, found)), None)
-    return ([("area", inner)] if inner else [], [("area", outer)]) if outer else None
+    return first_of(*(partial(it, n, diameter, angle) for it in (near, lies_within, lies_round)))

@@ -4,6 +4,7 @@ The formulas share no corner, chain or chord with what they test: a place is tur
 What an interval does not decide is None.
 """
 import math
+import re
 from fractions import Fraction as Q
 
 from show_board.exact import cos_sin, exact, minus, plus, times, turned
@@ -255,33 +256,47 @@ def gerber_of(contour):
 
 
 def pieces_of(side):
-    """The written words of one side read back: plain, since they are all made here."""
-    pieces, radii, at, contour, pen = [], {}, None, None, None
-    for line in side.lines:
+    """The pieces of one side, written by the project or passed on, with the copies of its blocks."""
+    pieces, pens, pen, at, contour, first = [], {}, None, None, None, None
+    for line in [*side.lines, "%SR*%"]:
         word = line.strip("%*\n")
-        if word.startswith("ADD") and "C," in word:
-            number, d = word[3:].split("C,")
-            radii[number] = round(Q(d) * 10 ** 7) // 2
-        elif word == "G36":
-            contour = []
-        elif word == "G37":
-            if contour:
-                pieces.append(("area", contour))
-            contour = None
+        if word.startswith("SR"):
+            if first:
+                n, columns, rows, x, y = first
+                pieces[n:] = [shifted(it, i * x, j * y) for i in range(columns) for j in range(rows) for it in pieces[n:]]
+            found = re.fullmatch(r"SRX(\d+)Y(\d+)I(.+)J(.+)", word)
+            first = found and (len(pieces), int(found[1]), int(found[2]), round(Q(found[3]) * 10 ** 7), round(Q(found[4]) * 10 ** 7))
+        elif word.startswith("ADD"):
+            number, kind, sizes = re.fullmatch(r"ADD(\d+)([CRO]),(.*)", word).groups()
+            pens[number] = kind, [round(Q(v) * 10 ** 7) // 2 for v in sizes.split("X")]
+        elif word in ("G36", "G37"):
+            pieces += [("area", contour)] if contour else []
+            contour = [] if word == "G36" else None
         elif word.startswith("D"):
-            pen = radii[word[1:]]
+            pen = pens[word[1:]]
         elif word.startswith("X"):
-            x, rest = word[1:].split("Y")
-            y, code = rest.split("D0")
-            to = (int(x), int(y))
+            x, y, code = map(int, re.fullmatch(r"X(-?\d+)Y(-?\d+)D0(\d)", word).groups())
             if contour is not None:
-                if code == "2" and contour:
-                    pieces.append(("area", contour))
-                    contour = []
-                contour.append(to)
-            elif code == "1":
-                pieces.append(("capsule", at, to, pen))
-            elif code == "3":
-                pieces.append(("capsule", to, to, pen))
-            at = to
+                pieces += [("area", contour)] if code == 2 and contour else []
+                contour = [(x, y)] if code == 2 else contour + [(x, y)]
+            elif code != 2:
+                pieces.append(written(pen, at if code == 1 else (x, y), (x, y)))
+            at = x, y
     return pieces
+
+
+def written(pen, a, b):
+    kind, sizes = pen
+    if kind == "C":
+        return "capsule", a, b, sizes[0]
+    x, y = sizes
+    if kind == "R":
+        return "area", [(b[0] - x, b[1] - y), (b[0] + x, b[1] - y), (b[0] + x, b[1] + y), (b[0] - x, b[1] + y)]
+    d = (x - y, 0) if x > y else (0, y - x)
+    return "capsule", (b[0] - d[0], b[1] - d[1]), (b[0] + d[0], b[1] + d[1]), min(x, y)
+
+
+def shifted(piece, x, y):
+    if piece[0] == "area":
+        return "area", [(p + x, q + y) for p, q in piece[1]]
+    return piece[0], *((p[0] + x, p[1] + y) for p in piece[1:3]), piece[3]

@@ -2,13 +2,12 @@
 import math
 import os
 import random
-import re
 import unittest
 from fractions import Fraction as Q
 
 import made
 from made import built, manifest, netlist, record
-from real_shapes import FINE, circle_ends, fine, has, in_sector
+from real_shapes import FINE, circle_ends, fine, has, in_sector, pieces_of
 from show_board.arcs import arc_chain
 from show_board.clear import Object, cut
 from show_board.rounds import in_it, ring, round_it
@@ -489,56 +488,6 @@ class Board:
         return tuple(round(v * FINE) + rng.randint(-off, off) for v in at)
 
 
-def read(side):
-    """The pieces of one side, written by the project or passed on, with the copies of its blocks."""
-    pieces, pens, pen, at, contour, first = [], {}, None, None, None, None
-    for line in side.lines:
-        word = line.strip("%*\n")
-        if word.startswith("SR"):
-            if first:
-                n, columns, rows, x, y = first
-                pieces[n:] = [shifted(it, i * x, j * y) for i in range(columns) for j in range(rows) for it in pieces[n:]]
-            found = re.fullmatch(r"SRX(\d+)Y(\d+)I(.+)J(.+)", word)
-            first = found and (len(pieces), int(found[1]), int(found[2]), round(Q(found[3]) * 10 ** 7), round(Q(found[4]) * 10 ** 7))
-        elif word.startswith("ADD"):
-            number, kind, sizes = re.fullmatch(r"ADD(\d+)([CRO]),(.*)", word).groups()
-            pens[number] = kind, [round(Q(v) * 10 ** 7) // 2 for v in sizes.split("X")]
-        elif word in ("G36", "G37"):
-            pieces += [("area", contour)] if contour else []
-            contour = [] if word == "G36" else None
-        elif word.startswith("D"):
-            pen = pens[word[1:]]
-        elif word.startswith("X"):
-            x, y, code = map(int, re.fullmatch(r"X(-?\d+)Y(-?\d+)D0(\d)", word).groups())
-            if contour is not None:
-                pieces += [("area", contour)] if code == 2 and contour else []
-                contour = [(x, y)] if code == 2 else contour + [(x, y)]
-            elif code != 2:
-                pieces.append(written(pen, at if code == 1 else (x, y), (x, y)))
-            at = x, y
-    if first:
-        n, columns, rows, x, y = first
-        pieces[n:] = [shifted(it, i * x, j * y) for i in range(columns) for j in range(rows) for it in pieces[n:]]
-    return pieces
-
-
-def written(pen, a, b):
-    kind, sizes = pen
-    if kind == "C":
-        return "capsule", a, b, sizes[0]
-    x, y = sizes
-    if kind == "R":
-        return "area", [(b[0] - x, b[1] - y), (b[0] + x, b[1] - y), (b[0] + x, b[1] + y), (b[0] - x, b[1] + y)]
-    d = (x - y, 0) if x > y else (0, y - x)
-    return "capsule", (b[0] - d[0], b[1] - d[1]), (b[0] + d[0], b[1] + d[1]), min(x, y)
-
-
-def shifted(piece, x, y):
-    if piece[0] == "area":
-        return "area", [(p + x, q + y) for p, q in piece[1]]
-    return piece[0], *((p[0] + x, p[1] + y) for p in piece[1:3]), piece[3]
-
-
 class Objects(unittest.TestCase):
     """Circles, rectangles, obrounds, macros with exposure off and thermals, draws, arcs, regions and blocks, dark and clear."""
 
@@ -547,7 +496,7 @@ class Objects(unittest.TestCase):
         for _ in range(15 * MANY):
             board = Board(rng, rng.choice((40, 3000, 10 ** 6, 10 ** 6)))
             copper = of_text(board.text)
-            low, high = map(read, copper.sides)
+            low, high = map(pieces_of, copper.sides)
             for _ in range(60):
                 p = board.place(low, high)
                 truth = layered(board.objects)(p)
@@ -562,7 +511,7 @@ class Objects(unittest.TestCase):
         for _ in range(4 * MANY):
             board = Board(rng, 10 ** 6)
             copper = of_text(board.text)
-            low, high = map(read, copper.sides)
+            low, high = map(pieces_of, copper.sides)
             for _ in range(30):
                 p, truth = board.place(low, high), layered(board.objects)
                 around = {truth((p[0] + dx, p[1] + dy)) for dx in range(-off, off + 1, off // 4) for dy in range(-off, off + 1, off // 4)}
