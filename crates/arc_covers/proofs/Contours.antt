@@ -1,11 +1,15 @@
--- Single contours, discs and figures.
-use Rattle.std.proofs.Common.{◌≡◌, ◌↔◌, ◌⊎◌, inl, inr, ℕ, ◌≤◌, ◌<◌, length, List, [], ◌∷◌, Bool, false, IsTrue, get_or, refl, sym, ap, subst, arith}
-use Rattle.planar.specs.declared.Spot.{Spot}
+-- What one figure alone bounds.
+use Rattle.std.proofs.Common.{◌≡◌, ◌↔◌, ◌⊎◌, inl, inr, ◌≤◌, ◌<◌, length, List, [], ◌∷◌, Bool, false, IsTrue, get_or, refl, sym, ap, subst, arith}
 use Rattle.board_shapes.specs.Figures.{Figure, figure_of}
 use Rattle.board_shapes.specs.Pieces.{plain_pieces}
 use Rattle.board_shapes.specs.declared.placed.Placed.{Placed}
 use Rattle.board_shapes.specs.declared.shape.Shape.{Shape}
-use Rattle.arc_covers.specs.Bounds.{ContourFor, DiscFor, FigureFor, OneContour, OneDisc, OneFigure, OrNone, figures_of}
+use Rattle.arcs.specs.declared.Arc.{Arc}
+use Rattle.arc_regions.specs.declared.Region.{Region as Contour}
+use Rattle.real_shapes.specs.declared.RealShape.{RealShape}
+use Rattle.real_shapes.specs.declared.RealShape.TheVariants.{ArcDraw, Fine, Plain, Polygon, Region, Slanted, Turned, TurnedDisc}
+use Rattle.arc_covers.specs.Bounds.{OneFigure, OrNone, figures_of}
+use Rattle.arc_covers.specs.Taken.{AloneTaken, StandTaken}
 use Rattle.arc_covers.specs.declared.side.Side.{Side}
 use Rattle.arc_covers.specs.declared.side.Side.TheVariants.{Above, Below}
 
@@ -34,9 +38,6 @@ or_more Below P f g rest figures b never off is = (λ yes. absurd cc, back)
     back (inl none) = absurd cc
     back (inr h) = absurd (never h)
 
-pub of_one : (side : Side) (P : List Spot → Type 0) (f : Figure) (figures : List Figure) (b : Bool) → figures ≡ f ∷ [] → IsTrue b ↔ OneContour P (f ∷ []) → IsTrue b ↔ ContourFor side P figures
-of_one side P f figures b is told = or_one side (OneContour P) f figures b is told
-
 -- ---- one piece, or more
 
 pub one_piece : (pieces : List (Placed Shape)) (p : Placed Shape) → 1 ≤ length pieces → length pieces < 2 → p ≡ get_or pieces 0 p → figures_of (plain_pieces pieces) ≡ figure_of p.shape ∷ []
@@ -44,17 +45,34 @@ one_piece [] p some few is = absurd (omega arith)
 one_piece (q ∷ []) p some few is = let same : q ≡ p = sym is in ap (λ (x : Placed Shape). figure_of x.shape ∷ []) same
 one_piece (q ∷ r ∷ rest) p some few is = absurd (omega arith)
 
-pub more_pieces : (side : Side) (P : List Spot → Type 0) (pieces : List (Placed Shape)) → 2 ≤ length pieces → IsTrue false ↔ ContourFor side P (figures_of (plain_pieces pieces))
-more_pieces side P [] some = absurd (omega arith)
-more_pieces side P (p ∷ []) some = absurd (omega arith)
-more_pieces side P (p ∷ q ∷ rest) some = or_more side (OneContour P) (figure_of p.shape) (figure_of q.shape) (figures_of (plain_pieces rest)) (figures_of (plain_pieces (p ∷ q ∷ rest))) false (λ (points, same, taken). absurd cc) refl refl
+-- what one figure alone bounds has one
+alone_is : (side : Side) (real : RealShape) (figures : List Figure) → AloneTaken side real figures → length figures ≡ 1
+alone_is side (Slanted line) figures (points, same, taken) = ap (λ (fs : List Figure). length fs) same
+alone_is side (Turned t) figures (points, same, taken) = ap (λ (fs : List Figure). length fs) same
+alone_is side (TurnedDisc disc) figures (s, r, same, taken) = ap (λ (fs : List Figure). length fs) same
+alone_is side (Polygon g) figures (points, same, taken) = ap (λ (fs : List Figure). length fs) same
+alone_is side (Fine fine) figures (f, same, taken) = ap (λ (fs : List Figure). length fs) same
+alone_is side (Plain shape) figures h = absurd h
+alone_is side (ArcDraw arc) figures h = absurd h
+alone_is side (Region area) figures h = absurd h
 
-pub more_discs : (side : Side) (P : Spot → ℕ → Type 0) (pieces : List (Placed Shape)) → 2 ≤ length pieces → IsTrue false ↔ DiscFor side P (figures_of (plain_pieces pieces))
-more_discs side P [] some = absurd (omega arith)
-more_discs side P (p ∷ []) some = absurd (omega arith)
-more_discs side P (p ∷ q ∷ rest) some = or_more side (OneDisc P) (figure_of p.shape) (figure_of q.shape) (figures_of (plain_pieces rest)) (figures_of (plain_pieces (p ∷ q ∷ rest))) false (λ (s, r, same, taken). absurd cc) refl refl
+pub no_pieces : (side : Side) (real : RealShape) (pieces : List (Placed Shape)) (b : Bool) → length pieces < 1 → IsTrue b ↔ (side ≡ Below) → IsTrue b ↔ OrNone side (AloneTaken side real) (figures_of (plain_pieces pieces))
+no_pieces side real [] b none told = or_none side (AloneTaken side real) [] b (λ h. let one = alone_is side real [] h in absurd (omega (arith, one))) refl told
+no_pieces side real (p ∷ rest) b none told = absurd (omega arith)
 
-pub more_figures : (side : Side) (P : Figure → Type 0) (pieces : List (Placed Shape)) → 2 ≤ length pieces → IsTrue false ↔ FigureFor side P (figures_of (plain_pieces pieces))
-more_figures side P [] some = absurd (omega arith)
-more_figures side P (p ∷ []) some = absurd (omega arith)
-more_figures side P (p ∷ q ∷ rest) some = or_more side (OneFigure P) (figure_of p.shape) (figure_of q.shape) (figures_of (plain_pieces rest)) (figures_of (plain_pieces (p ∷ q ∷ rest))) false (λ (f, same, taken). absurd cc) refl refl
+pub more_pieces : (side : Side) (real : RealShape) (pieces : List (Placed Shape)) → 2 ≤ length pieces → IsTrue false ↔ OrNone side (AloneTaken side real) (figures_of (plain_pieces pieces))
+more_pieces side real [] some = absurd (omega arith)
+more_pieces side real (p ∷ []) some = absurd (omega arith)
+more_pieces side real (p ∷ q ∷ rest) some = or_more side (AloneTaken side real) (figure_of p.shape) (figure_of q.shape) (figures_of (plain_pieces rest)) (figures_of (plain_pieces (p ∷ q ∷ rest))) false (λ h. let one = alone_is side real (figures_of (plain_pieces (p ∷ q ∷ rest))) h in absurd (omega (arith, one))) refl refl
+
+-- and stands so
+pub alone_stands : (side : Side) (real : RealShape) (figures : List Figure) (b : Bool) → ((x : Shape) → real ≡ Plain x → ⊥) → ((x : Arc) → real ≡ ArcDraw x → ⊥) → ((x : Contour) → real ≡ Region x → ⊥)
+    → IsTrue b ↔ OrNone side (AloneTaken side real) figures → IsTrue b ↔ StandTaken side real figures
+alone_stands side (Slanted line) figures b plain bent curved told = told
+alone_stands side (Turned t) figures b plain bent curved told = told
+alone_stands side (TurnedDisc disc) figures b plain bent curved told = told
+alone_stands side (Polygon g) figures b plain bent curved told = told
+alone_stands side (Fine fine) figures b plain bent curved told = told
+alone_stands side (Plain shape) figures b plain bent curved told = absurd (plain shape refl)
+alone_stands side (ArcDraw arc) figures b plain bent curved told = absurd (bent arc refl)
+alone_stands side (Region area) figures b plain bent curved told = absurd (curved area refl)

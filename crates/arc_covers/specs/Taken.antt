@@ -20,7 +20,7 @@ use Rattle.fine_figures.specs.Taken as fine_figures
 use Rattle.fine_figures.specs.declared.FineFigure.{FineFigure}
 use Rattle.arc_covers.specs.Eighths.{LiesBelow}
 use Rattle.arc_covers.specs.Regions.{RegionAbove}
-use Rattle.arc_covers.specs.Bounds.{AddUp, IsOn, ContourFor, DiscFor, FigureFor, capsules_of, figures_of, share_of}
+use Rattle.arc_covers.specs.Bounds.{AddUp, IsOn, ContourFor, DiscFor, FigureFor, OneContour, OneDisc, OneFigure, capsules_of, figures_of, share_of}
 use Rattle.arc_covers.specs.declared.side.Side.{Side}
 use Rattle.arc_covers.specs.declared.side.Side.TheVariants.{Below, Above}
 
@@ -70,6 +70,15 @@ StandTaken side (Turned t) figures = ContourFor side (IsTurnedTaken side t.conto
 StandTaken side (TurnedDisc disc) figures = DiscFor side (IsDiscTaken side disc) figures
 StandTaken side (Polygon g) figures = ContourFor side (IsPolygonTaken side g) figures
 StandTaken side (Fine fine) figures = FigureFor side (IsFineTaken side fine) figures
+
+-- For those that one figure alone bounds, that figure
+abbrev pub AloneTaken : Side → RealShape → List Figure → Type 0
+AloneTaken side (Slanted line) figures = OneContour (IsLineTaken side line) figures
+AloneTaken side (Turned t) figures = OneContour (IsTurnedTaken side t.contour.items t.about t.angle) figures
+AloneTaken side (TurnedDisc disc) figures = OneDisc (IsDiscTaken side disc) figures
+AloneTaken side (Polygon g) figures = OneContour (IsPolygonTaken side g) figures
+AloneTaken side (Fine fine) figures = OneFigure (IsFineTaken side fine) figures
+AloneTaken side other figures = ⊥
 
 -- the pieces are taken for the real piece, all on its layers
 pub record PiecesAreTaken (side : Side) (real : Placed RealShape) (pieces : List PlainPiece) : Type 0 where

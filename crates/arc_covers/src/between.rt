@@ -9,9 +9,7 @@ ghost use Rattle.std.specs.Prelude.{IfErr, IfOk, IsTrue, drop, length, sum, take
 
 use crate::laws::taken_are_bounds;
 use crate::regions::is_region;
-use crate::rows::{
-    are_chain, are_contour, are_disc, are_fine, are_on, are_polygon, are_turned, is_itself,
-};
+use crate::rows::{are_chain, are_on, is_itself, stand_alone};
 use crate::side::Side;
 use board_shapes::Piece;
 use lengths::rows::NoMemory;
@@ -83,12 +81,8 @@ fn stand(alloc: Global, side: Side, real: &RealPiece, pieces: &[Piece]) -> Resul
     match &real.shape {
         RealShape::Plain(shape) => Ok(is_itself(shape, pieces)),
         RealShape::ArcDraw(arc) => are_chain(alloc, side, arc, pieces),
-        RealShape::Slanted(line) => Ok(are_contour(side, line, pieces)),
         RealShape::Region(region) => is_region(alloc, side, region, pieces),
-        RealShape::Turned(figure) => Ok(are_turned(side, figure, pieces)),
-        RealShape::TurnedDisc(disc) => Ok(are_disc(side, disc, pieces)),
-        RealShape::Polygon(polygon) => Ok(are_polygon(side, polygon, pieces)),
-        RealShape::Fine(fine) => Ok(are_fine(side, fine, pieces)),
+        alone => Ok(stand_alone(side, alone, pieces)),
     }
 }
 

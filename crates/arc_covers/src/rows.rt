@@ -1,8 +1,8 @@
 //! Rows of pieces: chains of capsules, and single figures.
-ghost use Rattle.arc_covers.specs.Bounds.{IsOn, OneContour, OneDisc, capsules_from, capsules_of, figures_of};
-ghost use Rattle.arc_covers.specs.Taken.{IsDiscTaken, IsLineTaken, IsPolygonTaken, IsTurnedTaken, StandTaken};
+ghost use Rattle.arc_covers.specs.Bounds.{IsOn, OneDisc, OrNone, capsules_from, capsules_of, figures_of};
+ghost use Rattle.arc_covers.specs.Taken.{AloneTaken, IsDiscTaken, StandTaken};
 ghost use Rattle.arc_covers.specs.declared.side.Side.TheVariants.{Below};
-ghost use Rattle.real_shapes.specs.declared.RealShape.TheVariants.{ArcDraw, Fine, Polygon, Slanted, Turned, TurnedDisc as AnyDisc};
+ghost use Rattle.real_shapes.specs.declared.RealShape.TheVariants.{ArcDraw};
 ghost use Rattle.board_shapes.specs.Figures.{Figure, area_figure, capsule_figure, figure_of, round};
 ghost use Rattle.board_shapes.specs.Pieces.{plain_piece, plain_pieces};
 ghost use Rattle.planar.specs.declared.Spot.{Spot};
@@ -15,9 +15,9 @@ use arcs::{Arc, Spot};
 use area_contact::Area;
 use board_shapes::{Piece, Shape};
 use contact::Capsule;
-use fine_figures::FineFigure;
 use lengths::rows::NoMemory;
-use slants::{RegularPolygon, Slant, TurnedDisc, TurnedFigure};
+use real_shapes::RealShape;
+use slants::TurnedDisc;
 use std::alloc::Global;
 
 /// Whether the piece is on the layers from `top` to `bottom` and on no others.
@@ -157,48 +157,6 @@ fn is_lower(side: Side) -> bool
     }
 }
 
-/// Whether the shape is a contour that is taken for the slanted line.
-fn is_contour(side: Side, line: &Slant, shape: &Shape) -> bool
-    ensures { IsTrue result ↔ OneContour (IsLineTaken side line.now) (figure_of shape.now ∷ []) }
-{
-    match shape {
-        Shape::Filled(area) => is_line_taken(side, line, &area.points),
-        Shape::Round(_) => false,
-    }
-}
-
-/// Whether the pieces are one contour that is taken for the slanted line; below, none are taken too.
-pub fn are_contour(side: Side, line: &Slant, pieces: &[Piece]) -> bool
-    ensures { IsTrue result ↔ StandTaken side (Slanted line.now) (figures_of (plain_pieces pieces.now)) }
-{
-    match pieces {
-        [] => is_lower(side),
-        [only] => is_contour(side, line, &only.shape),
-        _ => false,
-    }
-}
-
-/// Whether the shape is a contour that is taken for the turned figure.
-fn is_turned(side: Side, figure: &TurnedFigure, shape: &Shape) -> bool
-    ensures { IsTrue result ↔ OneContour (IsTurnedTaken side figure.now.contour.items figure.now.about figure.now.angle) (figure_of shape.now ∷ []) }
-{
-    match shape {
-        Shape::Filled(area) => is_turned_taken(side, figure, &area.points),
-        Shape::Round(_) => false,
-    }
-}
-
-/// Whether the pieces are one contour that is taken for the turned figure; below, none are taken too.
-pub fn are_turned(side: Side, figure: &TurnedFigure, pieces: &[Piece]) -> bool
-    ensures { IsTrue result ↔ StandTaken side (Turned figure.now) (figures_of (plain_pieces pieces.now)) }
-{
-    match pieces {
-        [] => is_lower(side),
-        [only] => is_turned(side, figure, &only.shape),
-        _ => false,
-    }
-}
-
 /// Whether the capsule is a disc that is taken for the turned disc.
 fn is_disc(side: Side, disc: &TurnedDisc, capsule: &Capsule) -> bool
     ensures { IsTrue result ↔ OneDisc (IsDiscTaken side disc.now) (capsule_figure capsule.now ∷ []) }
@@ -206,55 +164,34 @@ fn is_disc(side: Side, disc: &TurnedDisc, capsule: &Capsule) -> bool
     capsule.a == capsule.b && is_disc_taken(side, disc, capsule.a, capsule.r.unsigned_abs())
 }
 
-/// Whether the shape is.
-fn is_round(side: Side, disc: &TurnedDisc, shape: &Shape) -> bool
-    ensures { IsTrue result ↔ OneDisc (IsDiscTaken side disc.now) (figure_of shape.now ∷ []) }
+/// Whether the shape is taken for the real one, which one figure alone bounds: a contour for a slanted line, a turned figure or a
+/// polygon, a disc for a turned disc, either for a fine figure.
+fn is_alone(side: Side, real: &RealShape, shape: &Shape) -> bool
+    ensures { IsTrue result ↔ AloneTaken side real.now (figure_of shape.now ∷ []) }
 {
-    match shape {
-        Shape::Round(capsule) => is_disc(side, disc, capsule),
-        Shape::Filled(_) => false,
-    }
-}
-
-/// Whether the pieces are one disc that is taken for the turned disc; below, none are taken too.
-pub fn are_disc(side: Side, disc: &TurnedDisc, pieces: &[Piece]) -> bool
-    ensures { IsTrue result ↔ StandTaken side (AnyDisc disc.now) (figures_of (plain_pieces pieces.now)) }
-{
-    match pieces {
-        [] => is_lower(side),
-        [only] => is_round(side, disc, &only.shape),
+    match (real, shape) {
+        (RealShape::Slanted(line), Shape::Filled(area)) => is_line_taken(side, line, &area.points),
+        (RealShape::Turned(figure), Shape::Filled(area)) => is_turned_taken(
+            side,
+            figure,
+            &area.points,
+        ),
+        (RealShape::Polygon(polygon), Shape::Filled(area)) => {
+            is_polygon_taken(side, polygon, &area.points)
+        }
+        (RealShape::TurnedDisc(disc), Shape::Round(capsule)) => is_disc(side, disc, capsule),
+        (RealShape::Fine(fine), _) => is_fine_taken(side, fine, shape),
         _ => false,
     }
 }
 
-/// Whether the shape is a contour that is taken for the regular polygon.
-fn is_polygon(side: Side, polygon: &RegularPolygon, shape: &Shape) -> bool
-    ensures { IsTrue result ↔ OneContour (IsPolygonTaken side polygon.now) (figure_of shape.now ∷ []) }
-{
-    match shape {
-        Shape::Filled(area) => is_polygon_taken(side, polygon, &area.points),
-        Shape::Round(_) => false,
-    }
-}
-
-/// Whether the pieces are one contour that is taken for the regular polygon; below, none are taken too.
-pub fn are_polygon(side: Side, polygon: &RegularPolygon, pieces: &[Piece]) -> bool
-    ensures { IsTrue result ↔ StandTaken side (Polygon polygon.now) (figures_of (plain_pieces pieces.now)) }
+/// Whether the pieces are one that is taken for the real shape, which one figure alone bounds; below, none are taken too.
+pub fn stand_alone(side: Side, real: &RealShape, pieces: &[Piece]) -> bool
+    ensures { IsTrue result ↔ OrNone side (AloneTaken side real.now) (figures_of (plain_pieces pieces.now)) }
 {
     match pieces {
         [] => is_lower(side),
-        [only] => is_polygon(side, polygon, &only.shape),
-        _ => false,
-    }
-}
-
-/// Whether the pieces are one figure that is taken for the fine one; below, none are taken too.
-pub fn are_fine(side: Side, fine: &FineFigure, pieces: &[Piece]) -> bool
-    ensures { IsTrue result ↔ StandTaken side (Fine fine.now) (figures_of (plain_pieces pieces.now)) }
-{
-    match pieces {
-        [] => is_lower(side),
-        [only] => is_fine_taken(side, fine, &only.shape),
+        [only] => is_alone(side, real, &only.shape),
         _ => false,
     }
 }
