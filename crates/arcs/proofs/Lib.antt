@@ -11,6 +11,7 @@ mod OneDistance
 mod Places
 pub mod Radii
 mod Read
+mod Reaching
 mod Ring
 mod Roots
 mod Taken

@@ -1,6 +1,7 @@
 use Rattle.std.proofs.Common.{arith, rules}
 use Rattle.std.proofs.lemmas.Int.{ints}
 use Rattle.arcs.proofs.Turns.{half, less, more, whole}
+use Rattle.arcs.proofs.Reaching.{reachable}
 use Rattle.arcs.proofs.chords.in_turn.Goals as goal
 
 pub returns-then-way-gt0 : goal.returns-then-way-gt0
@@ -14,3 +15,9 @@ returns-then-first c = half c.args.arc.now.centre c.args.arc.now.start c.args.ar
 
 pub returns-else-dot-lt0 : goal.returns-else-dot-lt0
 returns-else-dot-lt0 c = whole c.args.arc.now.centre c.args.arc.now.start c.args.arc.now.end c.args.a c.args.b c.is_same.result (omega (arith, ints)) (omega (arith, ints)) c.is_same.ensures
+
+pub cross-way-requires-clause-o_reachable : goal.cross-way-requires-clause-o_reachable
+cross-way-requires-clause-o_reachable c = reachable c.args.arc.now.centre c.requires.arc.centre
+
+pub dot-requires-clause-o_reachable : goal.dot-requires-clause-o_reachable
+dot-requires-clause-o_reachable c = reachable c.args.arc.now.centre c.requires.arc.centre
