@@ -1,11 +1,16 @@
 -- Bytes over the star are plain.
-use Rattle.std.proofs.Common.{◌≡◌, ℕ, zero, suc, ◌+◌, ◌<◌, ◌≤◌, Bool, true, false, not, cond, nat_le, nat_lt, eqb, List, [], ◌∷◌, take, drop, refl, sym, ap, ◌∙◌, subst, arith, rules}
+use Rattle.std.proofs.Common.{◌≡◌, ◌⊎◌, inl, inr, ℕ, zero, suc, ◌+◌, ◌-◌, ◌<◌, ◌≤◌, Bool, true, false, not, cond, nat_le, nat_lt, eqb, List, [], ◌∷◌, length, get_or, take, drop, Some, slice_get, refl, sym, ap, ◌∙◌, subst, add-one, drop-cons, length-drop, arith, rules}
+use lib.ListN.{length-take}
+use lib.Seq.{get_or-drop, take_all}
 use Rattle.std.specs.List.{list_all, prefix_len}
 use Rattle.std.proofs.Math.Seq.{take-add}
 use Rattle.std.proofs.lemmas.Bool.{eqb-true, lt-ltb, leb-false}
 use Rattle.std.proofs.lemmas.Grind.{common_steps}
+use Rattle.std.proofs.lemmas.List.{drop_all}
 use Rattle.std.proofs.lemmas.List.Folds.{list_all-append}
+use Rattle.std.proofs.lemmas.Option.{slice_get-get_or}
 use Rattle.gerber_words.specs.Words.{break_in, is_plain}
+use Rattle.gerber_words.specs.declared.fault.WordFault.TheVariants.{LineBreakInWord, NotEnded, PercentAmiss}
 use Rattle.gerber_words.proofs.OneCut.{both}
 
 apart : (b n : ℕ) → n < b → eqb b n ≡ false
@@ -82,3 +87,43 @@ plain_further n len bytes h before =
 -- and no break stands among them
 pub same_further : (n len : ℕ) (bytes : List ℕ) → list_all (nat_lt 42) (take n (drop len bytes)) ≡ true → break_in (drop len bytes) ≡ break_in bytes → break_in (drop (len + n) bytes) ≡ break_in bytes
 same_further n len bytes h before = ap break_in (drop-further bytes len n) ∙ goes_past n (drop len bytes) h ∙ before
+
+-- the byte i of those behind a start
+pub record Reads (bytes : List ℕ) (n b : ℕ) : Type 0 where
+  pub within : n < length bytes
+  pub here : get_or bytes n 0 ≡ b
+
+pub reads : (bytes : List ℕ) (start i b : ℕ) → start ≤ length bytes → i < length (take (length bytes - start) (drop start bytes)) → get_or (take (length bytes - start) (drop start bytes)) i 0 ≡ b → Reads bytes (start + i) b
+reads bytes start i b low below is =
+    let whole : take (length bytes - start) (drop start bytes) ≡ drop start bytes = take_all (length bytes - start) (drop start bytes) (omega (arith, length-drop start bytes)) in
+    record {
+      within = omega (arith, ap length whole, length-drop start bytes);
+      here = sym (get_or-drop start bytes i 0) ∙ ap (λ (xs : List ℕ). get_or xs i 0) (sym whole) ∙ is;
+    }
+
+pub read_at : (bytes : List ℕ) (n b : ℕ) → Reads bytes n b → slice_get bytes n ≡ Some b
+read_at bytes n b r = slice_get-get_or bytes n 0 r.within ∙ ap Some r.here
+
+break_at : (bytes : List ℕ) (n b : ℕ) → break_in (drop n bytes) ≡ break_in bytes → Reads bytes n b → break_in bytes ≡ break_in (b ∷ drop (n + 1) bytes)
+break_at bytes n b same r =
+    let within = r.within in
+    let read = r.here in
+    sym same ∙ rw (add-one, drop-cons bytes n 0, read) refl
+
+-- which break it is
+pub breaks_at_percent : (bytes : List ℕ) (n : ℕ) → break_in (drop n bytes) ≡ break_in bytes → Reads bytes n 37 → break_in bytes ≡ Some PercentAmiss
+breaks_at_percent bytes n same r = break_at bytes n 37 same r
+
+breaks_at_10 : (bytes : List ℕ) (n : ℕ) → break_in (drop n bytes) ≡ break_in bytes → Reads bytes n 10 → break_in bytes ≡ Some LineBreakInWord
+breaks_at_10 bytes n same r = break_at bytes n 10 same r
+
+breaks_at_13 : (bytes : List ℕ) (n : ℕ) → break_in (drop n bytes) ≡ break_in bytes → Reads bytes n 13 → break_in bytes ≡ Some LineBreakInWord
+breaks_at_13 bytes n same r = break_at bytes n 13 same r
+
+pub breaks_at_line : (bytes : List ℕ) (start i b : ℕ) → break_in (drop (start + i) bytes) ≡ break_in bytes → start ≤ length bytes → i < length (take (length bytes - start) (drop start bytes)) → b ≡ get_or (take (length bytes - start) (drop start bytes)) i 0 → (b ≡ 10) ⊎ (b ≡ 13) → break_in bytes ≡ Some LineBreakInWord
+breaks_at_line bytes start i b same low below is (inl e) = breaks_at_10 bytes (start + i) same (reads bytes start i 10 low below (sym is ∙ e))
+breaks_at_line bytes start i b same low below is (inr e) = breaks_at_13 bytes (start + i) same (reads bytes start i 13 low below (sym is ∙ e))
+
+pub no_star : (bytes : List ℕ) (start i : ℕ) → break_in (drop (start + i) bytes) ≡ break_in bytes → start ≤ length bytes → length (take (length bytes - start) (drop start bytes)) ≤ i → break_in bytes ≡ Some NotEnded
+no_star bytes start i same low past =
+    sym same ∙ ap break_in (drop_all (start + i) bytes (omega (arith, length-take (length bytes - start) (drop start bytes), length-drop start bytes)))
