@@ -187,3 +187,55 @@ word_fits number len word mask small few long spelled masks =
     let same : 2 ^ (8 * length (decimal number)) ≡ 2 ^ (8 * len) = ap (λ (k : ℕ). 2 ^ (8 * k)) long in
     let powers : 2 ^ (8 * len) ≤ 2 ^ 56 = pow-le-pow_right {n = 2} (omega arith) {i = 8 * len} {j = 56} (omega (arith, few)) in
     omega (arith, below, same, powers, spelled, masks)
+
+-- ---- The next number where the last digit is 9
+
+nine_behind : (front : List ℕ) → worth (front ++ 57 ∷ []) ≡ worth front + 57 * 2 ^ (8 * length front)
+nine_behind [] = omega arith
+nine_behind (x ∷ front) = let more = nine_behind front in omega (arith, more, power_more (length front))
+
+nought_behind : (front : List ℕ) → worth (front ++ 48 ∷ []) ≡ worth front + 48 * 2 ^ (8 * length front)
+nought_behind [] = omega arith
+nought_behind (x ∷ front) = let more = nought_behind front in omega (arith, more, power_more (length front))
+
+-- what the digit before the last is worth in a word
+tens_is : (mask len : ℕ) → mask + 1 ≡ 2 ^ (8 * suc (suc len)) → mask / 65536 + 1 ≡ 2 ^ (8 * len)
+tens_is mask len masks =
+    let more = power_more (suc len) in
+    let less = power_more len in
+    let some = pow_pos (8 * len) in
+    omega (arith, masks, more, less, some)
+
+-- The last digit falls from 9 to 0, and the one before it rises.
+pub record Carries (number len word mask : ℕ) : Type 0 where
+  pub enough : 2303 * (mask / 65536 + 1) ≤ word
+  pub spelled : worth (decimal (number + 1)) ≡ word - 2303 * (mask / 65536 + 1)
+  pub long : length (decimal (number + 1)) ≡ len
+
+pub carries : (number len word mask : ℕ) → number + 1 < 2 ^ 64 → number % 10 ≡ 9 → number % 100 < 99 → 2 ≤ len → length (decimal number) ≡ len → worth (decimal number) ≡ word → mask + 1 ≡ 2 ^ (8 * len) → Carries number len word mask
+carries number zero word mask small nine low some long spelled masks = absurd (omega (arith, some))
+carries number (suc zero) word mask small nine low some long spelled masks = absurd (omega (arith, some))
+carries number (suc (suc k)) word mask small nine low some long spelled masks =
+    let m : ℕ = number / 10 in
+    let p : ℕ = 2 ^ (8 * k) in
+    let many : 10 ≤ number = elim (cases_lt number 10) [
+      | inl one ↦ absurd (let e = ap length (decimal_digit number one) in omega (arith, e, long))
+      | inr many ↦ many
+    ] in
+    let here : decimal number ≡ decimal m ++ 57 ∷ [] = decimal_step number many (omega (arith, small)) ∙ ap (λ (d : ℕ). decimal m ++ (48 + d) ∷ []) nine in
+    let up : (number + 1) / 10 ≡ m + 1 = omega (arith, nine) in
+    let none : (number + 1) % 10 ≡ 0 = omega (arith, nine) in
+    let there : decimal (number + 1) ≡ decimal (m + 1) ++ 48 ∷ [] = decimal_step (number + 1) (omega (arith, many)) small ∙ (ap (λ (d : ℕ). decimal ((number + 1) / 10) ++ (48 + d) ∷ []) none ∙ ap (λ (n : ℕ). decimal n ++ 48 ∷ []) up) in
+    let r = rises m (omega (arith, small)) (omega (arith, nine, low)) in
+    let size : length (decimal m) ≡ suc k = (let e = ap length here in let f = length-append (decimal m) (57 ∷ []) in omega (arith, e, f, long)) in
+    let other : length (decimal (m + 1)) ≡ suc k = r.long ∙ size in
+    let more : worth (decimal (m + 1)) ≡ worth (decimal m) + p = r.word k size in
+    let old : worth (decimal number) ≡ worth (decimal m) + 57 * 2 ^ (8 * suc k) = ap worth here ∙ (nine_behind (decimal m) ∙ ap (λ (n : ℕ). worth (decimal m) + 57 * 2 ^ (8 * n)) size) in
+    let new : worth (decimal (number + 1)) ≡ worth (decimal (m + 1)) + 48 * 2 ^ (8 * suc k) = ap worth there ∙ (nought_behind (decimal (m + 1)) ∙ ap (λ (n : ℕ). worth (decimal (m + 1)) + 48 * 2 ^ (8 * n)) other) in
+    let unit : mask / 65536 + 1 ≡ p = tens_is mask k masks in
+    let whole = power_more k in
+    record {
+      enough = omega (arith, old, unit, whole, spelled);
+      spelled = omega (arith, old, new, more, unit, whole, spelled);
+      long = ap length there ∙ (let f = length-append (decimal (m + 1)) (48 ∷ []) in omega (arith, f, other));
+    }

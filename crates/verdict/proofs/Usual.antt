@@ -1,14 +1,15 @@
 -- Lines of the usual form: what their parts read makes what the line reads.
-use Rattle.std.proofs.Common.{◌≡◌, ℕ, ◌^◌, ◌<◌, ℤ, pos, cond, ltb, true, List, [], ◌∷◌, ◌++◌, Option, Some, None, refl, sym, ap, subst, ◌∙◌}
+use Rattle.std.proofs.Common.{◌≡◌, ℕ, ◌+◌, ◌^◌, ◌<◌, ℤ, pos, cond, ltb, true, false, List, [], ◌∷◌, ◌++◌, Option, Some, None, refl, sym, ap, subst, ◌∙◌, arith}
 use Rattle.std.specs.Prelude.{codes, decimal}
 use Rattle.std.proofs.lemmas.Bool.{lt-ltb}
-use Rattle.std.proofs.lemmas.Fmt.{decimal_nonempty, digits_decimal}
+use Rattle.std.proofs.lemmas.Fmt.{decimal_digit, decimal_nonempty, digits_decimal}
+use Rattle.texts.specs.Digits.{is_decimal_digit}
 use Rattle.verdict.specs.declared.verdict.PointLine.{PointLine}
 use Rattle.verdict.specs.declared.verdict.SourceLine.{SourceLine}
 use Rattle.verdict.specs.declared.verdict.SpotLine.{SpotLine}
-use Rattle.verdict.specs.ReportReading.{◌>>=◌, behind, wide_at, number_at, word_at, layer_at, signed_behind, signed_at, signed_word_at, net_number_at, heading_at, point_at, spot_at, source_at}
+use Rattle.verdict.specs.ReportReading.{◌>>=◌, IsShortEnd, behind, starts, wide_at, number_at, word_at, layer_at, signed_behind, signed_at, signed_word_at, net_number_at, heading_at, point_at, spot_at, source_at}
 use Rattle.verdict.specs.ReportText.{word, end}
-use Rattle.verdict.proofs.Steps.{step, own, behind_takes, wide_takes, word_takes}
+use Rattle.verdict.proofs.Steps.{step, own, behind_again, behind_takes, layer_short, wide_takes, word_again, word_takes}
 use Rattle.verdict.proofs.ReadLines.{behind_none, net_number_again}
 use Rattle.verdict.proofs.ReadSupplement.{no_minus}
 
@@ -71,3 +72,21 @@ spot_reads n x y bytes a b c left h0 h1 h2 h3 =
     (step (signed_word_at a) _ (x, b) (Some (made, left)) h1
     (step (signed_word_at b) _ (y, c) (Some (made, left)) h2
     (step (behind (10 ∷ []) c) _ left (Some (made, left)) h3 refl)))
+
+-- a number of one digit behind a blank
+short_word : (n : ℕ) (rest : List ℕ) → n < 10 → starts is_decimal_digit rest ≡ false → word_at (32 ∷ (48 + n) ∷ rest) ≡ Some (n, rest)
+short_word n rest small none = subst (λ (t : List ℕ). word_at (32 ∷ (t ++ rest)) ≡ Some (n, rest)) (decimal_digit n small) (word_again n rest (omega (arith, small)) none)
+
+-- the line of a source whose last three numbers have one digit each
+pub short_source : (n file command copy top bottom : ℕ) (bytes a b c left : List ℕ) → heading_at (codes "source") n bytes ≡ Some a → word_at a ≡ Some (file, b) → word_at b ≡ Some (command, c) → IsShortEnd c copy top bottom left
+    → source_at n bytes ≡ Some (record { file = file; command = command; copy = copy; top = top; bottom = bottom }, left)
+short_source n file command copy top bottom bytes a b c left h0 h1 h2 tail =
+    let f : List ℕ = 10 ∷ left in
+    let e : List ℕ = 32 ∷ (48 + bottom) ∷ f in
+    let d : List ℕ = 32 ∷ (48 + top) ∷ e in
+    let small = tail.small in
+    source_reads n file command copy top bottom bytes a b c d e f left h0 h1 h2
+    (subst (λ (t : List ℕ). word_at t ≡ Some (copy, d)) (sym tail.stands) (short_word copy d small.0 refl))
+    (layer_short d e top small.1 (short_word top e small.1 refl))
+    (layer_short e f bottom small.2 (short_word bottom f small.2 refl))
+    (behind_again (10 ∷ []) left)

@@ -55,6 +55,11 @@ pub record IsRun (bytes : List ℕ) (len value : ℕ) : Type 0 where
   pub worth : len ≤ 18 → value ≡ digits_value 10 (take len bytes)
   pub small : len ≤ 18 → value < 10 ^ 18
 
+-- three numbers of one digit, each behind a blank, and the end of a line stand in front of the rest
+pub record IsShortEnd (bytes : List ℕ) (first second third : ℕ) (rest : List ℕ) : Type 0 where
+  pub small : (first < 10) × (second < 10) × (third < 10)
+  pub stands : bytes ≡ 32 ∷ (48 + first) ∷ 32 ∷ (48 + second) ∷ 32 ∷ (48 + third) ∷ 10 ∷ rest
+
 -- no zero leads a number but 0 itself
 abbrev pub is_numeral : List ℕ → Bool
 is_numeral [] = false

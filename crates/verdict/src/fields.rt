@@ -1,5 +1,5 @@
 //! The fields of a report: fixed words and numbers, each read from the front of the bytes.
-ghost use Rattle.std.specs.Prelude.{◌≡◌, ◌<◌, [], ◌∷◌, IfErr, IfSome, Option, Some, decimal, true};
+ghost use Rattle.std.specs.Prelude.{◌≡◌, ◌+◌, ◌<◌, [], ◌∷◌, IfErr, IfSome, Option, Some, decimal, true};
 ghost use Rattle.std.specs.List.{list_all};
 ghost use Rattle.std.specs.Option.{option_map};
 ghost use Rattle.texts.specs.Digits.{is_decimal_digit};
@@ -263,6 +263,33 @@ pub fn short(bytes: &[u8]) -> Option<(u8, &[u8])>
     match behind_byte(bytes, b' ') {
         Some(rest) => one_digit(rest),
         None => None,
+    }
+}
+
+// The value of a digit.
+fn digit_value(byte: u8) -> Option<u8>
+    ensures { IfSome result (λ d. (d < 10) × (byte ≡ 48 + d)) }
+{
+    if is_digit(byte) {
+        Some(byte - b'0')
+    } else {
+        None
+    }
+}
+
+/// Three numbers of one digit, each behind a blank, and the end of the line, where they stand in front.
+#[inline(always)]
+pub fn short_end(bytes: &[u8]) -> Option<(u8, u8, u8, &[u8])>
+    ensures { IfSome result (λ x. spec.IsShortEnd bytes.now x.0 x.1 x.2 x.3.now) }
+{
+    match bytes {
+        [b' ', first, b' ', second, b' ', third, b'\n', rest @ ..] => {
+            let first = digit_value(*first)?;
+            let second = digit_value(*second)?;
+            let third = digit_value(*third)?;
+            Some((first, second, third, rest))
+        }
+        _ => None,
     }
 }
 

@@ -9,6 +9,9 @@ use texts::Numeral;
 // A text of so many digits leaves a byte of a word free.
 const MOST_DIGITS: usize = 7;
 
+// How many times the digit before the last one's unit a word loses where the last falls from 9 to 0 and that one rises.
+const CARRY: u64 = 9 * 256 - 1;
+
 /// A number and, where it has at most seven digits, its text as the low bytes of a word, so that it is compared at once.
 #[derive(Clone, Copy)]
 pub struct LineNumber {
@@ -70,7 +73,7 @@ impl LineNumber {
             rises,
         } = self;
         if rises == 0 {
-            return LineNumber::of(number + 1);
+            return self.carried();
         }
         LineNumber {
             number: number + 1,
@@ -78,6 +81,30 @@ impl LineNumber {
             word: word + (mask >> 8) + 1,
             mask,
             rises: rises - 1,
+        }
+    }
+
+    // The next number where the last digit cannot rise. Mostly it falls from 9 to 0, and the one before it rises.
+    fn carried(self) -> LineNumber
+        requires { self.number + 1 < 2 ^ 64 }
+        ensures { result.number ≡ self.number + 1 }
+    {
+        let LineNumber {
+            number,
+            len,
+            word,
+            mask,
+            ..
+        } = self;
+        if len < 2 || number % 10 != 9 || number % 100 == 99 {
+            return LineNumber::of(number + 1);
+        }
+        LineNumber {
+            number: number + 1,
+            len,
+            word: word - CARRY * ((mask >> 16) + 1),
+            mask,
+            rises: 9,
         }
     }
 

@@ -8,7 +8,8 @@ ghost use Rattle.verdict.specs.ReportText as report;
 
 use crate::fields::{
     begins_blank, behind, behind_byte, count, expect, expect_byte, expect_line_number, layer,
-    line_end, net_number, parent, short, signed_word, titled, usual_place, usual_word, word,
+    line_end, net_number, parent, short, short_end, signed_word, titled, usual_place, usual_word,
+    word,
 };
 use crate::line_number::LineNumber;
 use crate::report_reading::ReadFault;
@@ -502,10 +503,7 @@ fn usual_source(bytes: &[u8], line: LineNumber) -> Option<(SourceLine, &[u8])>
     let rest = usual_heading(bytes, b"source", line)?;
     let (file, behind_file) = short(rest)?;
     let (command, behind_command) = usual_word(behind_file)?;
-    let (copy, behind_copy) = short(behind_command)?;
-    let (top, behind_top) = short(behind_copy)?;
-    let (bottom, behind_bottom) = short(behind_top)?;
-    let end = behind_byte(behind_bottom, b'\n')?;
+    let (copy, top, bottom, end) = short_end(behind_command)?;
     let file = u32::from(file);
     let copy = u32::from(copy);
     let line = SourceLine {
