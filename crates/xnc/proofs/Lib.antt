@@ -6,6 +6,7 @@ pub mod Numbers
 pub mod OneAnswer
 mod Ending
 pub mod Outcome
+mod Places
 pub mod Placing
 pub mod ReadSoFar
 pub mod ToolDown

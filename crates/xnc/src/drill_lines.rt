@@ -1,5 +1,6 @@
 //! How a line is read by itself.
-ghost use Rattle.std.specs.Prelude.{◌≡◌, ◌<◌, ◌≤◌, decimal as number_text, Option, Some, None};
+ghost use Rattle.std.specs.Prelude.{◌≡◌, ◌<◌, ◌≤◌, true, false, decimal as number_text, MatchOption, Option, Some, None};
+ghost use Rattle.std.specs.List.{after_first, before_first, list_any};
 ghost use Rattle.texts.specs.Words as words;
 ghost use Rattle.xnc.specs.DrillLines as spec;
 
@@ -7,7 +8,7 @@ use crate::kind::DrillKind;
 use crate::line::{Coordinates, DrillLine};
 use crate::span::Span;
 use lengths::decimal::{Decimal, Unit, read_decimal, small_value};
-use texts::{after_byte, all_digits, before_byte, begins, has, is_word, trimmed};
+use texts::{after_byte, all_digits, before_byte, begins, has, is_word, place_of, trimmed};
 
 // Whether a text is the decimal number.
 fn is_number(text: &[u8], number: u8) -> bool
@@ -60,23 +61,39 @@ fn comment(span: Span, text: &[u8]) -> DrillLine
     }
 }
 
+// What stands before the first `Y` and what behind it, where there is one. The text is looked through once.
+fn around_y(text: &[u8]) -> Option<(&[u8], &[u8])>
+    ensures { MatchOption result (list_any spec.is_y text.now ≡ false) (λ parts. (list_any spec.is_y text.now ≡ true) × (parts.0.now ≡ before_first spec.is_y text.now) × (parts.1.now ≡ after_first spec.is_y text.now)) }
+{
+    let at = place_of(text, b'Y');
+    if at < text.len() {
+        Some((&text[..at], &text[at + 1..]))
+    } else {
+        None
+    }
+}
+
 #[tactic(auto, unfolding(crate::specs::DrillLines::behind_x))]
 fn behind_x(text: &[u8]) -> Option<Coordinates>
     ensures { result ≡ spec.behind_x text.now }
 {
-    if !has(text, b'Y') {
-        let x = read_decimal(text)?;
-        return Some(Coordinates {
-            x: Some(x),
-            y: None,
-        });
+    match around_y(text) {
+        None => {
+            let x = read_decimal(text)?;
+            Some(Coordinates {
+                x: Some(x),
+                y: None,
+            })
+        },
+        Some((before, behind)) => {
+            let x = read_decimal(before)?;
+            let y = read_decimal(behind)?;
+            Some(Coordinates {
+                x: Some(x),
+                y: Some(y),
+            })
+        },
     }
-    let x = read_decimal(before_byte(text, b'Y'))?;
-    let y = read_decimal(after_byte(text, b'Y'))?;
-    Some(Coordinates {
-        x: Some(x),
-        y: Some(y),
-    })
 }
 
 // A place.
