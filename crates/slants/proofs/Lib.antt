@@ -1,15 +1,25 @@
+mod Added
 mod Around
 mod Circle
 mod Corners
+mod Following
 mod Halves
+mod Horner
 pub mod Inside
 mod Level
 mod Moved
 mod Near
 mod Parts
+mod Quarters
 mod Reach
 mod Read
 mod Regular
+mod Rims
+mod Rotated
 mod Runs
+mod Series
 mod Sides
+mod Spokes
+mod Steps
 mod Sums
+mod Ways

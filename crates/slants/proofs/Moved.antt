@@ -1,14 +1,13 @@
 -- A disc whose centre stays near a spot, and the discs about that spot.
-use Rattle.std.proofs.Common.{◌≡◌, ◌*◌, ◌+◌, ◌-◌, ◌≤◌, ℕ, ℤ, pos, neg_ℤ, ◌+ℤ◌, ◌-ℤ◌, ◌*ℤ◌, ◌≤ℤ◌, arith}
+use Rattle.std.proofs.Common.{◌≡◌, ◌+◌, ◌-◌, ℕ, ℤ, pos, neg_ℤ, ◌+ℤ◌, ◌-ℤ◌, ◌*ℤ◌, ◌≤ℤ◌, arith}
 use Rattle.std.proofs.lemmas.Int.{ints}
 use Rattle.planar.specs.declared.Spot.{Spot}
 use Rattle.planar.specs.Plane.{InCapsule, Point, cross_of, dot_of, square}
 use Rattle.planar.proofs.Ring.{ring, linear, times_cancel, times_mono, times_mono_right, times_from_zero, over_zero, square_cancel, square_from_zero, zero-times, times-zero, times-one, one-times}
 use Rattle.board_shapes.specs.Figures.{InFigure}
-use Rattle.slants.specs.Discs.{DiscAbove, DiscBelow, HasRoom, InTurnedDisc, StaysNear, disc_about, room_of, turns_of}
+use Rattle.slants.specs.Discs.{DiscAbove, DiscBelow, InTurnedDisc, StaysNear, disc_about, room_of, turns_of}
 use Rattle.slants.specs.Turned.{IsBetween, IsTurn, meet_of, turned_back}
 use Rattle.slants.specs.declared.discs.TurnedDisc.{TurnedDisc}
-use Rattle.slants.specs.declared.turns.Motions.{Motions}
 use Rattle.slants.specs.declared.turns.Turn.{Turn}
 use Rattle.slants.proofs.Around.{circle, in_cone}
 

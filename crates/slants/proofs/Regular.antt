@@ -1,8 +1,7 @@
 -- What is taken for a regular polygon bounds it.
-use Rattle.std.proofs.Common.{◌≡◌, ℕ, ◌*◌, ◌+◌, ◌<◌, inl, inr, pos, ◌≤ℤ◌, List, [], ◌∷◌}
+use Rattle.std.proofs.Common.{ℕ, ◌*◌, ◌+◌, ◌<◌, inl, inr, List, [], ◌∷◌}
 use Rattle.planar.specs.declared.Spot.{Spot}
 use Rattle.planar.specs.Plane.{Point}
-use Rattle.area_contact.specs.Parity.{side_of}
 use Rattle.board_shapes.specs.Figures.{InFigure, filled}
 use Rattle.slants.specs.Polygons.{CornersLean, HasCorners, IsBeside, PolygonAbove, PolygonBelow, PossiblyInPolygon, SurelyInPolygon, corner_of, edge_end, edge_start, turns_to}
 use Rattle.slants.specs.Turned.{IsBetween}

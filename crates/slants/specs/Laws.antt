@@ -7,7 +7,7 @@ use Rattle.board_shapes.specs.Rectangles.{rectangle}
 use Rattle.slants.specs.Cones.{FigureAbove, FigureBelow, PossiblyTurned, SurelyTurned, cosine, sine, turns_by}
 use Rattle.slants.specs.Copper.{InSlant}
 use Rattle.slants.specs.Discs.{DiscAbove, DiscBelow, PossiblyInDisc, SurelyInDisc, disc_about}
-use Rattle.slants.specs.Polygons.{PolygonAbove, PolygonBelow, PossiblyInPolygon, SurelyInPolygon}
+use Rattle.slants.specs.Polygons.{IsRegular, PolygonAbove, PolygonBelow, PossiblyInPolygon, SurelyInPolygon}
 use Rattle.slants.specs.Taken.{TakenAbove, TakenBelow}
 use Rattle.slants.specs.Turned.{IsBetween, IsTurn, meet_of}
 use Rattle.slants.specs.declared.Slant.{Slant}
@@ -93,3 +93,7 @@ DiscsHaveCopper = (a : TurnedDisc) (p : Point) → a.angle < RIGHT_ANGLE → Sur
 -- A contour that is taken below lies in the polygon at all turns of its cones, and one that is taken above holds it at each
 abbrev pub PolygonIsBetween : Type 0
 PolygonIsBetween = (g : RegularPolygon) (points : List Spot) (p : Point) → (PolygonBelow g points → InFigure (filled points) p → SurelyInPolygon g p) × (PolygonAbove g points → PossiblyInPolygon g p → InFigure (filled points) p)
+
+-- There is a copper of each: what lies on the left of each edge at all turns of its cone lies in the hull of the corners at theirs
+abbrev pub PolygonsHaveCopper : Type 0
+PolygonsHaveCopper = (g : RegularPolygon) (p : Point) → IsRegular g → SurelyInPolygon g p → PossiblyInPolygon g p

@@ -1,5 +1,5 @@
 //! Laws over the definitions. Their calls do nothing.
-ghost use Rattle.slants.specs.Laws.{BelowIsAbove, DiscsAreBetween, DiscsHaveCopper, EachTurnIsTold, LevelIsRectangle, NearIsBetween, OtherWayIsSame, PolygonIsBetween, SidesTellCone, SurelyIsPossibly, TakenIsBetween, TurnedIsBetween};
+ghost use Rattle.slants.specs.Laws.{BelowIsAbove, DiscsAreBetween, DiscsHaveCopper, EachTurnIsTold, LevelIsRectangle, NearIsBetween, OtherWayIsSame, PolygonIsBetween, PolygonsHaveCopper, SidesTellCone, SurelyIsPossibly, TakenIsBetween, TurnedIsBetween};
 
 /// A contour that is taken below lies in the rectangle, one that is taken above holds it.
 pub fn taken_is_between()
@@ -59,4 +59,9 @@ pub fn discs_have_copper()
 /// A contour that is taken below lies in the regular polygon, one that is taken above holds it.
 pub fn polygon_is_between()
     ensures { PolygonIsBetween }
+{}
+
+/// What lies in a regular polygon at all turns of its cones lies in the hull of its corners: it has a copper.
+pub fn polygons_have_copper()
+    ensures { PolygonsHaveCopper }
 {}

@@ -1,4 +1,4 @@
-use Rattle.std.proofs.Common.{ℕ, ◌*◌}
+use Rattle.std.proofs.Common.{◌*◌}
 use Rattle.slants.specs.Polygons.{corner_of, turns_to}
 use Rattle.slants.specs.Turned.{Leans}
 use Rattle.slants.proofs.Reach.{one_more}
