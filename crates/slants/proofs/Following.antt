@@ -3,9 +3,9 @@ use Rattle.std.proofs.Common.{◌≡◌, ℕ, ◌+◌, ◌-◌, ◌*◌, ◌/◌
 use Rattle.std.proofs.lemmas.Nat.{mul-le}
 use Rattle.slants.specs.Cones.{cosine_by, sine_by, square_of}
 use Rattle.slants.specs.declared.cones.TheConstants.{ONE, RADIUS}
-use Rattle.slants.proofs.Added.{EIGHTH, TWELFTH}
+use Rattle.slants.proofs.Added.{EIGHTH, EVEN_REST, ODD_REST, PLACES, TWELFTH}
 use Rattle.slants.proofs.Horner.{le_cancel}
-use Rattle.slants.proofs.Rotated.{across_from, across_to, along_from, along_to, high_over, high_to, high_under, norm_from, wide_over, wide_to, wide_under}
+use Rattle.slants.proofs.Rotated.{BOTH_RESTS, across_from, across_to, along_from, along_to, high_over, high_to, high_under, norm_from, wide_over, wide_to, wide_under}
 use Rattle.slants.proofs.Ways.{WHOLE, cosine_far, cosine_near, high, sine_far, sine_near, whole_some, wide}
 
 -- ---- tangents, of plain numbers: b/a is at most q/p
@@ -56,12 +56,9 @@ over w a b p q small some less order h one check = record { some = some; less = 
 
 -- ---- the tangent of a part, in numbers, for ways that are 10^-9 off
 
--- 10^15, and how much that leaves off for the terms and the code's own cosine and sine
-abbrev pub PLACES : ℕ
-PLACES = 1000000000000000
-
+-- how much is left off for the terms, and for the code's own cosine and sine
 abbrev pub OFF : ℕ
-OFF = 1138055005000000000000000
+OFF = BOTH_RESTS * ONE + 5 * PLACES
 
 abbrev pub cosine_at : ℕ → ℕ
 cosine_at y = PLACES * cosine_by (square_of y)
@@ -87,22 +84,22 @@ pub record FitsBack (w z : ℕ) : Type 0 where
 
 module _ (k c s p q u v z y : ℕ) (some : 1 ≤ k) (long : 1 ≤ c * c + s * s)
     (z_near : k * z ≤ ONE * p + 5 * k) (z_far : ONE * p ≤ k * z + 5 * k) (y_near : k * y ≤ ONE * q + 5 * k) (y_far : ONE * q ≤ k * y + 5 * k)
-    (along_over : 1000000000000000 * ((c * c + s * s) * p) ≤ 1000000000000000 * (k * (c * u + s * v)) + 1138055 * ((c * c + s * s) * k)) (along_under : 1000000000000000 * (k * (c * u + s * v)) ≤ 1000000000000000 * ((c * c + s * s) * p) + 1138055 * ((c * c + s * s) * k))
-    (across_over : 1000000000000000 * (k * (c * v)) ≤ 1000000000000000 * (k * (s * u)) + 1000000000000000 * ((c * c + s * s) * q) + 1138055 * ((c * c + s * s) * k)) (across_under : 1000000000000000 * ((c * c + s * s) * q) + 1000000000000000 * (k * (s * u)) ≤ 1000000000000000 * (k * (c * v)) + 1138055 * ((c * c + s * s) * k)) where
+    (along_over : PLACES * ((c * c + s * s) * p) ≤ PLACES * (k * (c * u + s * v)) + BOTH_RESTS * ((c * c + s * s) * k)) (along_under : PLACES * (k * (c * u + s * v)) ≤ PLACES * ((c * c + s * s) * p) + BOTH_RESTS * ((c * c + s * s) * k))
+    (across_over : PLACES * (k * (c * v)) ≤ PLACES * (k * (s * u)) + PLACES * ((c * c + s * s) * q) + BOTH_RESTS * ((c * c + s * s) * k)) (across_under : PLACES * ((c * c + s * s) * q) + PLACES * (k * (s * u)) ≤ PLACES * (k * (c * v)) + BOTH_RESTS * ((c * c + s * s) * k)) where
   times_n : (a b : ℕ) → a ≤ b → (c * c + s * s) * a ≤ (c * c + s * s) * b
   times_n a b h = mul-le (c * c + s * s) a (c * c + s * s) b (omega arith) h
 
-  a_from : (c * c + s * s) * (PLACES * z) ≤ 1000000000000000000000000000000000 * (c * u + s * v) + OFF * (c * c + s * s)
-  a_from = le_cancel k ((c * c + s * s) * (PLACES * z)) (1000000000000000000000000000000000 * (c * u + s * v) + OFF * (c * c + s * s)) some (omega (arith, along_over, times_n (k * z) (ONE * p + 5 * k) z_near))
+  a_from : (c * c + s * s) * (PLACES * z) ≤ ONE * PLACES * (c * u + s * v) + OFF * (c * c + s * s)
+  a_from = le_cancel k ((c * c + s * s) * (PLACES * z)) (ONE * PLACES * (c * u + s * v) + OFF * (c * c + s * s)) some (omega (arith, along_over, times_n (k * z) (ONE * p + 5 * k) z_near))
 
-  a_to : 1000000000000000000000000000000000 * (c * u + s * v) ≤ (c * c + s * s) * (PLACES * z) + OFF * (c * c + s * s)
-  a_to = le_cancel k (1000000000000000000000000000000000 * (c * u + s * v)) ((c * c + s * s) * (PLACES * z) + OFF * (c * c + s * s)) some (omega (arith, along_under, times_n (ONE * p) (k * z + 5 * k) z_far))
+  a_to : ONE * PLACES * (c * u + s * v) ≤ (c * c + s * s) * (PLACES * z) + OFF * (c * c + s * s)
+  a_to = le_cancel k (ONE * PLACES * (c * u + s * v)) ((c * c + s * s) * (PLACES * z) + OFF * (c * c + s * s)) some (omega (arith, along_under, times_n (ONE * p) (k * z + 5 * k) z_far))
 
-  b_from : (c * c + s * s) * (PLACES * y) + 1000000000000000000000000000000000 * (s * u) ≤ 1000000000000000000000000000000000 * (c * v) + OFF * (c * c + s * s)
-  b_from = le_cancel k ((c * c + s * s) * (PLACES * y) + 1000000000000000000000000000000000 * (s * u)) (1000000000000000000000000000000000 * (c * v) + OFF * (c * c + s * s)) some (omega (arith, across_under, times_n (k * y) (ONE * q + 5 * k) y_near))
+  b_from : (c * c + s * s) * (PLACES * y) + ONE * PLACES * (s * u) ≤ ONE * PLACES * (c * v) + OFF * (c * c + s * s)
+  b_from = le_cancel k ((c * c + s * s) * (PLACES * y) + ONE * PLACES * (s * u)) (ONE * PLACES * (c * v) + OFF * (c * c + s * s)) some (omega (arith, across_under, times_n (k * y) (ONE * q + 5 * k) y_near))
 
-  b_to : 1000000000000000000000000000000000 * (c * v) ≤ 1000000000000000000000000000000000 * (s * u) + (c * c + s * s) * (PLACES * y) + OFF * (c * c + s * s)
-  b_to = le_cancel k (1000000000000000000000000000000000 * (c * v)) (1000000000000000000000000000000000 * (s * u) + (c * c + s * s) * (PLACES * y) + OFF * (c * c + s * s)) some (omega (arith, across_over, times_n (ONE * q) (k * y + 5 * k) y_far))
+  b_to : ONE * PLACES * (c * v) ≤ ONE * PLACES * (s * u) + (c * c + s * s) * (PLACES * y) + OFF * (c * c + s * s)
+  b_to = le_cancel k (ONE * PLACES * (c * v)) (ONE * PLACES * (s * u) + (c * c + s * s) * (PLACES * y) + OFF * (c * c + s * s)) some (omega (arith, across_over, times_n (ONE * q) (k * y + 5 * k) y_far))
 
   ordered : OFF + 1 ≤ PLACES * y → s * u ≤ c * v
   ordered h = omega (arith, b_from, times_n (OFF + 1) (PLACES * y) h)
@@ -124,31 +121,31 @@ module _ (k c s p q u v z y : ℕ) (some : 1 ≤ k) (long : 1 ≤ c * c + s * s)
     is_low : (RADIUS + w) * ((PLACES * y + OFF) * (PLACES * y + OFF)) ≤ (RADIUS - w) * ((PLACES * z - OFF) * (PLACES * z - OFF)) → IsLow w a b
     is_low check = record { some = b_some; less = b_less; low = within RADIUS w (RADIUS - w) a b (PLACES * z - OFF) (PLACES * y + OFF) (omega (arith, small)) (omega (arith, apart)) flat check }
       where
-        plain : (m x f : ℕ) → m * (f + OFF) ≤ 1000000000000000000000000000000000 * a + OFF * m → 1000000000000000000000000000000000 * b ≤ m * x + OFF * m → f * b ≤ (x + OFF) * a
+        plain : (m x f : ℕ) → m * (f + OFF) ≤ ONE * PLACES * a + OFF * m → ONE * PLACES * b ≤ m * x + OFF * m → f * b ≤ (x + OFF) * a
         plain m x f h g =
-            let i : f * (1000000000000000000000000000000000 * b) ≤ f * (m * x + OFF * m) = mul-le f (1000000000000000000000000000000000 * b) f (m * x + OFF * m) (omega arith) g in
-            let l : (x + OFF) * (m * f) ≤ (x + OFF) * (1000000000000000000000000000000000 * a) = mul-le (x + OFF) (m * f) (x + OFF) (1000000000000000000000000000000000 * a) (omega arith) (omega (arith, h)) in
+            let i : f * (ONE * PLACES * b) ≤ f * (m * x + OFF * m) = mul-le f (ONE * PLACES * b) f (m * x + OFF * m) (omega arith) g in
+            let l : (x + OFF) * (m * f) ≤ (x + OFF) * (ONE * PLACES * a) = mul-le (x + OFF) (m * f) (x + OFF) (ONE * PLACES * a) (omega arith) (omega (arith, h)) in
             omega (arith, i, l)
 
         flat : (PLACES * z - OFF) * b ≤ (PLACES * y + OFF) * a
         flat =
             let e : PLACES * z - OFF + OFF ≡ PLACES * z = omega (arith, apart) in
-            let f : (c * c + s * s) * (PLACES * z - OFF + OFF) ≤ 1000000000000000000000000000000000 * a + OFF * (c * c + s * s) = rw e (omega (arith, a_from, a_is)) in
+            let f : (c * c + s * s) * (PLACES * z - OFF + OFF) ≤ ONE * PLACES * a + OFF * (c * c + s * s) = rw e (omega (arith, a_from, a_is)) in
             plain (c * c + s * s) (PLACES * y) (PLACES * z - OFF) f (omega (arith, b_to, b_is))
 
     is_high : (RADIUS + w) * ((PLACES * z + OFF - (PLACES * y - OFF)) * (PLACES * z + OFF - (PLACES * y - OFF))) ≤ (RADIUS - w) * ((PLACES * z + OFF + (PLACES * y - OFF)) * (PLACES * z + OFF + (PLACES * y - OFF))) → IsHigh w a b
     is_high check = over w a b (PLACES * z + OFF) (PLACES * y - OFF) small b_some b_less (omega (arith, apart)) flat (omega (arith, apart)) check
       where
-        plain : (m x f : ℕ) → 1000000000000000000000000000000000 * a ≤ m * x + OFF * m → m * (f + OFF) ≤ 1000000000000000000000000000000000 * b + OFF * m → f * a ≤ (x + OFF) * b
+        plain : (m x f : ℕ) → ONE * PLACES * a ≤ m * x + OFF * m → m * (f + OFF) ≤ ONE * PLACES * b + OFF * m → f * a ≤ (x + OFF) * b
         plain m x f h g =
-            let i : f * (1000000000000000000000000000000000 * a) ≤ f * (m * x + OFF * m) = mul-le f (1000000000000000000000000000000000 * a) f (m * x + OFF * m) (omega arith) h in
-            let l : (x + OFF) * (m * f) ≤ (x + OFF) * (1000000000000000000000000000000000 * b) = mul-le (x + OFF) (m * f) (x + OFF) (1000000000000000000000000000000000 * b) (omega arith) (omega (arith, g)) in
+            let i : f * (ONE * PLACES * a) ≤ f * (m * x + OFF * m) = mul-le f (ONE * PLACES * a) f (m * x + OFF * m) (omega arith) h in
+            let l : (x + OFF) * (m * f) ≤ (x + OFF) * (ONE * PLACES * b) = mul-le (x + OFF) (m * f) (x + OFF) (ONE * PLACES * b) (omega arith) (omega (arith, g)) in
             omega (arith, i, l)
 
         flat : (PLACES * y - OFF) * a ≤ (PLACES * z + OFF) * b
         flat =
             let e : PLACES * y - OFF + OFF ≡ PLACES * y = omega (arith, y_some) in
-            let f : (c * c + s * s) * (PLACES * y - OFF + OFF) ≤ 1000000000000000000000000000000000 * b + OFF * (c * c + s * s) = rw e (omega (arith, b_from, b_is)) in
+            let f : (c * c + s * s) * (PLACES * y - OFF + OFF) ≤ ONE * PLACES * b + OFF * (c * c + s * s) = rw e (omega (arith, b_from, b_is)) in
             plain (c * c + s * s) (PLACES * z) (PLACES * y - OFF) (omega (arith, a_to, a_is)) f
 
 -- ---- of two parts of a turn
@@ -201,10 +198,10 @@ step_high w x z hx hz hs fits =
     let c2 = wide_under z x hz hx hs in
     let s1 = high_over z x hz hx hs in
     let s2 = high_under z x hz hx hs in
-    let co : 1000000000000000 * (wide x * wide z) ≤ 1000000000000000 * (WHOLE * wide (z + x) + high x * high z) + 500544 * (WHOLE * WHOLE) = omega (arith, c1) in
-    let cu : 1000000000000000 * (WHOLE * wide (z + x) + high x * high z) ≤ 1000000000000000 * (wide x * wide z) + 500544 * (WHOLE * WHOLE) = omega (arith, c2) in
-    let so : 1000000000000000 * (high x * wide z + wide x * high z) ≤ 1000000000000000 * (WHOLE * high (z + x)) + 43446 * (WHOLE * WHOLE) = omega (arith, s1) in
-    let su : 1000000000000000 * (WHOLE * high (z + x)) ≤ 1000000000000000 * (high x * wide z + wide x * high z) + 43446 * (WHOLE * WHOLE) = omega (arith, s2) in
+    let co : PLACES * (wide x * wide z) ≤ PLACES * (WHOLE * wide (z + x) + high x * high z) + EVEN_REST * (WHOLE * WHOLE) = omega (arith, c1) in
+    let cu : PLACES * (WHOLE * wide (z + x) + high x * high z) ≤ PLACES * (wide x * wide z) + EVEN_REST * (WHOLE * WHOLE) = omega (arith, c2) in
+    let so : PLACES * (high x * wide z + wide x * high z) ≤ PLACES * (WHOLE * high (z + x)) + ODD_REST * (WHOLE * WHOLE) = omega (arith, s1) in
+    let su : PLACES * (WHOLE * high (z + x)) ≤ PLACES * (high x * wide z + wide x * high z) + ODD_REST * (WHOLE * WHOLE) = omega (arith, s2) in
     let cs = wide_to x x_eighth in
     let ss = high_to x x_eighth in
     let nf = norm_from x x_eighth in
