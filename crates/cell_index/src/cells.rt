@@ -57,11 +57,35 @@ impl<'a, S: Meets<S>> Cells<'a, S> {
         ensures layers { IfOk result (λ c. c.layers ≡ layers) }
     {
         let sheets = Plan { items, frame }.sheets(alloc, layers)?;
+        let search = Cells::for_search(alloc, items, frame)?;
+        Ok(Cells {
+            items: search.items,
+            frame: search.frame,
+            layers,
+            sheets,
+            finer: search.finer,
+        })
+    }
+
+    /// A field of the items, of which there are fewer than 2^32, with their bounds inside the frame. It answers searches alone, and
+    /// lends the cells of no layer: filing these takes longer than filing the copies.
+    pub fn for_search(
+        alloc: Global,
+        items: &'a [Placed<S>],
+        frame: Frame,
+    ) -> Result<Cells<'a, S>, NoMemory>
+        requires few { length items.now < 2 ^ 32 }
+        requires inside { All (λ p. IsInside (S.extent p.shape) frame) items.now }
+        ensures items { IfOk result (λ c. c.items.now ≡ items.now) }
+        ensures frame { IfOk result (λ c. c.frame ≡ frame) }
+        ensures layers { IfOk result (λ c. c.layers ≡ 0) }
+    {
+        let sheets = Vec::new(alloc);
         let finer = Finer::new(alloc, items)?;
         Ok(Cells {
             items,
             frame,
-            layers,
+            layers: 0,
             sheets,
             finer,
         })

@@ -88,7 +88,7 @@ fn gaps_in<L: Ledger>(
     let numbers = numbers_of(alloc, nets, pieces.len())?;
     let spans = spans_of(alloc, pieces)?;
     let fats = fats_of(alloc, pieces, grow)?;
-    let field = Cells::new(alloc, &fats, frame, board.layers())?;
+    let field = Cells::for_search(alloc, &fats, frame)?;
     let mut tests = Steps::<L>::new(blank);
     let least = meetings(alloc, &field, &numbers, &spans, &mut tests)?;
     let list = rows(alloc, &least)?;

@@ -91,7 +91,7 @@ pub fn verdict_of<L: Ledger>(
     ensures version { IfOk result (IsOfVersion One) }
     ensures pairs { tests.new ≤ tests.old + 2 * rival_pairs (pieces_of board.now) }
 {
-    let pieces = Cells::new(alloc, board.pieces(), board.frame(), board.layers())?;
+    let pieces = Cells::for_search(alloc, board.pieces(), board.frame())?;
     let trees = flood(alloc, &pieces, tests)?;
     let least = homes(alloc, &pieces, board.probes())?;
     nets::nets_are_of_the_board();

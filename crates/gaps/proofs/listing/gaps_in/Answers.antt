@@ -1,9 +1,7 @@
-use Rattle.std.proofs.Common.{◌≡◌, ℕ, pos, ◌+ℤ◌, List, All, length, map, arith, ap, sym, subst, refl, ◌∙◌, get_or}
-use Rattle.std.proofs.lemmas.List.Elements.{All-map}
+use Rattle.std.proofs.Common.{◌≡◌, ℕ, pos, ◌+ℤ◌, List, length, map, arith, ap, sym, subst, refl, ◌∙◌, get_or}
 use Rattle.contact.specs.Solid.{IsInside}
 use Rattle.board_shapes.specs.Figures.{figure_box}
-use Rattle.board_shapes.specs.Lawful.{IsSpan}
-use Rattle.board_shapes.specs.Pieces.{PlainPiece, plain_piece, plain_pieces}
+use Rattle.board_shapes.specs.Pieces.{PlainPiece, plain_pieces}
 use Rattle.board_shapes.specs.Plain.{PlainBoard, plain_board}
 use Rattle.board_shapes.specs.Tables.{IsNear}
 use Rattle.verdict.specs.Forest.{Holds}
@@ -29,18 +27,11 @@ numbers_of-requires-clause-known g c = λ i p h.
     let f = pieces_many c.pieces-pieces.result.now (plain_board c.args.board.now).pieces c.pieces-pieces.ensures.plain in
     omega arith
 
-pub new-requires-clause-inside : goal.new-requires-clause-inside
-new-requires-clause-inside g c =
+pub for_search-requires-clause-inside : goal.for_search-requires-clause-inside
+for_search-requires-clause-inside g c =
     let b : PlainBoard = plain_board c.args.board.now in
     let grown : AreGrown (pos c.args.grow) b.pieces c.deref.result.now = grown_lent (pos c.args.grow) (plain_pieces c.pieces-pieces.result.now) b.pieces c.in_ok-fats.fats.items c.deref.result.now c.pieces-pieces.ensures.plain c.deref.ensures.value c.in_ok-fats.ensures in
     all_fats (λ p z. IsInside (wider_box (figure_box p.figure) z) c.args.frame) (pos c.args.grow) b.pieces c.deref.result.now grown c.requires.inside
-
-pub new-requires-clause-spans : goal.new-requires-clause-spans
-new-requires-clause-spans g c =
-    let b : PlainBoard = plain_board c.args.board.now in
-    let grown : AreGrown (pos c.args.grow) b.pieces c.deref.result.now = grown_lent (pos c.args.grow) (plain_pieces c.pieces-pieces.result.now) b.pieces c.in_ok-fats.fats.items c.deref.result.now c.pieces-pieces.ensures.plain c.deref.ensures.value c.in_ok-fats.ensures in
-    let spans : All (λ (p : PlainPiece). IsSpan b.layers p.top p.bottom) b.pieces = subst (λ (xs : List PlainPiece). All (λ (p : PlainPiece). IsSpan b.layers p.top p.bottom) xs) c.pieces-pieces.ensures.plain (All-map (λ (p : PlainPiece). IsSpan b.layers p.top p.bottom) plain_piece c.pieces-pieces.result.now c.pieces-pieces.ensures.spans) in
-    all_fats (λ p z. IsSpan c.layers.result p.top p.bottom) (pos c.args.grow) b.pieces c.deref.result.now grown (subst (λ (n : ℕ). All (λ (p : PlainPiece). IsSpan n p.top p.bottom) b.pieces) (sym c.layers.ensures) spans)
 
 pub returns : goal.returns
 returns g c =
