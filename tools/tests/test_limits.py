@@ -58,6 +58,7 @@ LEFT = {
     ("verdict/proofs/Shortness.antt", "400_000"): "the same",
     ("boardnet/proofs/refusing/put_fault/Answers.antt", "67108864"): "the words of a line, as its definition has them",
     ("netlist_writer/proofs/Digits.antt", "1_000_000"): "no limit: what six digits tell",
+    ("verdict/proofs/LineNumbers.antt", "65536"): "no limit: what two bytes tell",
     ("slants/proofs/Reach.antt", "10000000000"): "METRE, as arithmetic wants it: callers have it by its name",
     ("netlist_writer/proofs/Histories.antt", "1_000_000"): "the same",
     ("netlist_writer/proofs/TestLines.antt", "1_000_000"): "the same",
