@@ -63,7 +63,10 @@ impl<'a, S: Meets<S>> Field for AllPairs<'a, S> {
     ) -> Result<(), NoMemory> {
         into.clear();
         for q in 0..self.items.len() {
-            into.push(q as u32)?;
+            if let Err(_) = into.push(q as u32) {
+                into.clear();
+                return Err(NoMemory);
+            }
         }
         keep_near(self.items, self.frame, i, into, tests);
         Ok(())

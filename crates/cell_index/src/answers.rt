@@ -7,7 +7,7 @@ ghost use Rattle.contact.specs.Solid.{IsInside};
 ghost use Rattle.planar.specs.Plane.{IsPlaced};
 ghost use Rattle.planar.specs.declared.Spot.{Spot};
 ghost use Rattle.std.specs.List.Sorted.{IsStrictlyIncreasing};
-ghost use Rattle.std.specs.Prelude.{◌≡◌, ℕ, ◌+◌, ◌<◌, ◌≤◌, ◌^◌, ◌↔◌, if◌then◌else◌, IsTrue, All, Contains, IfSome, OnOk, length};
+ghost use Rattle.std.specs.Prelude.{◌≡◌, ℕ, ◌+◌, ◌<◌, ◌≤◌, ◌^◌, ◌↔◌, if◌then◌else◌, IsTrue, [], All, Contains, IfSome, OnErr, OnOk, length};
 ghost use Rattle.tables.specs.Lists.{IsLeast};
 
 use crate::cells::Cells;
@@ -23,7 +23,7 @@ use steps::Steps;
 
 impl<'a, S: Meets<S>> Cells<'a, S> {
     /// Puts into `into`, rising, pieces among which are all that touch piece i, of those that are wanted. No contact test is
-    /// made. After a refusal `into` holds anything.
+    /// made. After a refusal `into` is empty.
     pub fn candidates<W: Wanted>(
         &self,
         i: usize,
@@ -34,8 +34,12 @@ impl<'a, S: Meets<S>> Cells<'a, S> {
         ensures known { OnOk result (All (λ q. q < length self.now.items.now) into.new.items) }
         ensures rising { OnOk result (IsStrictlyIncreasing into.new.items) }
         ensures near { OnOk result ((q : ℕ) → W.wanted wanted.now q → IsNear (length self.now.items.now) (TouchAmong S.holds self.now.items.now) i q → Contains into.new.items q) }
+        ensures refused { OnErr result (into.new.items ≡ []) }
     {
-        self.finer.met(i, wanted, into)?;
+        if let Err(_) = self.finer.met(i, wanted, into) {
+            into.clear();
+            return Err(NoMemory);
+        }
         Ok(())
     }
 

@@ -3,7 +3,7 @@ ghost use Rattle.cell_index.specs.Field.{IsNear, ListsWanted, rivals_of};
 ghost use Rattle.contact.specs.declared.Bounds.{Bounds};
 ghost use Rattle.planar.specs.Plane.{IsPlaced};
 ghost use Rattle.planar.specs.declared.Spot.{Spot};
-ghost use Rattle.std.specs.Prelude.{◌≡◌, ℕ, ◌+◌, ◌<◌, ◌≤◌, ◌^◌, OnOk, IfSome};
+ghost use Rattle.std.specs.Prelude.{◌≡◌, ℕ, ◌+◌, ◌<◌, ◌≤◌, ◌^◌, [], OnErr, OnOk, IfSome};
 ghost use Rattle.tables.specs.Lists.{Lists, IsLeast};
 
 use crate::wanted::Wanted;
@@ -41,9 +41,9 @@ pub trait Field {
         ensures few { size self.now < 2 ^ 32 }
         ensures lawful { is_lawful self.now };
 
-    /// Puts into `into` the numbers of the other pieces that touch piece i, once each, rising. After a refusal `into`
-    /// holds anything. One tick of `tests` is one contact test: there is at most one for each other piece whose box
-    /// meets that of i and whose span has a common layer with that of i.
+    /// Puts into `into` the numbers of the other pieces that touch piece i, once each, rising. After a refusal `into` is
+    /// empty, and nothing was tested. One tick of `tests` is one contact test: there is at most one for each other piece
+    /// whose box meets that of i and whose span has a common layer with that of i.
     fn neighbours<L: Ledger>(
         &self,
         i: usize,
@@ -52,10 +52,11 @@ pub trait Field {
     ) -> Result<(), NoMemory>
         requires { i < size self.now }
         ensures near { OnOk result (Lists (IsNear (size self.now) (touch self.now) i) into.new.items) }
-        ensures ticks { tests.new ≤ tests.old + rivals_of (size self.now) (extent self.now) (top self.now) (bottom self.now) i };
+        ensures ticks { tests.new ≤ tests.old + rivals_of (size self.now) (extent self.now) (top self.now) (bottom self.now) i }
+        ensures refused { OnErr result ((into.new.items ≡ []) × (tests.new ≡ tests.old)) };
 
     /// Puts into `into`, rising, other pieces that touch piece i, among which are all that are wanted. After a refusal `into`
-    /// holds anything. It makes no more contact tests than `neighbours` may.
+    /// is empty, and nothing was tested. It makes no more contact tests than `neighbours` may.
     fn wanted_neighbours<W: Wanted, L: Ledger>(
         &self,
         i: usize,
@@ -66,6 +67,7 @@ pub trait Field {
         requires { i < size self.now }
         ensures near { OnOk result (ListsWanted (IsNear (size self.now) (touch self.now) i) (W.wanted _wanted.now) into.new.items) }
         ensures ticks { tests.new ≤ tests.old + rivals_of (size self.now) (extent self.now) (top self.now) (bottom self.now) i }
+        ensures refused { OnErr result ((into.new.items ≡ []) × (tests.new ≡ tests.old)) }
     {
         self.neighbours(i, into, tests)
     }

@@ -72,7 +72,10 @@ impl Field for Pairs<'_> {
                 continue;
             }
             if self.linked(i as u32, q) {
-                into.push(q)?;
+                if let Err(_) = into.push(q) {
+                    into.clear();
+                    return Err(NoMemory);
+                }
             }
         }
         Ok(())

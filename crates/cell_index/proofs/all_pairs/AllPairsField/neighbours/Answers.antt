@@ -7,7 +7,7 @@ use Rattle.cell_index.proofs.Whole.{near_listed}
 use Rattle.cell_index.proofs.all_pairs.AllPairsField.neighbours.Goals as goal
 
 pub loop-q-preserved : goal.loop-q-preserved
-loop-q-preserved g c = rw add-one (c.in_ok-push.ensures.items ∙ ap (λ (xs : List ℕ). xs ++ c.loop-q.q ∷ []) c.loop-q.invariant)
+loop-q-preserved g c = rw add-one (c.in_default.ensures.items ∙ ap (λ (xs : List ℕ). xs ++ c.loop-q.q ∷ []) c.loop-q.invariant)
 
 pub keep_near-requires-clause-known : goal.keep_near-requires-clause-known
 keep_near-requires-clause-known g c =
