@@ -26,12 +26,13 @@ pub struct Reader<'a> {
 }
 
 impl<'a> Reader<'a> {
-    ghost use Rattle.std.specs.Prelude.{◌≡◌, ◌+◌, ◌^◌, ◌<◌, ◌≤◌, ◌∷◌, [], length, map, IfOk, IfErr, OnOk};
+    ghost use Rattle.std.specs.Prelude.{◌≡◌, ◌+◌, ◌^◌, ◌<◌, ◌≤◌, ◌∷◌, [], length, map, IfOk, IfErr, IsErrOf, OnOk};
     ghost use Rattle.std.specs.Option.{option_copied};
     ghost use Rattle.ipc356_records.specs.Lawful.{IsLawfulForm, IsName};
     ghost use Rattle.ipc356_records.specs.Line.{view, view_fields};
     ghost use Rattle.ipc356_records.specs.NameTable.{names_in};
     ghost use Rattle.ipc356_records.specs.Reader.{Applies, Halts, IsFit, IsLawfulReader, IsNew, Obeys, Pushes, known_of, showing, shown};
+    ghost use Rattle.ipc356_records.specs.declared.kind.RecordKind.{RecordKind};
     ghost use Rattle.ipc356_records.specs.RecordEffects as spec;
     ghost use Rattle.ipc356_records.specs.RecordEffects.{adds, layers_of, probe_at};
 
@@ -180,13 +181,15 @@ impl<'a> Reader<'a> {
         }
     }
 
-    /// Obeys a line. An `Err` leaves a reader that is of no more use.
+    /// Obeys a line. After a fault the reader is as it was. Where memory is wanted it may have taken a part of the record on: nothing
+    /// is said of it, since `read_netlist` drops it.
     pub fn obey(&mut self, form: &RecordLine<'a>) -> Result<(), Halt<RecordKind>>
         requires lawful { IsLawfulReader self.old }
         requires form { IsLawfulForm (view form.now) }
         ensures ok { OnOk result (Obeys self.old (view form.now) self.new) }
         ensures lawful { OnOk result (IsLawfulReader self.new) }
         ensures halt { IfErr result (Halts (known_of self.old) (view form.now)) }
+        ensures unchanged { (why : RecordKind) → IsErrOf result (Halt.Fault why) → self.new ≡ self.old }
     {
         let effect = self.effect(form)?;
         self.apply(effect).map_err(|_| Halt::NoMemory)
