@@ -116,6 +116,15 @@ fn push_figures(out: &mut Vec<u8>, pens: &Pens, pieces: &[Piece]) -> Result<(), 
     push_word(out, b"M02")
 }
 
+// Appends the head: the numbers, the unit, and the pens.
+fn push_head(out: &mut Vec<u8>, pens: &Pens) -> Result<(), AllocError>
+    ensures { OnOk result (out.new.items ≡ out.old.items ++ flat_map spec.spelled (spec.head_lines (pens_in pens.now))) }
+{
+    push_extended(out, b"FSLAX47Y47")?;
+    push_extended(out, b"MOMM")?;
+    push_circles(out, pens.as_slice())
+}
+
 /// The flattened text of these pieces. It reads as exactly their figures, in order, where these are flat: radii over 0,
 /// and no more pens, pieces and edges than a file may have (`laws::flat_text_reads`). `NoMemory` where memory is
 /// wanted.
@@ -124,9 +133,7 @@ pub fn write_flat(alloc: Global, pieces: &[Piece]) -> Result<Vec<u8>, NoMemory>
 {
     let pens = Pens::of(alloc, pieces)?;
     let mut out = Vec::new(alloc);
-    push_extended(&mut out, b"FSLAX47Y47")?;
-    push_extended(&mut out, b"MOMM")?;
-    push_circles(&mut out, pens.as_slice())?;
+    push_head(&mut out, &pens)?;
     push_figures(&mut out, &pens, pieces)?;
     Ok(out)
 }

@@ -53,14 +53,20 @@ pub fn push_selection(out: &mut Vec<u8>, number: u64) -> Result<(), AllocError>
     put(out, b"*\n")
 }
 
+// Appends a coordinate behind its letter.
+fn push_coordinate(out: &mut Vec<u8>, letter: &[u8], z: i64) -> Result<(), AllocError>
+    ensures { OnOk result (out.new.items ≡ out.old.items ++ (letter.now ++ signed_decimal z)) }
+{
+    put(out, letter)?;
+    put_signed(out, z)
+}
+
 // Appends an operation at a spot.
 fn push_operation(out: &mut Vec<u8>, to: Spot, code: &[u8]) -> Result<(), AllocError>
     ensures { OnOk result (out.new.items ≡ out.old.items ++ spec.spelled (spec.operation to code.now)) }
 {
-    put(out, b"X")?;
-    put_signed(out, to.x)?;
-    put(out, b"Y")?;
-    put_signed(out, to.y)?;
+    push_coordinate(out, b"X", to.x)?;
+    push_coordinate(out, b"Y", to.y)?;
     put(out, code)?;
     put(out, b"*\n")
 }
