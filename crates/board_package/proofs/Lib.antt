@@ -20,3 +20,6 @@ pub mod Staging
 pub mod Taking
 pub mod Walking
 pub mod Seen
+pub mod OneTake
+pub mod Adding
+pub mod Listing

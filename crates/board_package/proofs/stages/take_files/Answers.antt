@@ -1,10 +1,16 @@
-use Rattle.std.proofs.Common.{◌∙◌}
+use Rattle.std.proofs.Common.{◌∙◌, IfSome, List, refl, subst, arith}
+use lib.Seq.{take_all}
+use Rattle.std.specs.List.{filter}
 use Rattle.board_package.specs.HandedBoard.{course}
 use Rattle.board_package.specs.HandedLabelled.{GoesLabelledHanded}
+use Rattle.board_package.specs.LabelledBoard.{GoesLabelled}
 use Rattle.board_package.specs.LabelledCauses.{labelled_faults, labelled_so_far}
+use Rattle.board_package.specs.PackageBoard.{WalksBy}
+use Rattle.board_package.specs.declared.entry.Entry.{Entry}
 use Rattle.board_package.proofs.LabelCauses.{files_cause_more, files_walked_more, needed}
 use Rattle.board_package.proofs.LabelStaging.{files_more_handed}
-use Rattle.board_package.proofs.Lift.{climbs, faultless_both, kept_after_by, leaves_on}
+use Rattle.board_package.proofs.Lift.{climbs, faultless_both, kept_after_by, leaves_on, told_all}
+use Rattle.board_package.proofs.OneTake.{leaves_none, not_ok}
 use Rattle.board_package.proofs.Walking.{passing_walk_more}
 use Rattle.board_package.proofs.stages.take_files.Goals as goal
 
@@ -42,3 +48,36 @@ returns-in_err-take_needed-clause-handed_cause g c =
 
 pub returns-in_err-take_needed-clause-leaves : goal.returns-in_err-take_needed-clause-leaves
 returns-in_err-take_needed-clause-leaves g c = leaves_on c.loop-entry.invariant.leaves c.take_needed.ensures.leaves
+
+pub loop-entry-init : goal.loop-entry-init
+loop-entry-init g c = record {
+  leaves = leaves_none g.P.Package.held g.P.Package.handed g.P.Package.faults c.args.package.now c.args.package.now refl refl (omega arith);
+  faultless = record { count_stays = refl; lost_stays = refl };
+  walked = told_all (g.P.Package.held c.args.package.now) _ (λ files. refl);
+  handed = refl;
+  parts = c.requires.lawful;
+  layers = refl;
+  rise = c.requires.rise;
+}
+
+pub returns-in_err-take_needed-clause-found : goal.returns-in_err-take_needed-clause-found
+returns-in_err-take_needed-clause-found g c = not_ok _ c.from_residual.result c.in_err-take_needed.field-0.0 c.from_residual.ensures.1
+
+pub returns-in_err-take_needed-clause-handed : goal.returns-in_err-take_needed-clause-handed
+returns-in_err-take_needed-clause-handed g c = not_ok _ c.from_residual.result c.in_err-take_needed.field-0.0 c.from_residual.ensures.1
+
+pub returns-in_err-take_needed-clause-parts : goal.returns-in_err-take_needed-clause-parts
+returns-in_err-take_needed-clause-parts g c = not_ok _ c.from_residual.result c.in_err-take_needed.field-0.0 c.from_residual.ensures.1
+
+pub returns-in_err-take_needed-clause-rise : goal.returns-in_err-take_needed-clause-rise
+returns-in_err-take_needed-clause-rise g c = not_ok _ c.from_residual.result c.in_err-take_needed.field-0.0 c.from_residual.ensures.1
+
+pub returns-clause-found : goal.returns-clause-found
+returns-clause-found g c =
+    subst (λ (xs : List Entry). IfSome (g.P.Package.held c.args.package.now) (λ files. WalksBy (GoesLabelled c.args.naming files) (filter (needed c.args.naming) xs) (labelled_so_far c.args.parts.now c.args.tables.now) (labelled_so_far c.loop-entry.parts c.loop-entry.tables)))
+    (take_all c.loop-entry.entry-index c.args.entries.now c.loop-entry-test.false) c.loop-entry.invariant.walked
+
+pub returns-clause-handed : goal.returns-clause-handed
+returns-clause-handed g c =
+    subst (λ (xs : List Entry). WalksBy (GoesLabelledHanded c.args.naming) (filter (needed c.args.naming) xs) (course (g.P.Package.handed c.args.package.now) (labelled_so_far c.args.parts.now c.args.tables.now)) (course (g.P.Package.handed c.loop-entry.package) (labelled_so_far c.loop-entry.parts c.loop-entry.tables)))
+    (take_all c.loop-entry.entry-index c.args.entries.now c.loop-entry-test.false) c.loop-entry.invariant.handed
