@@ -5,16 +5,19 @@ use Rattle.board_shapes.specs.Laws.{PiecesUnderOneProbeTouch}
 use Rattle.board_shapes.specs.Plain.{PlainBoard}
 use Rattle.board_shapes.specs.Tables.{IsNear, IsTables, point_of}
 use Rattle.board_shapes.specs.Touching.{UnderAt}
-use Rattle.tables.specs.Lists.{AreLeast}
+use Rattle.tables.specs.Lists.{AreRows}
 use Rattle.tables.specs.Tables.{Source, Tables, TestPoint}
+use Rattle.verdict.specs.declared.verdict.Branch.{Branch}
+use Rattle.verdict.specs.declared.verdict.Short.{Short}
 use Rattle.verdict.specs.declared.verdict.Twig.{Twig}
 use Rattle.verdict.specs.declared.verdict.Verdict.{Verdict}
 use Rattle.verdict.specs.Forest.{AreTrees, IsForest, Holds, StandApart, StandOnce}
 use Rattle.verdict.specs.Right.{Clause, Trees, Covers, Apart, Points, Opens, Shorts, Branches, Bare, Counts, Spots, Sources, AreLines, BeginsAtHome, BeginsBeneath, FailsFirst, HasBranches, IsRight, Says, all_opens, all_shorts, bare_from, number_of, outline, source_of, spot_of}
 use Rattle.witness_check.specs.Findings.{FindingsFail, FindingsSay}
+use Rattle.witness_check.specs.Homes.{AreHomes, HasLeast}
 use Rattle.witness_check.specs.Lines.{AreLinesBy}
 use Rattle.witness_check.specs.Supplied.{AreSources, AreSpots, SupplementRuled}
-use Rattle.witness_check.proofs.Lines.{at_home, from_home, home_known, lines_each, lines_many, lines_right, shorts_along}
+use Rattle.witness_check.proofs.Lines.{GoesAlong, at_home, from_home, home_known, lines_each, lines_many, lines_right, shorts_along}
 use Rattle.witness_check.proofs.Tables.{apart_as, apart_where, once_as, once_where, trees_as, trees_where, under_close}
 
 -- The nets are a forest, and the table has the number of each piece's net.
@@ -22,10 +25,10 @@ pub record AreNetted (b : PlainBoard) (nets : List (List Twig)) (numbers : List 
   pub forest : IsForest (length b.pieces) (IsNear b) nets
   pub numbered : (i p : ℕ) → Holds nets i p → get_or numbers p 0 ≡ i
 
--- So are they, and the lines are right by their homes, which are the least pieces under the probes.
+-- So are they, and the lines are right by their homes, which are pieces under the probes.
 pub record ArePointed (b : PlainBoard) (v : Verdict) (numbers : List ℕ) (homes : List (Option ℕ)) : Type 0 where
   pub netted : AreNetted b v.nets numbers
-  pub least : AreLeast (length b.probes) (UnderAt b) homes
+  pub under : AreHomes (length b.probes) (UnderAt b) v.shorts homes
   pub lines : AreLinesBy numbers b.probes homes v.points
 
 -- ---- What a clause says by the tables
@@ -33,23 +36,36 @@ pub record ArePointed (b : PlainBoard) (v : Verdict) (numbers : List ℕ) (homes
 points_where : (b : PlainBoard) (t : Tables) (v : Verdict) (numbers : List ℕ) (homes : List (Option ℕ)) → IsTables b t → ArePointed b v numbers homes → Says t v Points
 points_where b t v numbers homes is p =
     subst (λ (points : List TestPoint). AreLines v.nets t.beneath points v.points) (sym is.points)
-    (lines_right (length b.pieces) (IsNear b) v.nets numbers p.netted.forest p.netted.numbered (UnderAt b) b.probes homes t.beneath v.points p.least.many is.beneath.many p.lines.many p.least.each is.beneath.each (home_known b homes p.least) p.lines.each)
+    (lines_right (length b.pieces) (IsNear b) v.nets numbers p.netted.forest p.netted.numbered (UnderAt b) b.probes homes t.beneath v.points p.under.many is.beneath.many p.lines.many p.under.each is.beneath.each (home_known b v.shorts homes p.under) p.lines.each)
 
-points_as : PiecesUnderOneProbeTouch → (b : PlainBoard) (t : Tables) (v : Verdict) (numbers : List ℕ) (homes : List (Option ℕ)) → IsTables b t → AreNetted b v.nets numbers → AreLeast (length b.probes) (UnderAt b) homes → Says t v Points → AreLinesBy numbers b.probes homes v.points
-points_as law b t v numbers homes is netted least says =
+points_as : PiecesUnderOneProbeTouch → (b : PlainBoard) (t : Tables) (v : Verdict) (numbers : List ℕ) (homes : List (Option ℕ)) → IsTables b t → AreNetted b v.nets numbers → AreHomes (length b.probes) (UnderAt b) v.shorts homes → Says t v Points → AreLinesBy numbers b.probes homes v.points
+points_as law b t v numbers homes is netted under says =
     let all : AreLines v.nets t.beneath (map point_of b.probes) v.points = subst (λ (points : List TestPoint). AreLines v.nets t.beneath points v.points) is.points says in
     record {
       many = lines_many v.nets t.beneath b.probes v.points all;
-      each = lines_each (length b.pieces) (IsNear b) v.nets numbers netted.forest netted.numbered (UnderAt b) (under_close law b) b.probes homes t.beneath v.points least.many least.each is.beneath.each (home_known b homes least) all;
+      each = lines_each (length b.pieces) (IsNear b) v.nets numbers netted.forest netted.numbered (UnderAt b) (under_close law b) b.probes homes t.beneath v.points under.many under.each is.beneath.each (home_known b v.shorts homes under) all;
     }
 
+-- Where branches begin, by their homes and by the tables.
+homes_along : (count : ℕ) (R : ℕ → ℕ → Type 0) (homes : List (Option ℕ)) (beneath : List (List ℕ)) → AreRows count R beneath → (s : Short) → All (HasLeast count R homes) s.branches → All (λ b. GoesAlong (BeginsAtHome homes) (BeginsBeneath beneath) count b × GoesAlong (BeginsBeneath beneath) (BeginsAtHome homes) count b) s.branches
+homes_along count R homes beneath rows s least = λ k d below. one (get_or s.branches k d) (least k d below) where
+  one : (b : Branch) → HasLeast count R homes b → GoesAlong (BeginsAtHome homes) (BeginsBeneath beneath) count b × GoesAlong (BeginsBeneath beneath) (BeginsAtHome homes) count b
+  one b has = (
+    (λ within p. from_home (R b.probe) homes beneath b.probe p (has within) (rows.each b.probe within)),
+    λ within p. at_home (R b.probe) homes beneath b.probe p (has within) (rows.each b.probe within),
+  )
+
+-- The same of the verdict's shorts.
+shorts_go : (b : PlainBoard) (t : Tables) (v : Verdict) (numbers : List ℕ) (homes : List (Option ℕ)) → IsTables b t → ArePointed b v numbers homes → All (λ s. All (λ b. GoesAlong (BeginsAtHome homes) (BeginsBeneath t.beneath) (length v.points) b × GoesAlong (BeginsBeneath t.beneath) (BeginsAtHome homes) (length v.points) b) s.branches) v.shorts
+shorts_go b t v numbers homes is p = λ k d below. homes_along (length v.points) (UnderAt b) homes t.beneath rows (get_or v.shorts k d) (subst (λ (n : ℕ). All (HasLeast n (UnderAt b) homes) (get_or v.shorts k d).branches) (sym p.lines.many) (p.under.least k d below)) where
+  rows : AreRows (length v.points) (UnderAt b) t.beneath
+  rows = subst (λ (n : ℕ). AreRows n (UnderAt b) t.beneath) (sym p.lines.many) is.beneath
+
 shorts_where : (b : PlainBoard) (t : Tables) (v : Verdict) (numbers : List ℕ) (homes : List (Option ℕ)) → IsTables b t → ArePointed b v numbers homes → All (HasBranches v.nets (BeginsAtHome homes) v.points) v.shorts → Says t v Branches
-shorts_where b t v numbers homes is p all =
-    shorts_along v.nets (BeginsAtHome homes) (BeginsBeneath t.beneath) v.points (λ k q below. from_home (length b.probes) (UnderAt b) homes t.beneath p.least.each is.beneath.each k q (let e = p.lines.many in omega arith)) v.shorts all
+shorts_where b t v numbers homes is p all = shorts_along v.nets (BeginsAtHome homes) (BeginsBeneath t.beneath) v.points v.shorts (λ k d below i e within. (shorts_go b t v numbers homes is p k d below i e within).0) all
 
 shorts_as : (b : PlainBoard) (t : Tables) (v : Verdict) (numbers : List ℕ) (homes : List (Option ℕ)) → IsTables b t → ArePointed b v numbers homes → Says t v Branches → All (HasBranches v.nets (BeginsAtHome homes) v.points) v.shorts
-shorts_as b t v numbers homes is p all =
-    shorts_along v.nets (BeginsBeneath t.beneath) (BeginsAtHome homes) v.points (λ k q below. at_home (length b.probes) (UnderAt b) homes t.beneath p.least.each is.beneath.each k q (let e = p.lines.many in omega arith)) v.shorts all
+shorts_as b t v numbers homes is p all = shorts_along v.nets (BeginsBeneath t.beneath) (BeginsAtHome homes) v.points v.shorts (λ k d below i e within. (shorts_go b t v numbers homes is p k d below i e within).1) all
 
 opens_where : (b : PlainBoard) (t : Tables) (v : Verdict) → IsTables b t → v.opens ≡ all_opens 0 b.names v.points → Says t v Opens
 opens_where b t v is e = subst (λ (names : List (List ℕ)). v.opens ≡ all_opens 0 names v.points) (sym is.names) e
@@ -164,8 +180,8 @@ covers_fail b t v is trees not = record { clause = Covers; number = refl; fails 
 pub apart_fail : (b : PlainBoard) (t : Tables) (v : Verdict) → IsTables b t → AreTrees (length b.pieces) (IsNear b) v.nets → StandOnce (length b.pieces) v.nets → (StandApart (IsNear b) v.nets → ⊥) → FailsFirst t v 3
 apart_fail b t v is trees once not = record { clause = Apart; number = refl; fails = λ says. not (apart_as b t v.nets is says); before = past_covers b t v is trees once }
 
-pub points_fail : PiecesUnderOneProbeTouch → (b : PlainBoard) (t : Tables) (v : Verdict) (numbers : List ℕ) (homes : List (Option ℕ)) → IsTables b t → AreNetted b v.nets numbers → AreLeast (length b.probes) (UnderAt b) homes → (AreLinesBy numbers b.probes homes v.points → ⊥) → FailsFirst t v 4
-points_fail law b t v numbers homes is n least not = record { clause = Points; number = refl; fails = λ says. not (points_as law b t v numbers homes is n least says); before = past_apart b t v numbers is n }
+pub points_fail : PiecesUnderOneProbeTouch → (b : PlainBoard) (t : Tables) (v : Verdict) (numbers : List ℕ) (homes : List (Option ℕ)) → IsTables b t → AreNetted b v.nets numbers → AreHomes (length b.probes) (UnderAt b) v.shorts homes → (AreLinesBy numbers b.probes homes v.points → ⊥) → FailsFirst t v 4
+points_fail law b t v numbers homes is n under not = record { clause = Points; number = refl; fails = λ says. not (points_as law b t v numbers homes is n under says); before = past_apart b t v numbers is n }
 
 -- The clause is one of the findings.
 finding_number : (names : List (List ℕ)) (homes : List (Option ℕ)) (v : Verdict) (clause : Clause) → (FindingsSay names homes v clause → ⊥) → (4 < number_of clause) × (number_of clause < 8)

@@ -1,13 +1,13 @@
 -- The lines of points by homes and by tables.
 use Rattle.std.proofs.Common.{◌≡◌, ◌⊎◌, inl, inr, ℕ, zero, suc, ◌+◌, ◌<◌, Bool, true, false, if◌then◌else◌, List, [], ◌∷◌, ◌++◌, length, map, get_or, Contains, All, Option, Some, None, MatchOption, IfSome, refl, sym, ap, subst, ◌∙◌, arith}
-use Rattle.std.proofs.lemmas.List.Elements.{All-from_get_or, All-weaker}
+use Rattle.std.proofs.lemmas.List.Elements.{All-from_get_or, All-tail}
 use Rattle.std.proofs.lemmas.Option.{slice_get_cases, slice_get_within, slice_get-get_or}
 use Rattle.board_shapes.specs.Lawful.{IsProbe}
 use Rattle.board_shapes.specs.Plain.{PlainBoard}
 use Rattle.board_shapes.specs.Tables.{point_of}
 use Rattle.board_shapes.specs.Touching.{UnderAt}
 use Rattle.board_shapes.specs.declared.probe.Probe.{Probe}
-use Rattle.tables.specs.Lists.{AreLeast, IsLeast, Lists}
+use Rattle.tables.specs.Lists.{IsLeast, Lists}
 use Rattle.tables.specs.Tables.{row_at}
 use Rattle.verdict.specs.declared.verdict.Twig.{Twig}
 use Rattle.verdict.specs.declared.verdict.Branch.{Branch}
@@ -17,6 +17,7 @@ use Rattle.verdict.specs.Forest.{IsForest, Holds, first_piece}
 use Rattle.verdict.specs.Right.{AreBranches, AreLines, BeginsAt, BeginsAtHome, BeginsBeneath, HasBranches, IsLeastOf, first_from, marks}
 use Rattle.verdict.proofs.Holding.{held_within}
 use Rattle.verdict.specs.Seats.{net_by}
+use Rattle.witness_check.specs.Homes.{AreHomes, IsOneOf}
 use Rattle.witness_check.specs.Lines.{AreLinesBy, IsLineAt, IsLineBy}
 
 -- ---- One line
@@ -33,20 +34,20 @@ abbrev NetIs : List (List Twig) → List ℕ → Option ℕ → Type 0
 NetIs nets row net = MatchOption net (row ≡ []) (λ n. (piece : ℕ) × Contains row piece × Holds nets n piece)
 
 net_right : (size : ℕ) (near : ℕ → ℕ → Type 0) (nets : List (List Twig)) (numbers : List ℕ) → IsForest size near nets → ((i p : ℕ) → Holds nets i p → get_or numbers p 0 ≡ i)
-    → (P : ℕ → Type 0) (row : List ℕ) (home : Option ℕ) → Lists P row → IsLeast P home → IfSome home (λ p. p < size) → NetIs nets row (net_by numbers home)
+    → (P : ℕ → Type 0) (row : List ℕ) (home : Option ℕ) → Lists P row → IsOneOf P home → IfSome home (λ p. p < size) → NetIs nets row (net_by numbers home)
 net_right size near nets numbers forest numbered P row None lists least known = none_listed P row lists least
 net_right size near nets numbers forest numbered P row (Some p) lists least known =
     let home = forest.covers.held p known in
-    (p, lists.all p least.0, subst (λ (i : ℕ). Holds nets i p) (sym (numbered home.0 p home.1)) home.1)
+    (p, lists.all p least, subst (λ (i : ℕ). Holds nets i p) (sym (numbered home.0 p home.1)) home.1)
 
 net_back : (size : ℕ) (near : ℕ → ℕ → Type 0) (nets : List (List Twig)) (numbers : List ℕ) → IsForest size near nets → ((i p : ℕ) → Holds nets i p → get_or numbers p 0 ≡ i)
-    → (P : ℕ → Type 0) → ((p q : ℕ) → P p → P q → (p ≡ q) ⊎ near p q) → (row : List ℕ) (home net : Option ℕ) → Lists P row → IsLeast P home → IfSome home (λ p. p < size) → NetIs nets row net → net ≡ net_by numbers home
+    → (P : ℕ → Type 0) → ((p q : ℕ) → P p → P q → (p ≡ q) ⊎ near p q) → (row : List ℕ) (home net : Option ℕ) → Lists P row → IsOneOf P home → IfSome home (λ p. p < size) → NetIs nets row net → net ≡ net_by numbers home
 net_back size near nets numbers forest numbered P close row None None lists least known is = refl
 net_back size near nets numbers forest numbered P close row None (Some n) lists least known (piece, inside, held) = absurd (least piece (lists.only piece inside))
-net_back size near nets numbers forest numbered P close row (Some p) None lists least known is = absurd (none_inside row p is (lists.all p least.0))
+net_back size near nets numbers forest numbered P close row (Some p) None lists least known is = absurd (none_inside row p is (lists.all p least))
 net_back size near nets numbers forest numbered P close row (Some p) (Some n) lists least known (piece, inside, held) =
     let home = forest.covers.held p known in
-    let same : home.0 ≡ n = elim (close p piece least.0 (lists.only piece inside)) [
+    let same : home.0 ≡ n = elim (close p piece least (lists.only piece inside)) [
       | inl one ↦ forest.covers.one_net home.0 n piece (subst (λ (x : ℕ). Holds nets home.0 x) one home.1) held
       | inr touch ↦ forest.apart home.0 n p piece home.1 held touch
     ] in
@@ -63,7 +64,7 @@ line_first numbers p h l probe line is e f = subst (λ (x : Probe). IsLineBy num
 
 pub lines_right : (size : ℕ) (near : ℕ → ℕ → Type 0) (nets : List (List Twig)) (numbers : List ℕ) → IsForest size near nets → ((i p : ℕ) → Holds nets i p → get_or numbers p 0 ≡ i)
     → (R : ℕ → ℕ → Type 0) (probes : List Probe) (homes : List (Option ℕ)) (beneath : List (List ℕ)) (lines : List PointLine) → length homes ≡ length probes → length beneath ≡ length probes → length lines ≡ length probes
-    → ((k : ℕ) → k < length probes → IsLeast (R k) (get_or homes k None)) → ((k : ℕ) → k < length probes → Lists (R k) (row_at beneath k)) → ((k : ℕ) → k < length probes → IfSome (get_or homes k None) (λ p. p < size))
+    → ((k : ℕ) → k < length probes → IsOneOf (R k) (get_or homes k None)) → ((k : ℕ) → k < length probes → Lists (R k) (row_at beneath k)) → ((k : ℕ) → k < length probes → IfSome (get_or homes k None) (λ p. p < size))
     → ((k : ℕ) → k < length probes → IsLineAt numbers probes homes lines k) → AreLines nets beneath (map point_of probes) lines
 lines_right size near nets numbers forest numbered R [] [] [] [] long many all least rows known each = tt
 lines_right size near nets numbers forest numbered R [] [] [] (l ∷ ls) long many all least rows known each = absurd (omega arith)
@@ -88,7 +89,7 @@ lines_many nets (r ∷ rs) (p ∷ ps) (l ∷ ls) (first, all) = let e = lines_ma
 
 pub lines_each : (size : ℕ) (near : ℕ → ℕ → Type 0) (nets : List (List Twig)) (numbers : List ℕ) → IsForest size near nets → ((i p : ℕ) → Holds nets i p → get_or numbers p 0 ≡ i)
     → (R : ℕ → ℕ → Type 0) → ((k p q : ℕ) → R k p → R k q → (p ≡ q) ⊎ near p q) → (probes : List Probe) (homes : List (Option ℕ)) (beneath : List (List ℕ)) (lines : List PointLine) → length homes ≡ length probes
-    → ((k : ℕ) → k < length probes → IsLeast (R k) (get_or homes k None)) → ((k : ℕ) → k < length probes → Lists (R k) (row_at beneath k)) → ((k : ℕ) → k < length probes → IfSome (get_or homes k None) (λ p. p < size))
+    → ((k : ℕ) → k < length probes → IsOneOf (R k) (get_or homes k None)) → ((k : ℕ) → k < length probes → Lists (R k) (row_at beneath k)) → ((k : ℕ) → k < length probes → IfSome (get_or homes k None) (λ p. p < size))
     → AreLines nets beneath (map point_of probes) lines → (k : ℕ) → k < length probes → IsLineAt numbers probes homes lines k
 lines_each size near nets numbers forest numbered R close [] homes beneath lines long least rows known all k below = absurd (omega arith)
 lines_each size near nets numbers forest numbered R close (p ∷ ps) [] beneath lines long least rows known all k below = absurd (omega arith)
@@ -102,14 +103,14 @@ lines_each size near nets numbers forest numbered R close (p ∷ ps) (h ∷ hs) 
 -- ---- What right lines say
 
 -- the piece of a home is a piece of the board
-pub home_known : (b : PlainBoard) (homes : List (Option ℕ)) → AreLeast (length b.probes) (UnderAt b) homes → (k : ℕ) → k < length b.probes → IfSome (get_or homes k None) (λ p. p < length b.pieces)
-home_known b homes least k below = known (get_or homes k None) (least.each k below) where
-  known : (home : Option ℕ) → IsLeast (UnderAt b k) home → IfSome home (λ p. p < length b.pieces)
-  known None least = tt
-  known (Some p) least = slice_get_within b.pieces p least.0.piece least.0.piece_is
+pub home_known : (b : PlainBoard) (shorts : List Short) (homes : List (Option ℕ)) → AreHomes (length b.probes) (UnderAt b) shorts homes → (k : ℕ) → k < length b.probes → IfSome (get_or homes k None) (λ p. p < length b.pieces)
+home_known b shorts homes are k below = known (get_or homes k None) (are.each k below) where
+  known : (home : Option ℕ) → IsOneOf (UnderAt b k) home → IfSome home (λ p. p < length b.pieces)
+  known None one = tt
+  known (Some p) one = slice_get_within b.pieces p one.piece one.piece_is
 
-pub homes_known : (b : PlainBoard) (homes : List (Option ℕ)) → AreLeast (length b.probes) (UnderAt b) homes → All (λ home. IfSome home (λ p. p < length b.pieces)) homes
-homes_known b homes least = All-from_get_or (λ home. IfSome home (λ p. p < length b.pieces)) homes None (λ k below. home_known b homes least k (let e = least.many in omega arith))
+pub homes_known : (b : PlainBoard) (shorts : List Short) (homes : List (Option ℕ)) → AreHomes (length b.probes) (UnderAt b) shorts homes → All (λ home. IfSome home (λ p. p < length b.pieces)) homes
+homes_known b shorts homes are = All-from_get_or (λ home. IfSome home (λ p. p < length b.pieces)) homes None (λ k below. home_known b shorts homes are k (let e = are.many in omega arith))
 
 -- a fact that each line has from its probe and its home
 all_lines : (Q : PointLine → Type 0) (numbers : List ℕ) (probes : List Probe) (homes : List (Option ℕ)) (lines : List PointLine) → AreLinesBy numbers probes homes lines
@@ -151,11 +152,11 @@ begins_home P row (Some q) p lists least (inside, all) =
     let same : q ≡ p = omega arith in
     ap Some same
 
-pub at_home : (count : ℕ) (R : ℕ → ℕ → Type 0) (homes : List (Option ℕ)) (beneath : List (List ℕ)) → ((k : ℕ) → k < count → IsLeast (R k) (get_or homes k None)) → ((k : ℕ) → k < count → Lists (R k) (row_at beneath k)) → (k p : ℕ) → k < count → BeginsBeneath beneath k p → BeginsAtHome homes k p
-at_home count R homes beneath least rows k p below begins = begins_home (R k) (row_at beneath k) (get_or homes k None) p (rows k below) (least k below) begins
+pub at_home : (P : ℕ → Type 0) (homes : List (Option ℕ)) (beneath : List (List ℕ)) (k p : ℕ) → IsLeast P (get_or homes k None) → Lists P (row_at beneath k) → BeginsBeneath beneath k p → BeginsAtHome homes k p
+at_home P homes beneath k p least rows begins = begins_home P (row_at beneath k) (get_or homes k None) p rows least begins
 
-pub from_home : (count : ℕ) (R : ℕ → ℕ → Type 0) (homes : List (Option ℕ)) (beneath : List (List ℕ)) → ((k : ℕ) → k < count → IsLeast (R k) (get_or homes k None)) → ((k : ℕ) → k < count → Lists (R k) (row_at beneath k)) → (k p : ℕ) → k < count → BeginsAtHome homes k p → BeginsBeneath beneath k p
-from_home count R homes beneath least rows k p below home = home_begins (R k) (row_at beneath k) (get_or homes k None) p (rows k below) (least k below) home
+pub from_home : (P : ℕ → Type 0) (homes : List (Option ℕ)) (beneath : List (List ℕ)) (k p : ℕ) → IsLeast P (get_or homes k None) → Lists P (row_at beneath k) → BeginsAtHome homes k p → BeginsBeneath beneath k p
+from_home P homes beneath k p least rows home = home_begins P (row_at beneath k) (get_or homes k None) p rows least home
 
 first_step : (m : Bool) (n probe more : ℕ) (later : Option ℕ) → (later ≡ Some probe → probe < n + 1 + more) → (if m then Some n else later) ≡ Some probe → probe < n + (more + 1)
 first_step true n probe more later rest e = let same : n ≡ probe = some_one n probe e in omega arith
@@ -169,14 +170,18 @@ begins_along : (a b : ℕ → Type 0) → ((p : ℕ) → a p → b p) → (piece
 begins_along a b along [] h = absurd h
 begins_along a b along (p ∷ rest) h = along p h
 
-branches_along : (net : List Twig) (starts more : ℕ → ℕ → Type 0) (lines : List PointLine) → ((probe p : ℕ) → probe < length lines → starts probe p → more probe p) → (number : ℕ) (ends : List ℕ) (branches : List Branch) → AreBranches net starts lines number ends branches → AreBranches net more lines number ends branches
-branches_along net starts more lines along number ends [] all = tt
-branches_along net starts more lines along number ends (b ∷ rest) (first, all) = (
-  record { probe = first.probe; start = begins_along (starts b.probe) (more b.probe) (λ p. along b.probe p (let w = first_within number b.name 0 lines b.probe first.probe in omega arith)) b.pieces first.start; path = first.path },
-  branches_along net starts more lines along number (ends ++ b.pieces) rest all,
+-- What holds of a branch's start goes along to another.
+abbrev pub GoesAlong : (starts more : ℕ → ℕ → Type 0) → ℕ → Branch → Type 0
+GoesAlong starts more count b = b.probe < count → (p : ℕ) → starts b.probe p → more b.probe p
+
+branches_along : (net : List Twig) (starts more : ℕ → ℕ → Type 0) (lines : List PointLine) (number : ℕ) (ends : List ℕ) (branches : List Branch) → All (GoesAlong starts more (length lines)) branches → AreBranches net starts lines number ends branches → AreBranches net more lines number ends branches
+branches_along net starts more lines number ends [] along all = tt
+branches_along net starts more lines number ends (b ∷ rest) along (first, all) = (
+  record { probe = first.probe; start = begins_along (starts b.probe) (more b.probe) (λ p. along 0 b (omega arith) (let w = first_within number b.name 0 lines b.probe first.probe in omega arith) p) b.pieces first.start; path = first.path },
+  branches_along net starts more lines number (ends ++ b.pieces) rest (All-tail (GoesAlong starts more (length lines)) b rest along) all,
 )
 
-pub shorts_along : (nets : List (List Twig)) (starts more : ℕ → ℕ → Type 0) (lines : List PointLine) → ((probe p : ℕ) → probe < length lines → starts probe p → more probe p) → (shorts : List Short) → All (HasBranches nets starts lines) shorts → All (HasBranches nets more lines) shorts
-shorts_along nets starts more lines along shorts all = All-weaker (HasBranches nets starts lines) (HasBranches nets more lines) one shorts all where
-  one : (s : Short) → HasBranches nets starts lines s → HasBranches nets more lines s
-  one s has = record { net = has.net; there = has.there; branches = branches_along has.net starts more lines along s.net (first_piece has.net ∷ []) s.branches has.branches }
+pub shorts_along : (nets : List (List Twig)) (starts more : ℕ → ℕ → Type 0) (lines : List PointLine) (shorts : List Short) → All (λ s. All (GoesAlong starts more (length lines)) s.branches) shorts → All (HasBranches nets starts lines) shorts → All (HasBranches nets more lines) shorts
+shorts_along nets starts more lines shorts along all = λ k d below. one (get_or shorts k d) (along k d below) (all k d below) where
+  one : (s : Short) → All (GoesAlong starts more (length lines)) s.branches → HasBranches nets starts lines s → HasBranches nets more lines s
+  one s goes has = record { net = has.net; there = has.there; branches = branches_along has.net starts more lines s.net (first_piece has.net ∷ []) s.branches goes has.branches }

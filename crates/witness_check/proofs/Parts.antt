@@ -7,14 +7,15 @@ use Rattle.board_shapes.specs.Touching.{UnderAt}
 use Rattle.board_shapes.specs.declared.placed.Placed.{Placed}
 use Rattle.board_shapes.specs.declared.probe.Probe.{Probe}
 use Rattle.board_shapes.specs.declared.shape.Shape.{Shape}
-use Rattle.tables.specs.Lists.{AreLeast}
 use Rattle.verdict.specs.declared.verdict.PointLine.{PointLine}
+use Rattle.verdict.specs.declared.verdict.Short.{Short}
 use Rattle.verdict.specs.declared.verdict.Twig.{Twig}
 use Rattle.verdict.specs.declared.verdict.Verdict.{Verdict}
 use Rattle.verdict.specs.Forest.{AreTrees, Holds, IsForest, StandApart, StandOnce}
 use Rattle.verdict.specs.Right.{Clause, bare_from}
 use Rattle.witness_check.specs.Asked.{AreTested}
 use Rattle.witness_check.specs.Findings.{FindingsFail, FindingsRuled, FindingsSay}
+use Rattle.witness_check.specs.Homes.{AreHomes}
 use Rattle.witness_check.specs.Lines.{AreLinesBy}
 use Rattle.witness_check.specs.Nets.{HasStanding, twig_count}
 use Rattle.witness_check.proofs.Lines.{home_known, homes_known, lines_named, lines_netted}
@@ -77,8 +78,8 @@ lines_moved a c probes own_probes rows homes lines own_lines e f g h by =
     (subst (λ (x : List Probe). AreLinesBy c x rows lines) f
     (subst (λ (x : List ℕ). AreLinesBy x probes rows lines) e by)))
 
-pub pointed : (b : PlainBoard) (v : Verdict) (numbers places : List ℕ) (homes : List (Option ℕ)) → IsForest (length b.pieces) (IsNear b) v.nets → HasStanding (length b.pieces) v.nets numbers places → AreLeast (length b.probes) (UnderAt b) homes → AreLinesBy numbers b.probes homes v.points → ArePointed b v numbers homes
-pointed b v numbers places homes forest stood least lines = record { netted = record { forest = forest; numbered = stood.numbered }; least = least; lines = lines }
+pub pointed : (b : PlainBoard) (v : Verdict) (numbers places : List ℕ) (homes : List (Option ℕ)) → IsForest (length b.pieces) (IsNear b) v.nets → HasStanding (length b.pieces) v.nets numbers places → AreHomes (length b.probes) (UnderAt b) v.shorts homes → AreLinesBy numbers b.probes homes v.points → ArePointed b v numbers homes
+pointed b v numbers places homes forest stood under lines = record { netted = record { forest = forest; numbered = stood.numbered }; under = under; lines = lines }
 
 pub lines_told : (b : PlainBoard) (v : Verdict) (table numbers : List ℕ) (probes : List Probe) (rows homes : List (Option ℕ)) (lines : List PointLine) (test : Bool) → table ≡ numbers → probes ≡ b.probes → rows ≡ homes → lines ≡ v.points
     → IsTrue test ↔ AreLinesBy table probes rows lines → test ≡ true → AreLinesBy numbers b.probes homes v.points
@@ -93,14 +94,17 @@ pub named_in : (b : PlainBoard) (v : Verdict) (numbers : List ℕ) (homes : List
 named_in b v numbers homes probes lines same known = lines_named (length b.names) b.layers numbers b.probes homes v.points lines (subst (λ (x : List Probe). All (IsProbe (length b.names) b.layers) x) same known)
 
 pub netted_in : (b : PlainBoard) (v : Verdict) (numbers : List ℕ) (homes : List (Option ℕ)) → ArePointed b v numbers homes → All (λ line. IfSome line.net (λ net. net < length v.nets)) v.points
-netted_in b v numbers homes p = lines_netted (length b.pieces) (IsNear b) v.nets numbers p.netted.forest p.netted.numbered b.probes homes v.points p.lines (home_known b homes p.least)
+netted_in b v numbers homes p = lines_netted (length b.pieces) (IsNear b) v.nets numbers p.netted.forest p.netted.numbered b.probes homes v.points p.lines (home_known b v.shorts homes p.under)
 
 -- ---- Findings, bare points and counts
 
-pub homes_in : (b : PlainBoard) (table numbers : List ℕ) (rows homes : List (Option ℕ)) → table ≡ numbers → length numbers ≡ length b.pieces → rows ≡ homes → AreLeast (length b.probes) (UnderAt b) homes → All (λ home. IfSome home (λ p. p < length table)) rows
-homes_in b table numbers rows homes e long f least =
+pub homes_moved : (b : PlainBoard) (v : Verdict) (shorts : List Short) (homes rows : List (Option ℕ)) → shorts ≡ v.shorts → homes ≡ rows → AreHomes (length b.probes) (UnderAt b) shorts homes → AreHomes (length b.probes) (UnderAt b) v.shorts rows
+homes_moved b v shorts homes rows e f under = subst (λ (x : List (Option ℕ)). AreHomes (length b.probes) (UnderAt b) v.shorts x) f (subst (λ (x : List Short). AreHomes (length b.probes) (UnderAt b) x homes) e under)
+
+pub homes_in : (b : PlainBoard) (v : Verdict) (table numbers : List ℕ) (rows homes : List (Option ℕ)) → table ≡ numbers → length numbers ≡ length b.pieces → rows ≡ homes → AreHomes (length b.probes) (UnderAt b) v.shorts homes → All (λ home. IfSome home (λ p. p < length table)) rows
+homes_in b v table numbers rows homes e long f under =
     let size : length b.pieces ≡ length table = sym long ∙ ap (λ (xs : List ℕ). length xs) (sym e) in
-    subst (λ (n : ℕ). All (λ home. IfSome home (λ p. p < n)) rows) size (subst (λ (x : List (Option ℕ)). All (λ home. IfSome home (λ p. p < length b.pieces)) x) (sym f) (homes_known b homes least))
+    subst (λ (n : ℕ). All (λ home. IfSome home (λ p. p < n)) rows) size (subst (λ (x : List (Option ℕ)). All (λ home. IfSome home (λ p. p < length b.pieces)) x) (sym f) (homes_known b v.shorts homes under))
 
 pub found_fail : (names own : List (List ℕ)) (rows homes : List (Option ℕ)) (v : Verdict) (o : Option ℕ) (n : ℕ) → names ≡ own → rows ≡ homes → FindingsRuled names rows v o → o ≡ Some n → FindingsFail own homes v n
 found_fail names own rows homes v o n e f ruled is =

@@ -1,5 +1,5 @@
 -- What a sweep over sorted intervals tells: that nets stand apart, and the least piece under a probe.
-use Rattle.std.proofs.Common.{◌≡◌, ◌↔◌, ◌⊎◌, inl, inr, ℕ, zero, suc, ◌+◌, ◌<◌, ◌≤◌, List, [], ◌∷◌, ◌++◌, length, get_or, set, take, cond, All, Contains, Option, None, Some, IfSome, sym, ap, subst, ◌∙◌, arith}
+use Rattle.std.proofs.Common.{◌≡◌, ◌↔◌, ◌⊎◌, inl, inr, ℕ, zero, suc, ◌+◌, ◌<◌, ◌≤◌, Bool, true, false, List, [], ◌∷◌, ◌++◌, length, get_or, set, take, cond, All, Contains, Option, None, Some, IfSome, sym, ap, subst, ◌∙◌, arith}
 use Rattle.std.proofs.lemmas.Bool.{cases_eq}
 use Rattle.std.proofs.lemmas.List.{get_or-set_other, get_or-set_same, get_or_default, take_more}
 use Rattle.std.proofs.lemmas.List.Elements.{All-tail}
@@ -8,7 +8,8 @@ use Rattle.tables.specs.Lists.{IsLeast}
 use Rattle.verdict.specs.declared.verdict.Twig.{Twig}
 use Rattle.verdict.specs.Forest.{StandOnce, StandApart, Holds}
 use Rattle.verdict.proofs.Holding.{le_or_lt}
-use Rattle.witness_check.specs.Strips.{AreAgreed, AreClear, ComeTogether, IsAtMost, IsClear, IsCounted, asked_pairs, asked_with, come_together}
+use Rattle.witness_check.specs.Homes.{IsOneOf}
+use Rattle.witness_check.specs.Strips.{AreAgreed, AreClear, ComeTogether, IsClear, IsCounted, IsEnough, asked_pairs, asked_with, come_together}
 use Rattle.witness_check.specs.declared.least.ProbePlace.{ProbePlace}
 use Rattle.witness_check.specs.declared.strips.Interval.{Interval}
 use Rattle.witness_check.proofs.Filing.{Comes, HasPlace}
@@ -124,17 +125,21 @@ asked_most one (two ∷ later) (suc n) = let most = asked_most one later n in om
 pub asked_rest : (rest : List Interval) (one : Interval) (later : List Interval) → rest ≡ one ∷ later → asked_pairs rest ≡ asked_with one later + asked_pairs later
 asked_rest rest one later is = ap asked_pairs is
 
--- ---- The least piece
+-- ---- A piece under each probe
 
-pub least_found : (P : ℕ → Type 0) (found : Option ℕ) → IfSome found P → ((q : ℕ) → P q → IsAtMost found q) → IsLeast P found
-least_found P None under all = all
-least_found P (Some least) under all = (under, all)
+pub one_found : (P : ℕ → Type 0) (wanted : Bool) (found : Option ℕ) → IfSome found P → ((q : ℕ) → P q → IsEnough wanted found q) → IsOneOf P found
+one_found P wanted None under all = all
+one_found P wanted (Some p) under all = under
 
--- What was found for one probe is written anew, and is at most what it was.
-pub kept_all : (homes : List (Option ℕ)) (k : ℕ) (next : Option ℕ) → k < length homes → ((p : ℕ) → IsAtMost (get_or homes k None) p → IsAtMost next p) → (q p : ℕ) → IsAtMost (get_or homes q None) p → IsAtMost (get_or (set homes k next) q None) p
-kept_all homes k next below kept q p h = elim (cases_eq q k) [
-  | inl same ↦ subst (λ (x : ℕ). IsAtMost (get_or (set homes k next) x None) p) (sym same) (subst (λ (o : Option ℕ). IsAtMost o p) (sym (get_or-set_same homes k next None below)) (kept p (subst (λ (x : ℕ). IsAtMost (get_or homes x None) p) same h)))
-  | inr other ↦ subst (λ (o : Option ℕ). IsAtMost o p) (sym (get_or-set_other homes k q next None other)) h
+pub least_found : (P : ℕ → Type 0) (wanted : Bool) (found : Option ℕ) → wanted ≡ true → IfSome found P → ((q : ℕ) → P q → IsEnough wanted found q) → IsLeast P found
+least_found P wanted None on under all = all
+least_found P wanted (Some least) on under all = (under, λ q h. all q h on)
+
+-- What was found for one probe is written anew, and is enough beside what it was enough beside.
+pub kept_all : (wanted : List Bool) (homes : List (Option ℕ)) (k : ℕ) (next : Option ℕ) → k < length homes → ((p : ℕ) → IsEnough (get_or wanted k false) (get_or homes k None) p → IsEnough (get_or wanted k false) next p) → (q p : ℕ) → IsEnough (get_or wanted q false) (get_or homes q None) p → IsEnough (get_or wanted q false) (get_or (set homes k next) q None) p
+kept_all wanted homes k next below kept q p h = elim (cases_eq q k) [
+  | inl same ↦ subst (λ (x : ℕ). IsEnough (get_or wanted x false) (get_or (set homes k next) x None) p) (sym same) (subst (λ (o : Option ℕ). IsEnough (get_or wanted k false) o p) (sym (get_or-set_same homes k next None below)) (kept p (subst (λ (x : ℕ). IsEnough (get_or wanted x false) (get_or homes x None) p) same h)))
+  | inr other ↦ subst (λ (o : Option ℕ). IsEnough (get_or wanted q false) o p) (sym (get_or-set_other homes k q next None other)) h
 ]
 
 pub under_all : (U : ℕ → ℕ → Type 0) (homes : List (Option ℕ)) (k : ℕ) (next : Option ℕ) → k < length homes → (IfSome (get_or homes k None) (U k) → IfSome next (U k)) → (q : ℕ) → IfSome (get_or homes q None) (U q) → IfSome (get_or (set homes k next) q None) (U q)
@@ -144,26 +149,26 @@ under_all U homes k next below more q h = elim (cases_eq q k) [
 ]
 
 -- An interval is counted for the points from `from` on and below n.
-abbrev pub AreCounted : (ℕ → ℕ → Type 0) → List (Option ℕ) → Interval → List ProbePlace → ℕ → ℕ → Type 0
-AreCounted U homes s points from n = (i : ℕ) (d : ProbePlace) → from ≤ i → i < n → IsCounted U homes s (get_or points i d)
+abbrev pub AreCounted : (ℕ → ℕ → Type 0) → List Bool → List (Option ℕ) → Interval → List ProbePlace → ℕ → ℕ → Type 0
+AreCounted U wanted homes s points from n = (i : ℕ) (d : ProbePlace) → from ≤ i → i < n → IsCounted U wanted homes s (get_or points i d)
 
-pub counted_more : (U : ℕ → ℕ → Type 0) (homes : List (Option ℕ)) (s : Interval) (points : List ProbePlace) (from n k : ℕ) (e : ProbePlace) (next : Option ℕ) → n < length points → k < length homes → (get_or points n e).probe ≡ k → ((p : ℕ) → IsAtMost (get_or homes k None) p → IsAtMost next p) → (U k s.piece → IsAtMost next s.piece)
-    → AreCounted U homes s points from n → AreCounted U (set homes k next) s points from (n + 1)
-counted_more U homes s points from n k e next there below is kept one are i d above before = elim (cases_eq i n) [
-  | inl same ↦ subst (λ (x : ℕ). IsCounted U (set homes k next) s (get_or points x d)) (sym same) (subst (IsCounted U (set homes k next) s) (get_or_default points n e d there) here)
-  | inr other ↦ λ starts ends under. kept_all homes k next below kept (get_or points i d).probe s.piece (are i d above (omega arith) starts ends under)
+pub counted_more : (U : ℕ → ℕ → Type 0) (wanted : List Bool) (homes : List (Option ℕ)) (s : Interval) (points : List ProbePlace) (from n k : ℕ) (e : ProbePlace) (next : Option ℕ) → n < length points → k < length homes → (get_or points n e).probe ≡ k
+    → ((p : ℕ) → IsEnough (get_or wanted k false) (get_or homes k None) p → IsEnough (get_or wanted k false) next p) → (U k s.piece → IsEnough (get_or wanted k false) next s.piece) → AreCounted U wanted homes s points from n → AreCounted U wanted (set homes k next) s points from (n + 1)
+counted_more U wanted homes s points from n k e next there below is kept one are i d above before = elim (cases_eq i n) [
+  | inl same ↦ subst (λ (x : ℕ). IsCounted U wanted (set homes k next) s (get_or points x d)) (sym same) (subst (IsCounted U wanted (set homes k next) s) (get_or_default points n e d there) here)
+  | inr other ↦ λ starts ends under. kept_all wanted homes k next below kept (get_or points i d).probe s.piece (are i d above (omega arith) starts ends under)
 ]
   where
-    found : U k s.piece → IsAtMost (get_or (set homes k next) k None) s.piece
-    found under = subst (λ (o : Option ℕ). IsAtMost o s.piece) (sym (get_or-set_same homes k next None below)) (one under)
+    found : U k s.piece → IsEnough (get_or wanted k false) (get_or (set homes k next) k None) s.piece
+    found under = subst (λ (o : Option ℕ). IsEnough (get_or wanted k false) o s.piece) (sym (get_or-set_same homes k next None below)) (one under)
 
-    here : IsCounted U (set homes k next) s (get_or points n e)
-    here starts ends = subst (λ (x : ℕ). U x s.piece → IsAtMost (get_or (set homes k next) x None) s.piece) (sym is) found
+    here : IsCounted U wanted (set homes k next) s (get_or points n e)
+    here starts ends = subst (λ (x : ℕ). U x s.piece → IsEnough (get_or wanted x false) (get_or (set homes k next) x None) s.piece) (sym is) found
 
 -- past a point that stands beyond the interval none stands on it
-pub counted_past : (U : ℕ → ℕ → Type 0) (homes : List (Option ℕ)) (s : Interval) (points : List ProbePlace) (from n : ℕ) (e : ProbePlace) → IsNonDecreasingBy (λ (x : ProbePlace). x.place) points → n < length points → s.end < (get_or points n e).place → AreCounted U homes s points from n
-    → (i : ℕ) (d : ProbePlace) → from ≤ i → i < length points → IsCounted U homes s (get_or points i d)
-counted_past U homes s points from n e rising there past are i d above below = elim (le_or_lt n i) [
+pub counted_past : (U : ℕ → ℕ → Type 0) (wanted : List Bool) (homes : List (Option ℕ)) (s : Interval) (points : List ProbePlace) (from n : ℕ) (e : ProbePlace) → IsNonDecreasingBy (λ (x : ProbePlace). x.place) points → n < length points → s.end < (get_or points n e).place → AreCounted U wanted homes s points from n
+    → (i : ℕ) (d : ProbePlace) → from ≤ i → i < length points → IsCounted U wanted homes s (get_or points i d)
+counted_past U wanted homes s points from n e rising there past are i d above below = elim (le_or_lt n i) [
   | inl le ↦ λ starts ends under. absurd (far le ends)
   | inr sooner ↦ are i d above sooner
 ]
@@ -175,15 +180,15 @@ counted_past U homes s points from n e rising there past are i d above below = e
         omega arith
 
 -- The intervals before n are counted, and the points before `from` stand before the intervals from n on.
-pub record AreFound (U : ℕ → ℕ → Type 0) (xs : List Interval) (points : List ProbePlace) (count n from : ℕ) (homes : List (Option ℕ)) : Type 0 where
+pub record AreFound (U : ℕ → ℕ → Type 0) (wanted : List Bool) (xs : List Interval) (points : List ProbePlace) (count n from : ℕ) (homes : List (Option ℕ)) : Type 0 where
   pub within : from ≤ length points
   pub long : length homes ≡ count
   pub passed : (i j : ℕ) (d : Interval) (e : ProbePlace) → i < from → n ≤ j → j < length xs → (get_or points i e).place < (get_or xs j d).start
   pub under : (k : ℕ) → IfSome (get_or homes k None) (U k)
-  pub least : (i j : ℕ) (d : Interval) (e : ProbePlace) → i < n → j < length points → IsCounted U homes (get_or xs i d) (get_or points j e)
+  pub least : (i j : ℕ) (d : Interval) (e : ProbePlace) → i < n → j < length points → IsCounted U wanted homes (get_or xs i d) (get_or points j e)
 
-pub found_none : (U : ℕ → ℕ → Type 0) (xs : List Interval) (points : List ProbePlace) (count : ℕ) (homes : List (Option ℕ)) → length homes ≡ count → ((k : ℕ) → get_or homes k None ≡ None) → AreFound U xs points count 0 0 homes
-found_none U xs points count homes long none = record {
+pub found_none : (U : ℕ → ℕ → Type 0) (wanted : List Bool) (xs : List Interval) (points : List ProbePlace) (count : ℕ) (homes : List (Option ℕ)) → length homes ≡ count → ((k : ℕ) → get_or homes k None ≡ None) → AreFound U wanted xs points count 0 0 homes
+found_none U wanted xs points count homes long none = record {
   within = omega arith;
   long = long;
   passed = λ i j d e before from below. absurd (omega arith);
@@ -191,16 +196,16 @@ found_none U xs points count homes long none = record {
   least = λ i j d e before below. absurd (omega arith);
 }
 
-pub found_more : (U : ℕ → ℕ → Type 0) (xs : List Interval) (points : List ProbePlace) (count n from next : ℕ) (s : Interval) (homes found : List (Option ℕ)) → IsNonDecreasingBy (λ (x : Interval). x.start) xs → n < length xs → get_or xs n s ≡ s → AreFound U xs points count n from homes
+pub found_more : (U : ℕ → ℕ → Type 0) (wanted : List Bool) (xs : List Interval) (points : List ProbePlace) (count n from next : ℕ) (s : Interval) (homes found : List (Option ℕ)) → IsNonDecreasingBy (λ (x : Interval). x.start) xs → n < length xs → get_or xs n s ≡ s → AreFound U wanted xs points count n from homes
     → next ≤ length points → ((j : ℕ) (e : ProbePlace) → from ≤ j → j < next → (get_or points j e).place < s.start) → length found ≡ length homes → ((k : ℕ) → IfSome (get_or homes k None) (U k) → IfSome (get_or found k None) (U k))
-    → ((k p : ℕ) → IsAtMost (get_or homes k None) p → IsAtMost (get_or found k None) p) → ((j : ℕ) (e : ProbePlace) → next ≤ j → j < length points → IsCounted U found s (get_or points j e)) → AreFound U xs points count (n + 1) next found
-found_more U xs points count n from next s homes found rising there is are within before long under kept counted = record {
+    → ((k p : ℕ) → IsEnough (get_or wanted k false) (get_or homes k None) p → IsEnough (get_or wanted k false) (get_or found k None) p) → ((j : ℕ) (e : ProbePlace) → next ≤ j → j < length points → IsCounted U wanted found s (get_or points j e)) → AreFound U wanted xs points count (n + 1) next found
+found_more U wanted xs points count n from next s homes found rising there is are within before long under kept counted = record {
   within = within;
   long = long ∙ are.long;
   passed = λ i j d e early late below. let up = rising n j d (omega arith) below in let same = start d in let sooner = passed i e early in omega arith;
   under = λ k. under k (are.under k);
   least = λ i j d e early below. elim (cases_eq i n) [
-    | inl same ↦ subst (λ (x : ℕ). IsCounted U found (get_or xs x d) (get_or points j e)) (sym same) (subst (λ (x : Interval). IsCounted U found x (get_or points j e)) (sym is ∙ get_or_default xs n s d there) (here j e below))
+    | inl same ↦ subst (λ (x : ℕ). IsCounted U wanted found (get_or xs x d) (get_or points j e)) (sym same) (subst (λ (x : Interval). IsCounted U wanted found x (get_or points j e)) (sym is ∙ get_or_default xs n s d there) (here j e below))
     | inr other ↦ λ starts ends u. kept (get_or points j e).probe (get_or xs i d).piece (are.least i j d e (omega arith) below starts ends u)
   ];
 }
@@ -214,19 +219,19 @@ found_more U xs points count n from next s homes found rising there is are withi
       | inr sooner ↦ (let first = are.passed i n s e sooner (omega arith) there in let same = start s in omega arith)
     ]
 
-    here : (j : ℕ) (e : ProbePlace) → j < length points → IsCounted U found s (get_or points j e)
+    here : (j : ℕ) (e : ProbePlace) → j < length points → IsCounted U wanted found s (get_or points j e)
     here j e below = elim (le_or_lt next j) [
       | inl le ↦ counted j e le below
       | inr sooner ↦ λ starts ends u. absurd (let early = passed j e sooner in omega arith)
     ]
 
 -- a piece that has a probe's place in an interval is counted for it
-pub least_counted : (U : ℕ → ℕ → Type 0) (homes : List (Option ℕ)) (xs : List Interval) (points : List ProbePlace) (k q place : ℕ) → ((i j : ℕ) (d : Interval) (e : ProbePlace) → i < length xs → j < length points → IsCounted U homes (get_or xs i d) (get_or points j e))
-    → HasPlace xs place q → Contains points (record { place = place; probe = k }) → U k q → IsAtMost (get_or homes k None) q
-least_counted U homes xs points k q place counted has stands under =
+pub counted_enough : (U : ℕ → ℕ → Type 0) (wanted : List Bool) (homes : List (Option ℕ)) (xs : List Interval) (points : List ProbePlace) (k q place : ℕ) → ((i j : ℕ) (d : Interval) (e : ProbePlace) → i < length xs → j < length points → IsCounted U wanted homes (get_or xs i d) (get_or points j e))
+    → HasPlace xs place q → Contains points (record { place = place; probe = k }) → U k q → IsEnough (get_or wanted k false) (get_or homes k None) q
+counted_enough U wanted homes xs points k q place counted has stands under =
     let (i, within, is) = has.listed in
     let (j, inside, alike) = stands in
     let s = has.interval in
     let p : ProbePlace = record { place = place; probe = k } in
-    let one : IsCounted U homes s p = subst (IsCounted U homes s) alike (subst (λ (x : Interval). IsCounted U homes x (get_or points j p)) is (counted i j s p within inside)) in
-    subst (IsAtMost (get_or homes k None)) has.of_it (one has.starts has.ends (subst (U k) (sym has.of_it) under))
+    let one : IsCounted U wanted homes s p = subst (IsCounted U wanted homes s) alike (subst (λ (x : Interval). IsCounted U wanted homes x (get_or points j p)) is (counted i j s p within inside)) in
+    subst (IsEnough (get_or wanted k false) (get_or homes k None)) has.of_it (one has.starts has.ends (subst (U k) (sym has.of_it) under))

@@ -3,10 +3,10 @@ ghost use Rattle.board_shapes.specs.Plain.{plain_board};
 ghost use Rattle.board_shapes.specs.Tables.{IsNear, IsTables};
 ghost use Rattle.board_shapes.specs.Touching.{UnderAt};
 ghost use Rattle.std.specs.Prelude.{[], ◌≡◌, ◌<◌, All, IfOk, length};
-ghost use Rattle.tables.specs.Lists.{AreLeast};
 ghost use Rattle.tables.specs.Tables.{Tables};
 ghost use Rattle.verdict.specs.Forest.{AreTrees, IsForest};
 ghost use Rattle.witness_check.specs.Asked.{AreTested};
+ghost use Rattle.witness_check.specs.Homes.{AreHomes};
 ghost use Rattle.witness_check.specs.Lines.{AreLinesBy};
 ghost use Rattle.witness_check.specs.Nets.{HasStanding};
 ghost use Rattle.witness_check.specs.Ruled.{Rules};
@@ -14,7 +14,7 @@ ghost use Rattle.witness_check.specs.Strips.{AreIntervals};
 
 use crate::counts::counts_hold;
 use crate::findings::findings_ruling;
-use crate::least::least_under;
+use crate::least::homes_under;
 use crate::nets::{Standing, are_trees, standing_of};
 use crate::points::{bare_holds, points_hold};
 use crate::strips::{Strips, strips_of};
@@ -121,8 +121,9 @@ fn points_ruling(
     shapes::tables_are_unique();
     let numbers = standing.numbers.as_slice();
     let lines = v.points.as_slice();
-    let least = least_under(alloc, board, strips)?;
-    let homes = least.as_slice();
+    let shorts = v.shorts.as_slice();
+    let under = homes_under(alloc, board, strips, shorts)?;
+    let homes = under.as_slice();
     if !points_hold(board.probes(), homes, numbers, lines) {
         return Ok(Ruling::Untrue(4));
     }
@@ -139,7 +140,7 @@ fn lists_ruling(
 ) -> Result<Ruling, NoMemory>
     requires forest { IsForest (length (plain_board board.now).pieces) (IsNear (plain_board board.now)) v.now.nets }
     requires stood { HasStanding (length (plain_board board.now).pieces) v.now.nets standing.now.numbers.items standing.now.places.items }
-    requires least { AreLeast (length (plain_board board.now).probes) (UnderAt (plain_board board.now)) homes.now }
+    requires under { AreHomes (length (plain_board board.now).probes) (UnderAt (plain_board board.now)) v.now.shorts homes.now }
     requires lines { AreLinesBy standing.now.numbers.items (plain_board board.now).probes homes.now v.now.points }
     requires named { All (λ line. line.name < length (plain_board board.now).names) v.now.points }
     ensures { IfOk result (λ ruling. (t : Tables) → IsTables (plain_board board.now) t → Rules t v.now ruling) }

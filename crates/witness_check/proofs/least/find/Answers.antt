@@ -7,17 +7,17 @@ use Rattle.witness_check.proofs.Sweeping.{counted_more, counted_past, kept_all, 
 use Rattle.witness_check.proofs.least.find.Goals as goal
 
 pub returns-then-point-interval-clause-counted : goal.returns-then-point-interval-clause-counted
-returns-then-point-interval-clause-counted c = counted_past (UnderAt (plain_board c.args.board.now)) c.loop-j.homes c.args.interval c.args.points.now c.args.from c.loop-j.j _ c.requires.places (omega arith) c.if-point-interval.true c.loop-j.invariant.2
+returns-then-point-interval-clause-counted c = counted_past (UnderAt (plain_board c.args.board.now)) c.args.wanted.now c.loop-j.homes c.args.interval c.args.points.now c.args.from c.loop-j.j _ c.requires.places (omega arith) c.if-point-interval.true c.loop-j.invariant.2
 
 pub loop-j-preserved : goal.loop-j-preserved
 loop-j-preserved c =
     let U = UnderAt (plain_board c.args.board.now) in
     let homes = c.loop-j.homes in
-    let next = c.lesser.result in
+    let next = c.found_with.result in
     let probe : ProbePlace = get_or c.args.points.now c.loop-j.j (record { place = 0; probe = 0 }) in
     let known : probe.probe < length (plain_board c.args.board.now).probes = All-get_or (λ s. s.probe < length (plain_board c.args.board.now).probes) c.args.points.now c.loop-j.j _ (omega arith) c.requires.probes in
     let room : probe.probe < length homes = let long = c.loop-j.auto.homes in let all = c.requires.room in omega arith in (
-      (λ k h. under_all U homes probe.probe next room c.lesser.ensures.under k (c.loop-j.invariant.0 k h)),
-      (λ k p h. kept_all homes probe.probe next room c.lesser.ensures.kept k p (c.loop-j.invariant.1 k p h)),
-      counted_more U homes c.args.interval c.args.points.now c.args.from c.loop-j.j probe.probe _ next (omega arith) room refl c.lesser.ensures.kept c.lesser.ensures.counted c.loop-j.invariant.2,
+      (λ k h. under_all U homes probe.probe next room c.found_with.ensures.under k (c.loop-j.invariant.0 k h)),
+      (λ k p h. kept_all c.args.wanted.now homes probe.probe next room c.found_with.ensures.kept k p (c.loop-j.invariant.1 k p h)),
+      counted_more U c.args.wanted.now homes c.args.interval c.args.points.now c.args.from c.loop-j.j probe.probe _ next (omega arith) room refl c.found_with.ensures.kept c.found_with.ensures.counted c.loop-j.invariant.2,
     )

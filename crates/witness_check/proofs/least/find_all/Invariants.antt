@@ -5,4 +5,4 @@ use Rattle.witness_check.proofs.Sweeping.{AreFound}
 use Rattle.witness_check.proofs.least.find_all.Given as goal
 
 abbrev pub invariant-loop-interval : goal.invariant-loop-interval
-invariant-loop-interval l = AreFound (UnderAt (plain_board l.fn.board)) l.intervals l.points (length (plain_board l.fn.board).probes) l.interval-index l.from l.homes
+invariant-loop-interval l = AreFound (UnderAt (plain_board l.fn.board)) l.wanted l.intervals l.points (length (plain_board l.fn.board).probes) l.interval-index l.from l.homes
