@@ -18,7 +18,7 @@ abbrev pub AreBytes : List ℕ → Type 0
 AreBytes [] = Unit {0}
 AreBytes (b ∷ bs) = (b < 256) × AreBytes bs
 
-bytes_of : (bs : List ℕ) → ((i : ℕ) → get_or bs i 0 < 256) → AreBytes bs
+pub bytes_of : (bs : List ℕ) → ((i : ℕ) → get_or bs i 0 < 256) → AreBytes bs
 bytes_of [] h = tt
 bytes_of (b ∷ bs) h = (h 0, bytes_of bs (λ i. h (suc i)))
 
@@ -87,6 +87,22 @@ eight (a ∷ b ∷ c ∷ d ∷ f ∷ g ∷ i ∷ []) e = absurd (omega (arith, e
 eight (a ∷ b ∷ c ∷ d ∷ f ∷ g ∷ i ∷ j ∷ []) e = omega arith
 eight (a ∷ b ∷ c ∷ d ∷ f ∷ g ∷ i ∷ j ∷ k ∷ bs) e = absurd (omega (arith, e))
 
+-- a text stands in front, where the low bytes of the first word are it
+pub text_stands : (bytes front text : List ℕ) (x mask word len : ℕ) → front ≡ take 8 bytes → 8 ≤ length bytes → ((i : ℕ) → get_or bytes i 0 < 256) → AreBytes text → x ≡ from_le_bytes w64 front → bit_and x mask ≡ word
+    → mask + 1 ≡ 2 ^ (8 * len) → len ≤ 7 → worth text ≡ word → length text ≡ len → behind text bytes ≡ Some (drop len bytes)
+text_stands bytes front text x mask word len first enough fit are read same masks few spelled long =
+    let is_mask : mask ≡ 2 ^ (8 * len) - 1 = omega (arith, masks) in
+    let low : x % 2 ^ (8 * len) ≡ word = sym (and_mask x (8 * len)) ∙ ap (bit_and x) (sym is_mask) ∙ same in
+    let bytes_front : AreBytes front = subst AreBytes (sym first) (first_bytes 8 bytes (bytes_of bytes fit)) in
+    let wide : length front ≡ 8 = ap length first ∙ length-take-le 8 bytes enough in
+    let is_x : x ≡ worth front = read ∙ eight front wide in
+    let equal : worth (take len front) ≡ worth text = sym (front_worth len front bytes_front) ∙ ap (λ (n : ℕ). n % 2 ^ (8 * len)) (sym is_x) ∙ low ∙ sym spelled in
+    let taken : length (take len front) ≡ length text = length-take-le len front (omega (arith, wide, few)) ∙ sym long in
+    let alike : take len front ≡ text = same_bytes (take len front) text taken (first_bytes len front bytes_front) are equal in
+    let stands : take len bytes ≡ text = sym (ap (take len) first ∙ take-take len 8 bytes (omega (arith, few))) ∙ alike in
+    let whole : bytes ≡ text ++ drop len bytes = sym (take-append-drop len bytes) ∙ ap (λ (t : List ℕ). t ++ drop len bytes) stands in
+    ap (behind text) whole ∙ behind_again text (drop len bytes)
+
 -- the number stands in front, where the low bytes of the first word are its text
 pub number_stands : (bytes front : List ℕ) (x mask word len number : ℕ) → front ≡ take 8 bytes → 8 ≤ length bytes → ((i : ℕ) → get_or bytes i 0 < 256) → x ≡ from_le_bytes w64 front → bit_and x mask ≡ word
     → mask + 1 ≡ 2 ^ (8 * len) → len ≤ 7 → (0 < len → worth (decimal number) ≡ word) → (0 < len → length (decimal number) ≡ len) → (len ≡ 0 → word ≡ 1) → number < 2 ^ 64
@@ -96,20 +112,8 @@ number_stands bytes front x mask word zero number first enough fit read same mas
     let all : bit_and x mask ≡ x % 2 ^ 0 = ap (bit_and x) none ∙ and_mask x 0 in
     absurd (omega (arith, all, same, unknown refl))
 number_stands bytes front x mask word (suc k) number first enough fit read same masks few spelled long unknown small =
-    let len : ℕ = suc k in
-    let some : 0 < len = omega arith in
-    let is_mask : mask ≡ 2 ^ (8 * len) - 1 = omega (arith, masks) in
-    let low : x % 2 ^ (8 * len) ≡ word = sym (and_mask x (8 * len)) ∙ ap (bit_and x) (sym is_mask) ∙ same in
-    let bytes_front : AreBytes front = subst AreBytes (sym first) (first_bytes 8 bytes (bytes_of bytes fit)) in
-    let wide : length front ≡ 8 = ap length first ∙ length-take-le 8 bytes enough in
-    let is_x : x ≡ worth front = read ∙ eight front wide in
-    let digits : AreBytes (decimal number) = digits_are_bytes (decimal number) (digits_decimal own number small) in
-    let equal : worth (take len front) ≡ worth (decimal number) = sym (front_worth len front bytes_front) ∙ ap (λ (n : ℕ). n % 2 ^ (8 * len)) (sym is_x) ∙ low ∙ sym (spelled some) in
-    let taken : length (take len front) ≡ length (decimal number) = length-take-le len front (omega (arith, wide, few)) ∙ sym (long some) in
-    let text : take len front ≡ decimal number = same_bytes (take len front) (decimal number) taken (first_bytes len front bytes_front) digits equal in
-    let stands : take len bytes ≡ decimal number = sym (ap (take len) first ∙ take-take len 8 bytes (omega (arith, few))) ∙ text in
-    let whole : bytes ≡ decimal number ++ drop len bytes = sym (take-append-drop len bytes) ∙ ap (λ (t : List ℕ). t ++ drop len bytes) stands in
-    ap (behind (decimal number)) whole ∙ behind_again (decimal number) (drop len bytes)
+    let some : 0 < suc k = omega arith in
+    text_stands bytes front (decimal number) x mask word (suc k) first enough fit (digits_are_bytes (decimal number) (digits_decimal own number small)) read same masks few (spelled some) (long some)
 
 -- the last digit rises
 raised : (front : List ℕ) (d : ℕ) → worth (front ++ suc d ∷ []) ≡ worth (front ++ d ∷ []) + 2 ^ (8 * length front)

@@ -12,6 +12,8 @@ use Rattle.std.proofs.lemmas.List.Elements.{All-from_recursion, recursion_from_A
 use Rattle.std.proofs.lemmas.List.Sums.{take_while-cons, split_at_first, passes_at_first}
 use Rattle.std.proofs.lemmas.Slice.Eq.{bytes_eq-Decides}
 use Rattle.std.proofs.lemmas.Str.Parse.{IsNumeralModel, numerals_by_value, parse_digits}
+use Rattle.std.specs.Char.{digit_value}
+use Rattle.std.proofs.lemmas.Str.{digit_value_digit}
 use Rattle.lengths.proofs.Digits.{digit_of}
 use Rattle.lengths.specs.declared.TheConstants.{MOST_NAME_BYTES}
 use Rattle.texts.specs.Digits.{is_decimal_digit}
@@ -386,3 +388,15 @@ text_refused bytes any h = by (is_name (before_first is_feed bytes)) refl
     by : (t : Bool) → is_name (before_first is_feed bytes) ≡ t → text_at bytes ≡ None
     by true e = absurd (h (name_takes _ e))
     by false e = rw (any, e) refl
+
+-- ---- A digit by how far it stands above 0
+
+false_where : (b : Bool) → (b ≡ true → ⊥) → b ≡ false
+false_where true not = absurd (not refl)
+false_where false not = refl
+
+pub digit_above : (byte above : ℕ) → byte ≡ 48 + above → above < 10 → is_decimal_digit byte ≡ true
+digit_above byte above is small = lt-ltb (digit_value byte) 10 (let e = digit_value_digit byte (omega (arith, is), omega (arith, is, small)) in omega (arith, e, is, small))
+
+pub no_digit_above : (byte above : ℕ) → (48 ≤ byte → byte ≡ 48 + above) → 10 ≤ above → is_decimal_digit byte ≡ false
+no_digit_above byte above is large = false_where (is_decimal_digit byte) (λ one. let d = digit_of byte one in let e = is d.low in omega (arith, d.high, e, large))

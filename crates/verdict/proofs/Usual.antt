@@ -1,5 +1,5 @@
 -- Lines of the usual form: what their parts read makes what the line reads.
-use Rattle.std.proofs.Common.{◌≡◌, ℕ, ◌+◌, ◌^◌, ◌<◌, ℤ, pos, cond, ltb, true, false, List, [], ◌∷◌, ◌++◌, Option, Some, None, refl, sym, ap, subst, ◌∙◌, arith}
+use Rattle.std.proofs.Common.{◌≡◌, ℕ, ◌+◌, ◌^◌, ◌<◌, ℤ, pos, cond, ltb, true, false, List, [], ◌∷◌, ◌++◌, Option, Some, None, refl, sym, ap, subst, ◌∙◌, append_assoc, arith}
 use Rattle.std.specs.Prelude.{codes, decimal}
 use Rattle.std.proofs.lemmas.Bool.{lt-ltb}
 use Rattle.std.proofs.lemmas.Fmt.{decimal_digit, decimal_nonempty, digits_decimal}
@@ -30,6 +30,12 @@ place_reads bytes a rest n blank read small =
 pub heading_reads : (title bytes a b rest : List ℕ) (n : ℕ) → behind title bytes ≡ Some a → behind (32 ∷ []) a ≡ Some b → behind (decimal n) b ≡ Some rest → heading_at title n bytes ≡ Some rest
 unfolding heading_at
 heading_reads title bytes a b rest n p q r = step (behind title bytes) _ a (Some rest) p (step (behind (32 ∷ []) a) _ b (Some rest) q r)
+
+-- the same of a title with its blank
+pub front_reads : (front title bytes b rest : List ℕ) (n : ℕ) → front ≡ title ++ 32 ∷ [] → behind front bytes ≡ Some b → behind (decimal n) b ≡ Some rest → heading_at title n bytes ≡ Some rest
+front_reads front title bytes b rest n is p q =
+    let whole : bytes ≡ title ++ (32 ∷ b) = behind_takes front bytes b p ∙ (ap (λ (t : List ℕ). t ++ b) is ∙ append_assoc title (32 ∷ []) b) in
+    heading_reads title bytes (32 ∷ b) b rest n (ap (behind title) whole ∙ behind_again title (32 ∷ b)) (behind_again (32 ∷ []) b) q
 
 -- the net of a point, behind which its line ends
 net_reads : (bytes rest left : List ℕ) (n : ℕ) → word_at bytes ≡ Some (n, rest) → behind (10 ∷ []) rest ≡ Some left → net_number_at bytes ≡ Some (Some n, rest)
@@ -72,6 +78,11 @@ spot_reads n x y bytes a b c left h0 h1 h2 h3 =
     (step (signed_word_at a) _ (x, b) (Some (made, left)) h1
     (step (signed_word_at b) _ (y, c) (Some (made, left)) h2
     (step (behind (10 ∷ []) c) _ left (Some (made, left)) h3 refl)))
+
+-- the same behind a title with its blank
+pub usual_spot_reads : (n : ℕ) (x y : ℤ) (bytes a b c left : List ℕ) → ((title : List ℕ) → codes "spot " ≡ title ++ 32 ∷ [] → heading_at title n bytes ≡ Some a) → signed_word_at a ≡ Some (x, b) → signed_word_at b ≡ Some (y, c) → behind (10 ∷ []) c ≡ Some left
+    → spot_at n bytes ≡ Some (record { x = x; y = y }, left)
+usual_spot_reads n x y bytes a b c left h0 h1 h2 h3 = spot_reads n x y bytes a b c left (h0 (codes "spot") refl) h1 h2 h3
 
 -- a number of one digit behind a blank
 short_word : (n : ℕ) (rest : List ℕ) → n < 10 → starts is_decimal_digit rest ≡ false → word_at (32 ∷ (48 + n) ∷ rest) ≡ Some (n, rest)

@@ -1,5 +1,5 @@
 //! The fields of a report: fixed words and numbers, each read from the front of the bytes.
-ghost use Rattle.std.specs.Prelude.{◌≡◌, ◌+◌, ◌<◌, [], ◌∷◌, IfErr, IfSome, Option, Some, decimal, true};
+ghost use Rattle.std.specs.Prelude.{◌≡◌, ◌+◌, ◌<◌, ◌≤◌, [], ◌∷◌, IfErr, IfSome, Option, Some, decimal, false, true};
 ghost use Rattle.std.specs.List.{list_all};
 ghost use Rattle.std.specs.Option.{option_map};
 ghost use Rattle.texts.specs.Digits.{is_decimal_digit};
@@ -85,6 +85,16 @@ fn long_run(bytes: &[u8]) -> (usize, u64)
     run(bytes)
 }
 
+// How far a byte stands above the digit 0, where one below it wraps round: below ten for a digit alone, of which it is the value.
+#[inline(always)]
+fn above_zero(byte: u8) -> u64
+    ensures digit { result < 10 → is_decimal_digit byte ≡ true }
+    ensures value { result < 10 → byte ≡ 48 + result }
+    ensures other { 10 ≤ result → is_decimal_digit byte ≡ false }
+{
+    u64::from(byte).wrapping_sub(48)
+}
+
 // The same, to be inlined where the length is known.
 #[inline(always)]
 fn run(bytes: &[u8]) -> (usize, u64)
@@ -92,10 +102,11 @@ fn run(bytes: &[u8]) -> (usize, u64)
 {
     let mut value: u64 = 0;
     for (i, byte) in bytes.iter().enumerate() {
-        if !is_digit(*byte) {
+        let digit = above_zero(*byte);
+        if digit >= 10 {
             return (i, value);
         }
-        value = value.wrapping_mul(10).wrapping_add(u64::from(*byte - b'0'));
+        value = value.wrapping_mul(10).wrapping_add(digit);
     }
     (bytes.len(), value)
 }

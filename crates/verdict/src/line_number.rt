@@ -123,7 +123,25 @@ impl LineNumber {
     }
 }
 
+/// The bytes behind a text of at most seven bytes, where it stands in front. None also where fewer than eight bytes are left. It is
+/// inlined, so that a text that is known is compared at once.
+#[inline(always)]
+pub fn behind_short<'a>(bytes: &'a [u8], text: &[u8]) -> Option<&'a [u8]>
+    requires { length text.now ≤ 7 }
+    ensures { IfSome result (λ rest. spec.behind text.now bytes.now ≡ Some rest.now) }
+{
+    let front = bytes.first_chunk::<8>()?;
+    let mask = (1 << (8 * text.len())) - 1;
+    if u64::from_le_bytes(*front) & mask == word_of(text) {
+        let (_, rest) = bytes.split_at(text.len());
+        Some(rest)
+    } else {
+        None
+    }
+}
+
 // At most seven bytes as the low bytes of a word.
+#[inline(always)]
 fn word_of(bytes: &[u8]) -> u64
     requires { length bytes.now ≤ 7 }
     ensures { result ≡ worth bytes.now }

@@ -1,5 +1,5 @@
 //! The lines of a report and lists of them, each as it is read and as it is written.
-ghost use Rattle.std.specs.Prelude.{◌≡◌, ◌++◌, ℕ, List, Option, OnOk, IfSome, Some, length};
+ghost use Rattle.std.specs.Prelude.{◌≡◌, ◌≤◌, [], ◌∷◌, ◌++◌, ℕ, List, Option, OnOk, IfSome, Some, length};
 ghost use Rattle.std.specs.List.{AllByRecursion, flat_map};
 ghost use Rattle.lengths.specs.Text.{IsText};
 ghost use Rattle.verdict.specs.Lawful.{IsBranchLine, IsNumber, IsOpen, IsPointLine, IsShort, IsSourceLine, IsSpotLine, IsTwig};
@@ -7,11 +7,10 @@ ghost use Rattle.verdict.specs.ReportReading as spec;
 ghost use Rattle.verdict.specs.ReportText as report;
 
 use crate::fields::{
-    begins_blank, behind, behind_byte, count, expect, expect_byte, expect_line_number, layer,
-    line_end, net_number, parent, short, short_end, signed_word, titled, usual_place, usual_word,
-    word,
+    begins_blank, behind_byte, count, expect, expect_byte, expect_line_number, layer, line_end,
+    net_number, parent, short, short_end, signed_word, titled, usual_place, usual_word, word,
 };
-use crate::line_number::LineNumber;
+use crate::line_number::{LineNumber, behind_short};
 use crate::report_reading::ReadFault;
 use crate::verdict::{Branch, Open, PointLine, Short, SourceLine, SpotLine, Tree, Twig};
 use lengths::rows::Rows;
@@ -142,15 +141,14 @@ fn heading<'a>(bytes: &'a [u8], title: &[u8], line: LineNumber) -> Result<&'a [u
     expect_line_number(rest, line)
 }
 
-// A title and the number of a line, where they stand in front.
+// A title with the blank behind it, and the number of a line, where they stand in front.
 #[inline(always)]
-#[tactic(auto, using(crate::proofs::Usual::heading_reads))]
-fn usual_heading<'a>(bytes: &'a [u8], title: &[u8], line: LineNumber) -> Option<&'a [u8]>
-    ensures { IfSome result (λ rest. spec.heading_at title.now line.number bytes.now ≡ Some rest.now) }
+fn usual_heading<'a>(bytes: &'a [u8], front: &[u8], line: LineNumber) -> Option<&'a [u8]>
+    requires { length front.now ≤ 7 }
+    ensures { IfSome result (λ rest. (title : List ℕ) → front.now ≡ title ++ 32 ∷ [] → spec.heading_at title line.number bytes.now ≡ Some rest.now) }
 {
-    let behind_title = behind(bytes, title)?;
-    let behind_blank = behind_byte(behind_title, b' ')?;
-    let rest = line.behind(behind_blank)?;
+    let behind_front = behind_short(bytes, front)?;
+    let rest = line.behind(behind_front)?;
     Some(rest)
 }
 
@@ -245,7 +243,7 @@ impl Line for Text {
 fn usual_point(bytes: &[u8], line: LineNumber) -> Option<(PointLine, &[u8])>
     ensures { IfSome result (λ x. spec.point_at line.number bytes.now ≡ Some (x.0, x.1.now)) }
 {
-    let rest = usual_heading(bytes, b"point", line)?;
+    let rest = usual_heading(bytes, b"point ", line)?;
     let (number, behind_number) = usual_word(rest)?;
     let (layer, behind_layer) = short(behind_number)?;
     let (name, behind_name) = usual_word(behind_layer)?;
@@ -418,11 +416,11 @@ fn write_place(out: &mut Vec<u8>, spot: &SpotLine) -> Result<(), AllocError>
 
 // The line of a place as most are, where one stands in front.
 #[inline(always)]
-#[tactic(auto, using(crate::proofs::Usual::spot_reads))]
+#[tactic(auto, using(crate::proofs::Usual::usual_spot_reads))]
 fn usual_spot(bytes: &[u8], line: LineNumber) -> Option<(SpotLine, &[u8])>
     ensures { IfSome result (λ s. spec.spot_at line.number bytes.now ≡ Some (s.0, s.1.now)) }
 {
-    let rest = usual_heading(bytes, b"spot", line)?;
+    let rest = usual_heading(bytes, b"spot ", line)?;
     let (x, behind_x) = usual_place(rest)?;
     let (y, behind_y) = usual_place(behind_x)?;
     let end = behind_byte(behind_y, b'\n')?;
@@ -500,7 +498,7 @@ fn write_copy_and_span(out: &mut Vec<u8>, source: &SourceLine) -> Result<(), All
 fn usual_source(bytes: &[u8], line: LineNumber) -> Option<(SourceLine, &[u8])>
     ensures { IfSome result (λ x. spec.source_at line.number bytes.now ≡ Some (x.0, x.1.now)) }
 {
-    let rest = usual_heading(bytes, b"source", line)?;
+    let rest = usual_heading(bytes, b"source ", line)?;
     let (file, behind_file) = short(rest)?;
     let (command, behind_command) = usual_word(behind_file)?;
     let (copy, top, bottom, end) = short_end(behind_command)?;

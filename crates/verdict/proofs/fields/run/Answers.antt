@@ -8,9 +8,9 @@ use Rattle.texts.proofs.Runs.{prefix_len_at}
 use Rattle.texts.specs.Digits.{is_decimal_digit}
 use Rattle.verdict.proofs.fields.run.Goals as goal
 
-pub returns-then-not-is_digit : goal.returns-then-not-is_digit
-returns-then-not-is_digit c = record {
-  long = sym (prefix_len_at is_decimal_digit c.args.bytes.now c.loop-i.i c.loop-i.invariant.0 (omega arith) (λ below. sym c.is_digit.ensures ∙ c.if-not-is_digit.true));
+pub returns-then-digit-ge10 : goal.returns-then-digit-ge10
+returns-then-digit-ge10 c = record {
+  long = sym (prefix_len_at is_decimal_digit c.args.bytes.now c.loop-i.i c.loop-i.invariant.0 (omega arith) (λ below. c.above_zero-digit.ensures.other c.if-digit-ge10.true));
   within = omega arith;
   digits = c.loop-i.invariant.0;
   worth = λ few. (c.loop-i.invariant.1 few).0;
@@ -21,16 +21,17 @@ pub loop-i-preserved : goal.loop-i-preserved
 loop-i-preserved c =
     let i : ℕ = c.loop-i.i in
     let xs : List ℕ = c.args.bytes.now in
-    let one : is_digit (get_or xs i 0) 10 ≡ true = sym c.is_digit.ensures ∙ c.if-not-is_digit.false in (
+    let small : c.above_zero-digit.result < 10 = omega (arith, c.if-digit-ge10.false) in
+    let one : is_digit (get_or xs i 0) 10 ≡ true = c.above_zero-digit.ensures.digit small in (
       digits_more xs i c.loop-i-test.true c.loop-i.invariant.0 one,
       λ few.
           let was = c.loop-i.invariant.1 (omega arith) in
           let h = room 0 i 18 c.loop-i.value (omega arith) (eighteen_fit 18 (omega arith)) was.1 in
           let d = digit_of (get_or xs i 0) one in
-          let from = c.from.ensures in
-          let short : c.loop-i.value * 10 + c.from.result < 2 ^ 64 = omega (arith, h, d, from) in
+          let from = c.above_zero-digit.ensures.value small in
+          let short : c.loop-i.value * 10 + c.above_zero-digit.result < 2 ^ 64 = omega (arith, h, d, from) in
           let whole : c.loop-i.value * 10 % 2 ^ 64 ≡ c.loop-i.value * 10 = mod-eq_of_lt (omega (arith, short)) in
-          let kept : (c.loop-i.value * 10 % 2 ^ 64 + c.from.result) % 2 ^ 64 ≡ c.loop-i.value * 10 + c.from.result = ap (λ (n : ℕ). (n + c.from.result) % 2 ^ 64) whole ∙ mod-eq_of_lt short in
+          let kept : (c.loop-i.value * 10 % 2 ^ 64 + c.above_zero-digit.result) % 2 ^ 64 ≡ c.loop-i.value * 10 + c.above_zero-digit.result = ap (λ (n : ℕ). (n + c.above_zero-digit.result) % 2 ^ 64) whole ∙ mod-eq_of_lt short in
           let more = digits_value_after-more 10 0 xs i c.loop-i-test.true in
           (kept ∙ omega (arith, more, d, was.0, from), omega (arith, h, d, from, kept)),
     )
