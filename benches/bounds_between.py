@@ -28,7 +28,7 @@ PADS = ["%AMRotRect*", "21,1,$1,$2,0,0,$3*%", "%AMOutline4P*", "4,1,4,$1,$2,$3,$
 
 
 class Layer:
-    """A copper file: figures, arc draws of every kind, macros with slanted lines, pads turned by degrees, round holes, odd sizes, regions with arcs, blocks. `arcs` counts
+    """A copper file: figures, arc draws of every kind, macros with slanted lines, pads turned by degrees, round holes, odd sizes, also of pens, regions with arcs, blocks. `arcs` counts
     the draws, and `made` what else of the file is outside the profile; lengths are counted in the file's units. At 0 is a pad for both points."""
 
     def __init__(self, rng, arcs, most=METRE // 20):
@@ -70,8 +70,14 @@ class Layer:
     def pick(self, first, last):
         self.lines.append(f"D{self.rng.randint(first, last)}*")
 
+    def pen(self):
+        """A circle, at times one of an odd size."""
+        odd = self.rng.random() < .2
+        self.lines.append(f"D{self.rng.choice((70, 73)) if odd else self.rng.randint(10, 29)}*")
+        self.made["draws with pens of odd sizes"] += odd
+
     def draw(self):
-        self.pick(10, 29)
+        self.pen()
         self.go(self.place(), 2)
         self.go(self.place(), 1, "G01")
 
@@ -242,7 +248,7 @@ class Layer:
         """The words of an arc from a to b, in one of their forms."""
         i, j = (c - s if quadrants == "G75*" else abs(c - s) for c, s in zip(centre, a))
         offsets = "".join(f"{letter}{v}" for letter, v in (("I", i), ("J", j)) if v or not i and not j)
-        self.pick(10, 29)
+        self.pen()
         self.lines.append(quadrants)
         self.go(a, 2)
         if self.rng.random() < .5:

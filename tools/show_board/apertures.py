@@ -27,7 +27,7 @@ class Shape:
 
 class Pen:
     """A passed on aperture: half the diameter of a circle, else None; for each side its even sizes. Where these are unlike, `is_read`
-    says whether `between` reads its flashes."""
+    says whether `between` reads it."""
 
     lost, is_pen = None, True
 

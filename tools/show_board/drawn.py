@@ -105,7 +105,7 @@ class Operations:
             raise Refused("no aperture")
         if not isinstance(made, apertures.Pen) or made.radius is None:
             raise Refused("an arc with a pen that is no circle")
-        self.replaced += not made.is_even
+        self.replaced += not (made.is_even or made.is_read)
         return made.radius * self.change.size
 
     # ---- draws and flashes
@@ -130,7 +130,7 @@ class Operations:
             self.write_pieces([[piece for it in pieces for piece in apertures.swept(it, start, self.spot)] for pieces in pen.both])
             return
         drawn = [[("capsule", start, self.spot, size[0] // 2)] if size[0] else [] for size in made.sizes] if made else ([], [])
-        self.replaced += bool(made) and not made.is_even
+        self.replaced += bool(made) and not (made.is_even or made.is_read)
         if self.stays(*drawn):
             for side in self.sides:
                 if made:

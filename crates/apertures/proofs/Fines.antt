@@ -11,11 +11,11 @@ use Rattle.contact.specs.declared.TheConstants.{MOST_DIAMETER}
 use Rattle.planar.specs.declared.TheConstants.{METRE}
 use Rattle.lengths.specs.declared.decimal.Unit.{Unit as Measure}
 use Rattle.apertures.specs.declared.aperture.Aperture.{Aperture}
-use Rattle.apertures.specs.declared.aperture.Aperture.TheVariants.{FineObround, FineRectangle}
+use Rattle.apertures.specs.declared.aperture.Aperture.TheVariants.{FineCircle, FineObround, FineRectangle}
 use Rattle.apertures.specs.declared.fault.ApertureFault.{ApertureFault}
 use Rattle.apertures.specs.declared.fault.ApertureFault.TheVariants.{OutOfRange}
 use Rattle.apertures.specs.Definition.{◌>>=◌, is_x, number_digits}
-use Rattle.apertures.specs.Fine.{fine_at, fine_in, fine_obround_of, fine_sides_in, fine_size_at, has_seventh, is_seventh, is_within, not_beyond, whole_at}
+use Rattle.apertures.specs.Fine.{fine_at, fine_circle_of, fine_in, fine_obround_of, fine_sides_in, fine_size_at, has_seventh, is_seventh, is_within, not_beyond, whole_at}
 use Rattle.apertures.specs.Flash.{IsFineSize, IsLawful}
 use Rattle.apertures.specs.Holes.{is_circle, is_rectangle, parameters}
 use Rattle.apertures.proofs.Bound.{bind_ok}
@@ -99,6 +99,16 @@ sides_lawful text unit s h =
     let is : ◌≡◌ {A = ℤ × ℤ} (x.0, y.0) s = cc in
     subst (λ (t : ℤ × ℤ). IsFineSize t.0 × IsFineSize t.1) is (size_lawful (before_first is_x text) unit x.0 x.1, size_lawful (after_first is_x text) unit y.0 y.1)
 
+circle_lawful : (d : ℤ) (a : Aperture) → IsFineSize d → fine_circle_of d ≡ Ok a → IsLawful a
+circle_lawful d a p h = by (nat_lt MOST_DIAMETER (unsigned_abs d)) refl h
+  where
+    by : (b : Bool) → nat_lt MOST_DIAMETER (unsigned_abs d) ≡ b → cond b (Err OutOfRange) (Ok (FineCircle d)) ≡ Ok a → IsLawful a
+    by true e k = cc
+    by false e k =
+        let is : FineCircle d ≡ a = cc in
+        let small : unsigned_abs d ≤ MOST_DIAMETER = ltb-false _ _ e in
+        subst (λ (t : Aperture). IsLawful t) is (p, small)
+
 obround_lawful : (x y : ℤ) (a : Aperture) → IsFineSize x → IsFineSize y → fine_obround_of x y ≡ Ok a → IsLawful a
 obround_lawful x y a p q h = by (nat_lt MOST_DIAMETER (min (unsigned_abs x) (unsigned_abs y))) refl h
   where
@@ -113,11 +123,10 @@ in_lawful : (word text : List ℕ) (unit : Measure) (a : Aperture) → fine_in w
 unfolding fine_in AreFine
 in_lawful word text unit a h = by (is_circle word) (is_rectangle word) h
   where
-    by : (c r : Bool) → cond c (fine_size_at text unit >>= λ d. fine_obround_of d d) (cond r (fine_sides_in text unit >>= λ s. Ok (FineRectangle s.0 s.1)) (fine_sides_in text unit >>= λ s. fine_obround_of s.0 s.1)) ≡ Ok a → IsLawful a
+    by : (c r : Bool) → cond c (fine_size_at text unit >>= fine_circle_of) (cond r (fine_sides_in text unit >>= λ s. Ok (FineRectangle s.0 s.1)) (fine_sides_in text unit >>= λ s. fine_obround_of s.0 s.1)) ≡ Ok a → IsLawful a
     by true r k =
-        let d = bind_ok (fine_size_at text unit) (λ d. fine_obround_of d d) a k in
-        let p = size_lawful text unit d.0 d.1 in
-        obround_lawful d.0 d.0 a p p d.2
+        let d = bind_ok (fine_size_at text unit) fine_circle_of a k in
+        circle_lawful d.0 a (size_lawful text unit d.0 d.1) d.2
     by false true k =
         let s = bind_ok (fine_sides_in text unit) (λ s. Ok (FineRectangle s.0 s.1)) a k in
         let made : Ok (FineRectangle s.0.0 s.0.1) ≡ Ok a = s.2 in

@@ -19,7 +19,7 @@ use Rattle.apertures.specs.declared.aperture.Aperture.TheVariants.{Circle, FineR
 use Rattle.apertures.specs.declared.fault.ApertureFault.{ApertureFault}
 use Rattle.apertures.specs.declared.fault.ApertureFault.TheVariants.{BadText, Hole, Macro, Number, OffGrid, OutOfRange, Polygon}
 use Rattle.apertures.specs.Definition.{◌>>=◌, aperture_at, as_fault, circle_at, diameter_at, is_comma, is_empty, is_x, is_zero, last_behind, name_of, name_text, not_wide, not_zero, number_digits, numbered_at, obround_at, obround_of, side_at, sides_at, sides_in, size_at, solid_by}
-use Rattle.apertures.specs.Fine.{fine_at, fine_in, fine_obround_of, fine_sides_in, fine_size_at, has_seventh, is_seventh, not_beyond, whole_at}
+use Rattle.apertures.specs.Fine.{fine_at, fine_circle_of, fine_in, fine_obround_of, fine_sides_in, fine_size_at, has_seventh, is_seventh, not_beyond, whole_at}
 use Rattle.apertures.specs.Holes.{parameters}
 use Rattle.apertures.specs.Laws.{FinesAreSeen}
 use Rattle.apertures.proofs.Bound.{bind_ok}
@@ -246,7 +246,7 @@ obround_off text unit h = by (bind_off (sides_at text unit) obround_of h)
 -- what a name and the parameters of its text define
 abbrev fine_by : List ℕ → List ℕ → Measure → Result Aperture ApertureFault
 fine_by name text unit =
-    cond (is_word name (codes "C")) (fine_size_at text unit >>= λ d. fine_obround_of d d)
+    cond (is_word name (codes "C")) (fine_size_at text unit >>= fine_circle_of)
     (cond (is_word name (codes "R")) (fine_sides_in text unit >>= λ s. Ok (FineRectangle s.0 s.1)) (fine_sides_in text unit >>= λ s. fine_obround_of s.0 s.1))
 
 abbrev IsSeen : List ℕ → List ℕ → Measure → Aperture → Type 0
@@ -259,7 +259,7 @@ seen_by (c ∷ d ∷ name) text unit a off fine = cc
 seen_by (c ∷ []) text unit a off fine = by (eqb c 67) (eqb c 82) (eqb c 79) (eqb c 80) refl refl refl off fine
   where
     circle : IsSeen (67 ∷ []) text unit a
-    circle k f = let d = bind_ok (fine_size_at (after_first is_comma text) unit) (λ d. fine_obround_of d d) a f in circle_seen text unit d.0 k d.1
+    circle k f = let d = bind_ok (fine_size_at (after_first is_comma text) unit) fine_circle_of a f in circle_seen text unit d.0 k d.1
 
     rectangle : IsSeen (82 ∷ []) text unit a
     rectangle k f = let s = bind_ok (fine_sides_in (after_first is_comma text) unit) (λ s. Ok (FineRectangle s.0 s.1)) a f in sides_seen text unit s.0 (rectangle_off text unit k) s.1

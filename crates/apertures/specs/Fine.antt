@@ -9,7 +9,7 @@ use Rattle.lengths.specs.Decimal.{is_decimal, fraction}
 use Rattle.lengths.specs.Grid.{position_of}
 use Rattle.lengths.specs.declared.decimal.Unit.{Unit as Measure}
 use Rattle.apertures.specs.declared.aperture.Aperture.{Aperture}
-use Rattle.apertures.specs.declared.aperture.Aperture.TheVariants.{FineObround, FineRectangle}
+use Rattle.apertures.specs.declared.aperture.Aperture.TheVariants.{FineCircle, FineObround, FineRectangle}
 use Rattle.apertures.specs.declared.fault.ApertureFault.{ApertureFault}
 use Rattle.apertures.specs.declared.fault.ApertureFault.TheVariants.{BadText, OutOfRange}
 use Rattle.apertures.specs.Definition.{◌>>=◌, as_fault, is_x, number_digits}
@@ -34,14 +34,18 @@ fine_size_at text unit = whole_at text unit >>= not_beyond
 unfoldable pub fine_sides_in : List ℕ → Measure → Result (ℤ × ℤ) ApertureFault
 fine_sides_in text unit = fine_size_at (before_first is_x text) unit >>= λ x. fine_size_at (after_first is_x text) unit >>= λ y. Ok (x, y)
 
--- an obround by its sides, of which the lesser is at most MOST_DIAMETER; a circle is one of equal sides
+-- a circle by its diameter, which is at most MOST_DIAMETER
+abbrev pub fine_circle_of : ℤ → Result Aperture ApertureFault
+fine_circle_of d = if nat_lt MOST_DIAMETER (unsigned_abs d) then Err OutOfRange else Ok (FineCircle d)
+
+-- an obround by its sides, of which the lesser is at most MOST_DIAMETER
 abbrev pub fine_obround_of : ℤ → ℤ → Result Aperture ApertureFault
 fine_obround_of x y = if nat_lt MOST_DIAMETER (min (unsigned_abs x) (unsigned_abs y)) then Err OutOfRange else Ok (FineObround x y)
 
 -- what the parameters of such a name define
 unfoldable pub fine_in : List ℕ → List ℕ → Measure → Result Aperture ApertureFault
 fine_in word text unit =
-    if is_circle word then (fine_size_at text unit >>= λ d. fine_obround_of d d)
+    if is_circle word then (fine_size_at text unit >>= fine_circle_of)
     else (if is_rectangle word then (fine_sides_in text unit >>= λ sides. Ok (FineRectangle sides.0 sides.1))
     else (fine_sides_in text unit >>= λ sides. fine_obround_of sides.0 sides.1))
 

@@ -1,5 +1,5 @@
 -- What an aperture flashes.
-use Rattle.std.specs.Prelude.{◌≡◌, ℕ, Bool, true, false, ◌&&◌, ◌==◌, ◌%◌, ◌/◌, ◌-◌, min, nat_lt, if◌then◌else◌, List, ℤ, pos, ◌<◌, ◌≤◌, ◌≤ℤ◌, unsigned_abs, Option, Some, None, Result, Ok, Err}
+use Rattle.std.specs.Prelude.{◌≡◌, ℕ, Bool, true, false, ◌&&◌, ◌==◌, ◌%◌, ◌/◌, ◌-◌, ◌+◌, ◌*◌, min, nat_lt, if◌then◌else◌, List, ℤ, pos, ◌<◌, ◌≤◌, ◌≤ℤ◌, unsigned_abs, Option, Some, None, Result, Ok, Err}
 use Rattle.std.specs.List.{list_all}
 use Rattle.contact.specs.declared.TheConstants.{MOST_DIAMETER}
 use Rattle.planar.specs.Plane.{is_placed}
@@ -9,7 +9,7 @@ use Rattle.board_shapes.specs.declared.shape.Shape.{Shape}
 use Rattle.board_shapes.specs.Figures.{Figure, Stroke, filled, round, seen_shape}
 use Rattle.board_shapes.specs.Rectangles.{lower, rectangle, upper}
 use Rattle.apertures.specs.declared.aperture.Aperture.{Aperture}
-use Rattle.apertures.specs.declared.aperture.Aperture.TheVariants.{Circle, Rectangle, Obround, Ring, Frame, FineRectangle, FineObround}
+use Rattle.apertures.specs.declared.aperture.Aperture.TheVariants.{Circle, Rectangle, Obround, Ring, Frame, FineRectangle, FineObround, FineCircle}
 use Rattle.apertures.specs.declared.fault.FlashFault.{FlashFault}
 use Rattle.apertures.specs.declared.fault.FlashFault.TheVariants.{OutOfRange, NoMemory}
 use Rattle.apertures.specs.Definition.{is_zero}
@@ -41,6 +41,7 @@ IsLawful (Ring d hole) = IsSize d × IsSize hole × IsNarrow (unsigned_abs d) ×
 IsLawful (Frame x y hole) = IsSize x × IsSize y × IsSize hole × (is_frame (unsigned_abs x) (unsigned_abs y) (unsigned_abs hole) ≡ true)
 IsLawful (FineRectangle x y) = IsFineSize x × IsFineSize y
 IsLawful (FineObround x y) = IsFineSize x × IsFineSize y × IsNarrow (min (unsigned_abs x) (unsigned_abs y))
+IsLawful (FineCircle d) = IsFineSize d × IsNarrow (unsigned_abs d)
 
 -- whether the aperture flashes an area, or one that tells it
 abbrev pub is_of_area : Aperture → Bool
@@ -49,11 +50,17 @@ is_of_area (Ring d hole) = true
 is_of_area (Frame x y hole) = true
 is_of_area (FineRectangle x y) = true
 is_of_area (FineObround x y) = true
+is_of_area (FineCircle d) = true
 is_of_area other = false
 
--- the diameter of the pen that the aperture is: a circle without a hole alone draws (4.8)
+-- the least even diameter that is not below a fine one, up to MOST_DIAMETER
+abbrev pub even_pen : ℤ → ℤ
+even_pen d = pos (2 * ((min (unsigned_abs d) MOST_DIAMETER + 1) / 2))
+
+-- the diameter of the pen that the aperture is: a circle without a hole alone draws (4.8); a fine one as the next even one, which `arc_layer` undoes
 abbrev pub pen_of : Aperture → Option ℤ
 pen_of (Circle d) = Some d
+pen_of (FineCircle d) = Some (even_pen d)
 pen_of other = None
 
 -- half a size
@@ -95,6 +102,7 @@ flash_of (Ring d hole) at = area_at (told_ring (unsigned_abs d) (unsigned_abs ho
 flash_of (Frame x y hole) at = area_at (told_frame (unsigned_abs x) (unsigned_abs y) (unsigned_abs hole) at)
 flash_of (FineRectangle x y) at = area_at (told_fine false (unsigned_abs x) (unsigned_abs y) at)
 flash_of (FineObround x y) at = area_at (told_fine true (unsigned_abs x) (unsigned_abs y) at)
+flash_of (FineCircle d) at = area_at (told_fine true (unsigned_abs d) (unsigned_abs d) at)
 
 -- the answer is the flash
 abbrev pub IsFlash : Result (Option Shape) FlashFault → Result (Option Figure) NoFlash → Type 0

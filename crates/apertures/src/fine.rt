@@ -49,6 +49,15 @@ fn fine_sides(text: &[u8], unit: Unit) -> Result<(i64, i64), ApertureFault>
     Ok((x, y))
 }
 
+fn fine_circle(d: i64) -> Result<Aperture, ApertureFault>
+    ensures { result ≡ spec.fine_circle_of d }
+{
+    if d.unsigned_abs() > MOST_DIAMETER {
+        return Err(ApertureFault::OutOfRange);
+    }
+    Ok(Aperture::FineCircle(d))
+}
+
 fn fine_obround(x: i64, y: i64) -> Result<Aperture, ApertureFault>
     ensures { result ≡ spec.fine_obround_of x y }
 {
@@ -64,8 +73,7 @@ fn fine_in(word: &[u8], text: &[u8], unit: Unit) -> Result<Aperture, ApertureFau
     ensures { result ≡ spec.fine_in word.now text.now unit }
 {
     if is_circle(word) {
-        let d = fine_size(text, unit)?;
-        fine_obround(d, d)
+        fine_circle(fine_size(text, unit)?)
     } else if is_rectangle(word) {
         let (x, y) = fine_sides(text, unit)?;
         Ok(Aperture::FineRectangle(x, y))

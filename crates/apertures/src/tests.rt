@@ -166,12 +166,12 @@ const FINES: [Word; 18] = [
     (
         "ADD10C,1.0000001",
         Unit::Mm,
-        "Ok((10, FineObround(10000001, 10000001)))",
+        "Ok((10, FineCircle(10000001)))",
     ),
     (
         "ADD10C,49.99999990",
         Unit::Mm,
-        "Ok((10, FineObround(499999999, 499999999)))",
+        "Ok((10, FineCircle(499999999)))",
     ),
     (
         "ADD010R,1X.0000003",
@@ -188,11 +188,7 @@ const FINES: [Word; 18] = [
         Unit::Mm,
         "Ok((10, FineObround(9999999999, 500000000)))",
     ),
-    (
-        "ADD10C,0.0000005",
-        Unit::Inch,
-        "Ok((10, FineObround(127, 127)))",
-    ),
+    ("ADD10C,0.0000005", Unit::Inch, "Ok((10, FineCircle(127)))"),
     ("ADD10C,0.000001", Unit::Inch, "Ok((10, Circle(254)))"),
     // No whole number of u.
     ("ADD10C,1.00000001", Unit::Mm, "Err(OffGrid)"),

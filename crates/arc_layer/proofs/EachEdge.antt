@@ -1,5 +1,5 @@
 -- The open contour has as many bends of edges as edges.
-use Rattle.std.proofs.Common.{◌≡◌, ◌+◌, Bool, true, false, cond, List, [], ◌∷◌, ◌++◌, length, length-append, Option, Some, None, Result, Ok, Err, is_some, refl, ap, arith}
+use Rattle.std.proofs.Common.{◌≡◌, ℕ, ◌+◌, Bool, true, false, cond, List, [], ◌∷◌, ◌++◌, length, length-append, Option, Some, None, Result, Ok, Err, is_some, refl, ap, arith}
 use Rattle.std.specs.Prelude.{not, nat_lt}
 use Rattle.std.specs.List.{list_any}
 use Rattle.planar.specs.declared.Spot.{Spot}
@@ -11,7 +11,8 @@ use Rattle.gerber_layer.specs.Settings.{contour_before, contour_by, drawn, lengt
 use Rattle.gerber_layer.specs.declared.command.Code.{Code}
 use Rattle.gerber_layer.specs.declared.command.Code.TheVariants.{Draw, Move, Flash}
 use Rattle.arc_layer.specs.Bends.{bend_of}
-use Rattle.arc_layer.specs.Marks.{PlainMark, arc, closes, contour, edge_by, edges_before, edges_by, flash, flashes, mark_behind, mark_by, marked}
+use Rattle.arc_layer.specs.Marks.{PlainMark, arc, by_pen, closes, contour, edge_by, edges_before, edges_by, flash, flashes, mark_behind, mark_by, marked}
+use Rattle.arc_layer.specs.Pens.{drawn_with, pen_before}
 use Rattle.arc_layer.specs.State.{commands_of, state_before}
 use Rattle.arc_layer.specs.Words.{Saying}
 use Rattle.arc_layer.specs.declared.draws.Bend.{Bend}
@@ -77,32 +78,35 @@ closed_is (a ∷ b ∷ rest) area h = by (not (same_spot (end_from b rest) a)) (
 
 abbrev bends_of : Result (Option PlainMark) RealKind → List (Option Bend)
 bends_of (Ok (Some (contour edges))) = edges
-bends_of (Ok (Some (arc bend))) = []
+bends_of (Ok (Some (arc bend pen))) = []
+bends_of (Ok (Some (by_pen pen))) = []
 bends_of (Ok (Some flash)) = []
 bends_of (Ok None) = []
 bends_of (Err why) = []
 
 abbrev has_bends : Result (Option PlainMark) RealKind → Bool
 has_bends (Ok (Some (contour edges))) = true
-has_bends (Ok (Some (arc bend))) = false
+has_bends (Ok (Some (arc bend pen))) = false
+has_bends (Ok (Some (by_pen pen))) = false
 has_bends (Ok (Some flash)) = false
 has_bends (Ok None) = false
 has_bends (Err why) = false
 
 -- no other mark is one of a contour
-no_contour : (bend : Option Bend) (flashed : Bool) → has_bends (Ok (mark_by bend flashed)) ≡ false
-no_contour (Some bend) flashed = refl
-no_contour None true = refl
-no_contour None false = refl
+no_contour : (bend : Option Bend) (pen : Option ℕ) (flashed : Bool) → has_bends (Ok (mark_by bend pen flashed)) ≡ false
+no_contour (Some bend) pen flashed = refl
+no_contour None (Some pen) flashed = refl
+no_contour None None true = refl
+no_contour None None false = refl
 
 abbrev marked_as : Option PlainMark → Result (Option PlainMark) RealKind
 marked_as mark = Ok mark
 
 -- such a mark has the bends so far
-marked_is : (bend : Result (Option Bend) RealKind) (closed : Bool) (edges bends : List (Option Bend)) (flashed : Bool) → marked bend closed edges flashed ≡ Ok (Some (contour bends)) → length edges ≡ length bends
-marked_is (Err why) closed edges bends flashed h = absurd (let e : false ≡ true = ap has_bends h in grind (arith, e))
-marked_is (Ok bend) false edges bends flashed h = absurd (let e : has_bends (Ok (mark_by bend flashed)) ≡ true = ap has_bends h in let none = no_contour bend flashed in grind (arith, e, none))
-marked_is (Ok bend) true edges bends flashed h = by (list_any is_some edges) h
+marked_is : (bend : Result (Option Bend) RealKind) (closed : Bool) (edges bends : List (Option Bend)) (pen : Option ℕ) (flashed : Bool) → marked bend closed edges pen flashed ≡ Ok (Some (contour bends)) → length edges ≡ length bends
+marked_is (Err why) closed edges bends pen flashed h = absurd (let e : false ≡ true = ap has_bends h in grind (arith, e))
+marked_is (Ok bend) false edges bends pen flashed h = absurd (let e : has_bends (Ok (mark_by bend pen flashed)) ≡ true = ap has_bends h in let none = no_contour bend pen flashed in grind (arith, e, none))
+marked_is (Ok bend) true edges bends pen flashed h = by (list_any is_some edges) h
   where
     by : (some : Bool) → marked_as (cond some (Some (contour edges)) None) ≡ Ok (Some (contour bends)) → length edges ≡ length bends
     by true k = ap (λ r. length (bends_of r)) k
@@ -112,5 +116,5 @@ pub marks_fit : (earlier : List Saying) (w : Saying) (bends : List (Option Bend)
 marks_fit earlier w bends area mark h =
     let points = closed_is (contour_before (commands_of earlier)) area h in
     let all = each_edge earlier in
-    let same = marked_is (bend_of (state_before earlier) w) (closes w.command (state_before earlier)) (edges_before earlier) bends (flashes w.command (state_before earlier)) mark in
+    let same = marked_is (bend_of (state_before earlier) w) (closes w.command (state_before earlier)) (edges_before earlier) bends (drawn_with w.command (pen_before earlier)) (flashes w.command (state_before earlier)) mark in
     omega (arith, points, all, same)

@@ -12,7 +12,7 @@ use Rattle.apertures.specs.Telling.{fine_told, told_fine}
 use Rattle.board_shapes.specs.Figures.{Figure, filled}
 use Rattle.fine_figures.specs.declared.FineFigure.TheVariants.{Round, Rectangle}
 use Rattle.arc_layer.specs.Fine.{fine_sides, fine_stroke}
-use Rattle.arc_layer.specs.Laws.{FineObroundsAreUndone, FineRectanglesAreUndone}
+use Rattle.arc_layer.specs.Laws.{FineCirclesAreUndone, FineObroundsAreUndone, FineRectanglesAreUndone}
 use Rattle.arc_layer.specs.Marks.{flash}
 use Rattle.arc_layer.specs.Real.{RealFigure, fine, flashed, with_mark}
 
@@ -79,3 +79,8 @@ pub obrounds : FineObroundsAreUndone
 unfolding flash_of
 obrounds x y at figure lawful h =
     same_area (told_fine true (unsigned_abs x) (unsigned_abs y) at) figure (fine (Round (fine_stroke at (unsigned_abs x) (unsigned_abs y)))) (obround_told (unsigned_abs x) (unsigned_abs y) at (some_of y lawful.1)) h
+
+pub circles : FineCirclesAreUndone
+unfolding flash_of
+circles d at figure lawful h =
+    same_area (told_fine true (unsigned_abs d) (unsigned_abs d) at) figure (fine (Round (fine_stroke at (unsigned_abs d) (unsigned_abs d)))) (obround_told (unsigned_abs d) (unsigned_abs d) at (some_of d lawful.0)) h

@@ -17,6 +17,7 @@ use Rattle.arc_layer.specs.Bends.{command_bend, curve_of, operation_by}
 use Rattle.gerber_layer.specs.Settings.{ok_or_none}
 use Rattle.arc_layer.specs.Marks.{AreSayings, HasNoMarks, PlainMark, closes, contour_mark, edge_by, edges_before, edges_by, flashes, mark_behind, mark_by, marked, marks_in}
 use Rattle.arc_layer.specs.declared.kind.RealKind.{RealKind}
+use Rattle.arc_layer.specs.Pens.{drawn_with, draws, pen_before, pen_in, pen_with, pens_before, with_pen}
 use Rattle.arc_layer.specs.State.{state_before}
 use Rattle.arc_layer.specs.Words.{IsQuiet, Saying, begins_offset, curve_in, from_offsets, is_line, is_quiet, plain, saying, stop_saying}
 use Rattle.arc_layer.specs.declared.draws.Bend.{Bend}
@@ -81,10 +82,22 @@ no_flash : (c : Command) (s : State) → s.tells ≡ false → flashes c s ≡ f
 no_flash (operates x y code) s none = rw none refl
 no_flash other s none = refl
 
+none_drawn : (c : Command) (pen : Option ℕ) → pen ≡ None → drawn_with c pen ≡ None
+none_drawn c pen none = by (draws c)
+  where
+    by : (b : Bool) → cond b pen None ≡ None
+    by true = none
+    by false = refl
+
+none_selected : (selected : Option ℕ) (pens : ℕ → Option ℕ) → ((n : ℕ) → pens n ≡ None) → pen_with selected pens ≡ None
+none_selected (Some n) pens none = none n
+none_selected None pens none = refl
+
 -- a history that says nothing of arcs, and behind which no flash tells more
 pub record Still (earlier : List Saying) : Type 0 where
   pub line : (state_before earlier).curve ≡ Line
   pub tells : (state_before earlier).tells ≡ false
+  pub pens : (n : ℕ) → pens_before earlier n ≡ None
   pub edges : list_any is_some (edges_before earlier) ≡ false
   pub none : (n : ℕ) → marks_in earlier n ≡ None
 
@@ -93,7 +106,7 @@ no_more true mark earlier h k = h
 no_more false mark earlier h k = k
 
 -- no edge is an arc
-unmarked : (closed : Bool) (edges : List (Option Bend)) → list_any is_some edges ≡ false → cond closed (contour_mark edges) (mark_by None false) ≡ None
+unmarked : (closed : Bool) (edges : List (Option Bend)) → list_any is_some edges ≡ false → cond closed (contour_mark edges) (mark_by None None false) ≡ None
 unmarked true edges none = rw none refl
 unmarked false edges none = refl
 
@@ -114,14 +127,17 @@ mark_none : (earlier : List Saying) (w : Saying) → Still earlier → IsQuiet w
 mark_none earlier w s q =
     let state = state_before earlier in
     let edges = edges_before earlier in
-    ap (λ (r : Result (Option Bend) RealKind). marked r (closes w.command state) edges (flashes w.command state)) (quiet_bend w.command state w s.line q)
-    ∙ ap (λ (b : Bool). marked (Ok None) (closes w.command state) edges b) (no_flash w.command state s.tells)
+    let pen = drawn_with w.command (pen_before earlier) in
+    ap (λ (r : Result (Option Bend) RealKind). marked r (closes w.command state) edges pen (flashes w.command state)) (quiet_bend w.command state w s.line q)
+    ∙ ap (λ (p : Option ℕ). marked (Ok None) (closes w.command state) edges p (flashes w.command state)) (none_drawn w.command (pen_before earlier) (none_selected state.selected (pens_before earlier) s.pens))
+    ∙ ap (λ (b : Bool). marked (Ok None) (closes w.command state) edges None b) (no_flash w.command state s.tells)
     ∙ ap (λ (m : Option PlainMark). Ok m) (unmarked (closes w.command state) edges s.edges)
 
 still : (earlier : List Saying) (w : Saying) → Still earlier → IsQuiet w → Still (w ∷ earlier)
 still earlier w s q = record {
   line = ap (λ (c : Curve). latest w.curve c) s.line ∙ q.line;
   tells = ap (λ (b : Bool). b || (state_before earlier).tells) q.tells ∙ s.tells;
+  pens = λ n. ap (λ (b : Bool). with_pen (cond b (pen_in w.command (state_before earlier).unit) None) (pens_before earlier) n) q.tells ∙ s.pens n;
   edges =
       let e : edges_before (w ∷ earlier) ≡ edges_by w.command (state_before earlier).region (edges_before earlier) None = ap (λ (r : Result (Option Bend) RealKind). edges_by w.command (state_before earlier).region (edges_before earlier) (ok_or_none r)) (quiet_bend w.command (state_before earlier) w s.line q) in
       ap (λ (xs : List (Option Bend)). list_any is_some xs) e ∙ edges_none w.command (state_before earlier).region (edges_before earlier) s.edges;
@@ -134,7 +150,7 @@ pub record StillTo (all earlier rest : List (Item Saying)) : Type 0 where
   pub still : Still (said earlier)
 
 pub still_start : (all : List (Item Saying)) → StillTo all [] all
-still_start all = record { read = read-start mark_behind all; still = record { line = refl; tells = refl; edges = refl; none = λ n. refl } }
+still_start all = record { read = read-start mark_behind all; still = record { line = refl; tells = refl; pens = λ n. refl; edges = refl; none = λ n. refl } }
 
 pub still_more : (all earlier rest : List (Item Saying)) (item : Item Saying) → StillTo all earlier (item ∷ rest) → IsQuiet item.says → StillTo all (item ∷ earlier) rest
 still_more all earlier rest item s q = record {

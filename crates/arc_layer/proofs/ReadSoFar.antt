@@ -10,7 +10,8 @@ use Rattle.gerber_words.specs.Items.{word_item, stop_item, items_with}
 use Rattle.gerber_words.specs.Laws.{HasOneReadingAhead}
 use Rattle.gerber_layer.specs.Settings.{ok_or_none}
 use Rattle.arc_layer.specs.Marks.{AreMarks, AreSayings, AreShort, PlainMark, IsShortMark, IsBendRefused, edges_before, edges_behind, mark_behind, mark_of, marks_in}
-use Rattle.arc_layer.specs.Reading.{Takes, marks_so_far}
+use Rattle.arc_layer.specs.Pens.{pen_before, pen_of, pen_with, pens_before, with_pen}
+use Rattle.arc_layer.specs.Reading.{Takes, marks_so_far, pens_so_far}
 use Rattle.arc_layer.specs.State.{state_before, state_behind}
 use Rattle.arc_layer.specs.Words.{Saying, saying, stop_saying}
 use Rattle.arc_layer.specs.declared.marks.Reader.{Reader}
@@ -22,12 +23,31 @@ use Rattle.arc_layer.specs.declared.state.State.{State}
 pub record Knows (earlier : List Saying) (r : Reader) : Type 0 where
   pub state : r.state ≡ state_before earlier
   pub edges : r.edges.items ≡ edges_before earlier
+  pub pens : (n : ℕ) → pens_so_far r n ≡ pens_before earlier n
   pub marks : (n : ℕ) → marks_so_far r n ≡ marks_in earlier n
   pub counts : r.commands ≡ length earlier
 
+pen_same : (selected : Option ℕ) (f g : ℕ → Option ℕ) → ((n : ℕ) → f n ≡ g n) → pen_with selected f ≡ pen_with selected g
+pen_same (Some n) f g same = same n
+pen_same None f g same = refl
+
+with_same : (made : Option (ℕ × ℕ)) (f g : ℕ → Option ℕ) → ((n : ℕ) → f n ≡ g n) → (n : ℕ) → with_pen made f n ≡ with_pen made g n
+with_same (Some made) f g same n = ap (λ (pen : Option ℕ). cond (made.0 == n) (Some made.1) pen) (same n)
+with_same None f g same n = same n
+
+-- the selected pen
+abbrev pen_now : Reader → Option ℕ
+pen_now r = pen_with r.state.selected (pens_so_far r)
+
+pen_is : (earlier : List Saying) (r : Reader) → Knows earlier r → pen_now r ≡ pen_before earlier
+pen_is earlier r k = ap (λ (s : State). pen_with s.selected (pens_so_far r)) k.state ∙ pen_same (state_before earlier).selected (pens_so_far r) (pens_before earlier) k.pens
+
 -- the reader's mark of a word is that behind the history
-behind : (earlier : List Saying) (w : Saying) (r : Reader) → Knows earlier r → mark_of r.state r.edges.items w ≡ mark_behind earlier w
-behind earlier w r k = ap (λ (s : State). mark_of s r.edges.items w) k.state ∙ ap (λ (e : List (Option Bend)). mark_of (state_before earlier) e w) k.edges
+behind : (earlier : List Saying) (w : Saying) (r : Reader) → Knows earlier r → mark_of r.state r.edges.items (pen_now r) w ≡ mark_behind earlier w
+behind earlier w r k =
+    ap (λ (s : State). mark_of s r.edges.items (pen_now r) w) k.state
+    ∙ ap (λ (e : List (Option Bend)). mark_of (state_before earlier) e (pen_now r) w) k.edges
+    ∙ ap (λ (pen : Option ℕ). mark_of (state_before earlier) (edges_before earlier) pen w) (pen_is earlier r k)
 
 -- the file is read to these words
 pub record ReadToWords (file : List ℕ) (earlier : List (Item Saying)) (words : List Entry) (stop : Stop) : Type 0 where
@@ -41,11 +61,11 @@ pub record ReadSoFar (file : List ℕ) (a : Ahead) (r : Reader) : Type 0 where
   pub extends : (words : List Entry) (stop : Stop) → HasWords a words stop → ReadToWords file earlier words stop
   pub knows : Knows (said earlier) r
 
-pub nothing-read : (file : List ℕ) (r : Reader) → r.state ≡ state_before [] → r.edges.items ≡ [] → ((n : ℕ) → marks_so_far r n ≡ None) → r.commands ≡ 0 → ReadSoFar file (start file) r
-nothing-read file r state edges marks none = record {
+pub nothing-read : (file : List ℕ) (r : Reader) → r.state ≡ state_before [] → r.edges.items ≡ [] → ((n : ℕ) → pens_so_far r n ≡ None) → ((n : ℕ) → marks_so_far r n ≡ None) → r.commands ≡ 0 → ReadSoFar file (start file) r
+nothing-read file r state edges pens marks none = record {
   earlier = [];
   extends = λ words stop h. record { all = items_with saying stop_saying (length file) words stop; are = record { words = words; stop = stop; cut = h; are = refl }; read = read-start mark_behind _ };
-  knows = record { state = state; edges = edges; marks = marks; counts = none };
+  knows = record { state = state; edges = edges; pens = pens; marks = marks; counts = none };
 }
 
 -- no command has a mark that does not stand yet
@@ -74,6 +94,7 @@ pub knows-more : (earlier : List Saying) (w : Saying) (r r' : Reader) → Knows 
 knows-more earlier w r r' k t = record {
   state = t.state ∙ ap (λ (s : State). state_behind s w) k.state;
   edges = t.edges ∙ ap (λ (s : State). edges_behind s r.edges.items w) k.state ∙ ap (λ (e : List (Option Bend)). edges_behind (state_before earlier) e w) k.edges;
+  pens = λ n. t.pens n ∙ ap (λ (s : State). with_pen (pen_of w s.unit) (pens_so_far r) n) k.state ∙ with_same (pen_of w (state_before earlier).unit) (pens_so_far r) (pens_before earlier) k.pens n;
   marks = λ n. one_more earlier w t.mark r r' n k t;
   counts = let a = t.counts in let b = k.counts in omega (arith, a, b);
 }
@@ -92,7 +113,7 @@ word-read file old new w r r' s next t = record {
 }
 
 -- a word that stops the reader
-pub word-fault : ((a : Ahead) → HasOneReadingAhead a) → (file : List ℕ) (old new : Ahead) (w : Entry) (r : Reader) (kind : RealKind) (number : ℕ) → ReadSoFar file old r → ((words : List Entry) (stop : Stop) → HasWords new words stop → HasWords old (w ∷ words) stop) → number ≡ r.commands + 1 → mark_of r.state r.edges.items (saying w) ≡ Err kind → IsBendRefused file kind number w.at
+pub word-fault : ((a : Ahead) → HasOneReadingAhead a) → (file : List ℕ) (old new : Ahead) (w : Entry) (r : Reader) (kind : RealKind) (number : ℕ) → ReadSoFar file old r → ((words : List Entry) (stop : Stop) → HasWords new words stop → HasWords old (w ∷ words) stop) → number ≡ r.commands + 1 → mark_of r.state r.edges.items (pen_with r.state.selected (pens_so_far r)) (saying w) ≡ Err kind → IsBendRefused file kind number w.at
 word-fault one file old new w r kind number s next is h =
     let more = one new in
     let x = s.extends (w ∷ more.words) more.stop (next more.words more.stop more.is) in

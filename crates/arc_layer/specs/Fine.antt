@@ -1,7 +1,9 @@
--- Fine apertures as their spots tell them: figures in half u.
+-- Fine apertures as their spots tell them, and draws with fine pens: figures in half u.
 use Rattle.std.specs.Prelude.{ℕ, ◌-◌, nat_lt, if◌then◌else◌, List, [], ◌∷◌, pos, ◌+ℤ◌, ◌-ℤ◌, Option, option_map}
 use Rattle.planar.specs.declared.Spot.{Spot}
+use Rattle.board_shapes.specs.Figures.{Stroke}
 use Rattle.contact.specs.declared.Bounds.{Bounds}
+use Rattle.fine_figures.specs.Taken.{doubled}
 use Rattle.fine_figures.specs.declared.FineFigure.{FineFigure}
 use Rattle.fine_figures.specs.declared.FineFigure.TheVariants.{Round, Rectangle}
 use Rattle.fine_figures.specs.declared.FineStroke.{FineStroke}
@@ -26,6 +28,10 @@ abbrev pub fine_stroke : Spot → ℕ → ℕ → FineStroke
 fine_stroke m w h =
     if nat_lt h w then record { a = left_below m (w - h) 0; b = right_above m (w - h) 0; r = h }
     else record { a = left_below m 0 (h - w); b = right_above m 0 (h - w); r = w }
+
+-- a draw with a round pen of this diameter, between the ends of its stroke
+abbrev pub fine_draw : ℕ → Stroke → FineStroke
+fine_draw d s = record { a = doubled s.a; b = doubled s.b; r = d }
 
 -- what is told, as a figure
 abbrev pub fine_figure : Fine → FineFigure

@@ -9,7 +9,7 @@ use Rattle.aperture_macros.specs.declared.primitive.Form.TheVariants.{Polygon}
 use Rattle.aperture_macros.specs.declared.primitive.Rotation.{Rotation}
 use Rattle.aperture_macros.specs.declared.primitive.Rotation.TheVariants.{Half, Quarter, ThreeQuarters, Unturned}
 use Rattle.apertures.specs.Flash.{IsLawful, flash_of}
-use Rattle.apertures.specs.declared.aperture.Aperture.TheVariants.{FineObround, FineRectangle, Frame, Ring}
+use Rattle.apertures.specs.declared.aperture.Aperture.TheVariants.{FineCircle, FineObround, FineRectangle, Frame, Ring}
 use Rattle.board_shapes.specs.Figures.{Figure, filled}
 use Rattle.fine_figures.specs.declared.FineFigure.TheVariants.{Round, Rectangle}
 use Rattle.board_shapes.specs.Rectangles.{lower, upper}
@@ -81,6 +81,10 @@ FineRectanglesAreUndone = (x y : ℤ) (at : Spot) (figure : Figure) → IsLawful
 abbrev pub FineObroundsAreUndone : Type 0
 FineObroundsAreUndone = (x y : ℤ) (at : Spot) (figure : Figure) → IsLawful (FineObround x y) → flash_of (FineObround x y) at ≡ Ok (Some figure)
     → with_mark (Some flash) figure ≡ fine (Round (fine_stroke at (unsigned_abs x) (unsigned_abs y)))
+
+abbrev pub FineCirclesAreUndone : Type 0
+FineCirclesAreUndone = (d : ℤ) (at : Spot) (figure : Figure) → IsLawful (FineCircle d) → flash_of (FineCircle d) at ≡ Ok (Some figure)
+    → with_mark (Some flash) figure ≡ fine (Round (fine_stroke at (unsigned_abs d) (unsigned_abs d)))
 
 -- What a contour of a flash has before its turn is a contour, turned about a spot within one metre by some angle below a right one.
 abbrev pub TurnedAreContours : Type 0

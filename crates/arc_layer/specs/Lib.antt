@@ -4,6 +4,7 @@ pub mod Fine
 pub mod Kinds
 pub mod Laws
 pub mod Marks
+pub mod Pens
 pub mod Reading
 pub mod Real
 pub mod State

@@ -14,6 +14,7 @@ use Rattle.gerber_layer.specs.Settings.{ok_or_none}
 use Rattle.gerber_layer.specs.declared.command.Code.{Code}
 use Rattle.gerber_layer.specs.declared.command.Code.TheVariants.{Draw, Move, Flash}
 use Rattle.arc_layer.specs.Bends.{IsShort, bend_of}
+use Rattle.arc_layer.specs.Pens.{drawn_with, pen_before}
 use Rattle.arc_layer.specs.State.{state_before}
 use Rattle.arc_layer.specs.Words.{Saying, saying, stop_saying}
 use Rattle.arc_layer.specs.declared.draws.Bend.{Bend}
@@ -24,12 +25,14 @@ use Rattle.arc_layer.specs.declared.state.State.{State}
 
 -- a mark without where its list lies in memory
 pub data PlainMark : Type 0 where
-  arc : Bend → PlainMark
+  arc : Bend → Option ℕ → PlainMark
+  by_pen : ℕ → PlainMark
   flash : PlainMark
   contour : List (Option Bend) → PlainMark
 
 abbrev pub plain_mark : Mark → PlainMark
-plain_mark (seen.Arc bend) = arc bend
+plain_mark (seen.Arc bend pen) = arc bend pen
+plain_mark (seen.Pen pen) = by_pen pen
 plain_mark seen.Flash = flash
 plain_mark (seen.Contour edges) = contour edges.items
 
@@ -48,26 +51,27 @@ closes (operates x y code) s = s.region && is_move (code_of code)
 closes closes_region s = s.region
 closes other s = false
 
--- an arc is marked by its bend, and such a flash as one
-abbrev pub mark_by : Option Bend → Bool → Option PlainMark
-mark_by (Some bend) flashed = Some (arc bend)
-mark_by None true = Some flash
-mark_by None false = None
+-- an arc is marked by its bend and its fine pen, a straight draw with such a pen by that, and such a flash as one
+abbrev pub mark_by : Option Bend → Option ℕ → Bool → Option PlainMark
+mark_by (Some bend) pen flashed = Some (arc bend pen)
+mark_by None (Some pen) flashed = Some (by_pen pen)
+mark_by None None true = Some flash
+mark_by None None false = None
 
 -- the end of a contour with an arc is marked by the bends of its edges
 abbrev pub contour_mark : List (Option Bend) → Option PlainMark
 contour_mark edges = if list_any is_some edges then Some (contour edges) else None
 
-abbrev pub mark_with : Bool → List (Option Bend) → Option Bend → Bool → Option PlainMark
-mark_with closed edges bend flashed = if closed then contour_mark edges else mark_by bend flashed
+abbrev pub mark_with : Bool → List (Option Bend) → Option Bend → Option ℕ → Bool → Option PlainMark
+mark_with closed edges bend pen flashed = if closed then contour_mark edges else mark_by bend pen flashed
 
-abbrev pub marked : Result (Option Bend) RealKind → Bool → List (Option Bend) → Bool → Result (Option PlainMark) RealKind
-marked (Ok bend) closed edges flashed = Ok (mark_with closed edges bend flashed)
-marked (Err why) closed edges flashed = Err why
+abbrev pub marked : Result (Option Bend) RealKind → Bool → List (Option Bend) → Option ℕ → Bool → Result (Option PlainMark) RealKind
+marked (Ok bend) closed edges pen flashed = Ok (mark_with closed edges bend pen flashed)
+marked (Err why) closed edges pen flashed = Err why
 
--- The mark of a word, if it has one, or why its arc is refused.
-abbrev pub mark_of : State → List (Option Bend) → Saying → Result (Option PlainMark) RealKind
-mark_of s edges w = marked (bend_of s w) (closes w.command s) edges (flashes w.command s)
+-- The mark of a word, if it has one, or why its arc is refused; with the selected pen, if it is a fine one.
+abbrev pub mark_of : State → List (Option Bend) → Option ℕ → Saying → Result (Option PlainMark) RealKind
+mark_of s edges pen w = marked (bend_of s w) (closes w.command s) edges (drawn_with w.command pen) (flashes w.command s)
 
 -- The bends of the edges of the open contour: none behind `G36`, `G37` and each move of a region, and one more behind each draw of a region: the bend of an arc, or none.
 abbrev pub edge_by : Code → Bool → List (Option Bend) → Option Bend → List (Option Bend)
@@ -90,7 +94,7 @@ edges_before (w ∷ earlier) = edges_behind (state_before earlier) (edges_before
 
 -- so behind a history
 abbrev pub mark_behind : List Saying → Saying → Result (Option PlainMark) RealKind
-mark_behind earlier w = mark_of (state_before earlier) (edges_before earlier) w
+mark_behind earlier w = mark_of (state_before earlier) (edges_before earlier) (pen_before earlier) w
 
 -- the marks of a history: that of the command of each number, from 1
 abbrev pub marks_in : List Saying → ℕ → Option PlainMark
@@ -115,7 +119,8 @@ IsBendRefused file kind number place = (items : List (Item Saying)) × AreSaying
 
 -- the way of each bend is at most a metre long in x and y
 abbrev pub IsShortMark : PlainMark → Type 0
-IsShortMark (arc bend) = IsPlaced bend.to_centre
+IsShortMark (arc bend pen) = IsPlaced bend.to_centre
+IsShortMark (by_pen pen) = Unit {0}
 IsShortMark flash = Unit {0}
 IsShortMark (contour edges) = All IsShort edges
 

@@ -8,6 +8,7 @@ use Rattle.board_shapes.specs.declared.placed.Origin.{Origin}
 use Rattle.board_shapes.specs.declared.placed.Placed.{Placed}
 use Rattle.arcs.specs.declared.Arc.{Arc}
 use Rattle.fine_figures.specs.declared.FineFigure.{FineFigure}
+use Rattle.fine_figures.specs.declared.FineFigure.TheVariants.{Round}
 use Rattle.slants.specs.declared.Slant.{Slant}
 use Rattle.slants.specs.declared.discs.TurnedDisc.{TurnedDisc}
 use Rattle.arc_regions.specs.declared.Part.{Part}
@@ -22,9 +23,9 @@ use Rattle.gerber_layer.specs.MacroLayer.{loose as loose_words}
 use Rattle.gerber_layer.specs.declared.macro_kind.FlattenKind.{FlattenKind}
 use Rattle.apertures.specs.Telling.{Frame, Ring, frame_told, ring_told}
 use Rattle.aperture_macros.specs.Telling.{RoundTelling, Telling, round_told, told_in}
-use Rattle.arc_layer.specs.Marks.{AreMarks, IsBendRefused, PlainMark, arc, contour, flash}
+use Rattle.arc_layer.specs.Marks.{AreMarks, IsBendRefused, PlainMark, arc, by_pen, contour, flash}
 use Rattle.arc_layer.specs.Centres.{moved, same_spot}
-use Rattle.arc_layer.specs.Fine.{fine_in}
+use Rattle.arc_layer.specs.Fine.{fine_draw, fine_in}
 use Rattle.arc_layer.specs.declared.draws.Bend.{Bend}
 use Rattle.arc_layer.specs.declared.kind.RealKind.{RealKind}
 use Rattle.arc_layer.specs.declared.kind.RealKind.TheVariants.{Copper}
@@ -69,12 +70,17 @@ plain_real p = record { figure = real_figure p.shape; top = p.top; bottom = p.bo
 abbrev pub plain_reals : List (Placed RealShape) → List PlainReal
 plain_reals pieces = map plain_real pieces
 
--- The arc of a bend between the ends of a straight draw, with the draw's pen: its width is twice the radius. Arcs go counterclockwise, so one that
+-- as wide as the fine pen that draws it, or else as twice its radius
+abbrev pub width_by : Option ℕ → Stroke → ℕ
+width_by (Some pen) s = pen
+width_by None s = 2 * unsigned_abs s.r
+
+-- The arc of a bend between the ends of a straight draw, with the draw's pen. Arcs go counterclockwise, so one that
 -- goes clockwise is the one that goes back.
-abbrev pub arc_of : Bend → Stroke → Arc
-arc_of b s =
-    if b.clockwise then record { centre = moved s.a b.to_centre; start = s.b; end = s.a; width = 2 * unsigned_abs s.r }
-    else record { centre = moved s.a b.to_centre; start = s.a; end = s.b; width = 2 * unsigned_abs s.r }
+abbrev pub arc_of : Bend → Option ℕ → Stroke → Arc
+arc_of b pen s =
+    if b.clockwise then record { centre = moved s.a b.to_centre; start = s.b; end = s.a; width = width_by pen s }
+    else record { centre = moved s.a b.to_centre; start = s.a; end = s.b; width = width_by pen s }
 
 -- the stroke runs along no axis
 abbrev pub is_slanted : Stroke → Bool
@@ -171,10 +177,11 @@ fine_or None area = area
 abbrev pub flashed : List Spot → RealFigure
 flashed points = fine_or (fine_in points) (bent_or (ring_in points) (frame_or (frame_told points) (disc_or points (round_told points) (told_area points (told_in points)))))
 
--- A draw with a bend is its arc, and an area behind the bends of its contour the region that they bound. A stroke along no axis that a flash makes is the vector line of a macro (Gerber Layer Format Specification,
+-- A draw with a bend is its arc, one with a fine pen alone its stroke in half u, and an area behind the bends of its contour the region that they bound. A stroke along no axis that a flash makes is the vector line of a macro (Gerber Layer Format Specification,
 -- 4.5.1, code 20): other primitives make none, and obrounds run along an axis. An area that a flash makes is what it tells. Each other figure is what it is.
 abbrev pub with_mark : Option PlainMark → Figure → RealFigure
-with_mark (Some (arc b)) (round s) = bent (arc_of b s)
+with_mark (Some (arc b pen)) (round s) = bent (arc_of b pen s)
+with_mark (Some (by_pen pen)) (round s) = fine (Round (fine_draw pen s))
 with_mark (Some flash) (round s) = if is_slanted s then slanted (slant_of s) else plain (round s)
 with_mark (Some flash) (filled points) = flashed points
 with_mark (Some (contour edges)) (filled points) = region_by points edges

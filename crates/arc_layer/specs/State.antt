@@ -7,7 +7,7 @@ use Rattle.planar.specs.Plane.{IsPlaced}
 use Rattle.file_reading.specs.LookingBack.{keep_first, latest, last_or, last_said}
 use Rattle.gerber_layer.specs.Command.{Command}
 use Rattle.gerber_layer.specs.Lawful.{IsShortFormat}
-use Rattle.gerber_layer.specs.Settings.{format_before, format_in, point_before, region_in, region_open, unit_before, unit_in, value_in, x_in, y_in}
+use Rattle.gerber_layer.specs.Settings.{aperture_before, format_before, format_in, point_before, region_in, region_open, selection_in, unit_before, unit_in, value_in, x_in, y_in}
 use Rattle.arc_layer.specs.Words.{Saying}
 use Rattle.arc_layer.specs.declared.state.State.{State}
 use Rattle.arc_layer.specs.declared.words.Curve.{Curve}
@@ -17,12 +17,13 @@ use Rattle.arc_layer.specs.declared.words.Curve.TheVariants.{Line}
 abbrev pub commands_of : List Saying → List Command
 commands_of earlier = map (λ s. s.command) earlier
 
--- Before a word: format, unit, current point and region as for straight draws; the last curve, lines at first; the last quadrants; whether flashes may tell more than they show.
+-- Before a word: format, unit, current point, current aperture and region as for straight draws; the last curve, lines at first; the last quadrants; whether flashes may tell more than they show.
 abbrev pub state_before : List Saying → State
 state_before earlier = record {
   format = format_before (commands_of earlier);
   unit = unit_before (commands_of earlier);
   at = point_before (commands_of earlier);
+  selected = aperture_before (commands_of earlier);
   region = region_open (commands_of earlier);
   curve = last_or Line (λ s. s.curve) earlier;
   quadrants = last_said (λ s. s.quadrants) earlier;
@@ -43,6 +44,7 @@ state_behind s w = record {
   format = keep_first (format_in w.command) s.format;
   unit = keep_first (unit_in w.command) s.unit;
   at = point_behind s w.command;
+  selected = option_or (selection_in w.command) s.selected;
   region = latest (region_in w.command) s.region;
   curve = curve_at s w;
   quadrants = option_or w.quadrants s.quadrants;

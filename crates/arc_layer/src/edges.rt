@@ -52,14 +52,17 @@ pub fn closes(command: &Command, state: &State) -> bool
     }
 }
 
-/// The mark of a command that ends no contour.
-pub fn mark_by(bend: Option<Bend>, flash: bool) -> Option<Mark>
+/// The mark of a command that ends no contour, with the fine pen of a draw.
+pub fn mark_by(bend: Option<Bend>, pen: Option<u64>, flash: bool) -> Option<Mark>
     requires { IsShort bend }
-    ensures value { option_map plain_mark result ≡ spec.mark_by bend flash }
+    ensures value { option_map plain_mark result ≡ spec.mark_by bend pen flash }
     ensures short { IfSome (option_map plain_mark result) IsShortMark }
 {
-    match bend {
-        Some(bend) => Some(Mark::Arc(bend)),
+    if let Some(bend) = bend {
+        return Some(Mark::Arc(bend, pen));
+    }
+    match pen {
+        Some(pen) => Some(Mark::Pen(pen)),
         None => if flash { Some(Mark::Flash) } else { None },
     }
 }

@@ -1,6 +1,6 @@
 //! Laws over the definitions alone.
 ghost use Rattle.arc_layer.specs.Kinds.{RealKindsHaveOwnNumbers};
-ghost use Rattle.arc_layer.specs.Laws.{DiscsAreUndone, EachEdgeHasABend, FineObroundsAreUndone, FineRectanglesAreUndone, FramesAreUndone, MarksFitAreas, PolygonsAreUndone, RingsAreUndone, TurnedAreContours, TurnsAreUndone};
+ghost use Rattle.arc_layer.specs.Laws.{DiscsAreUndone, EachEdgeHasABend, FineCirclesAreUndone, FineObroundsAreUndone, FineRectanglesAreUndone, FramesAreUndone, MarksFitAreas, PolygonsAreUndone, RingsAreUndone, TurnedAreContours, TurnsAreUndone};
 ghost use Rattle.arc_layer.specs.Real.{HasOneRealAnswer};
 ghost use Rattle.gerber_layer.specs.declared.place.Place.{Place};
 ghost use Rattle.std.specs.Prelude.{ℕ, List};
@@ -49,8 +49,9 @@ pub fn holes_are_told()
     ensures frames { FramesAreUndone }
 {}
 
-/// What a flash of a fine aperture tells is that rectangle or obround, in half u.
+/// What a flash of a fine aperture tells is that rectangle, obround or circle, in half u.
 pub fn fines_are_told()
     ensures rectangles { FineRectanglesAreUndone }
     ensures obrounds { FineObroundsAreUndone }
+    ensures circles { FineCirclesAreUndone }
 {}

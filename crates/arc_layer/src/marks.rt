@@ -1,7 +1,8 @@
 //! The marks of a file.
 ghost use Rattle.arc_layer.specs.Bends.{IsShort};
 ghost use Rattle.arc_layer.specs.Marks.{AreMarks, AreShort, HasNoMarks, IsBendFault, IsShortMark, closes, contour_mark, edges_by, flashes, mark_by, mark_of as mark_spec, mark_with, plain_mark};
-ghost use Rattle.arc_layer.specs.Reading.{IsMarked, Takes, marks_of, marks_so_far};
+ghost use Rattle.arc_layer.specs.Pens.{drawn_with, pen_with};
+ghost use Rattle.arc_layer.specs.Reading.{IsMarked, Takes, marks_of, marks_so_far, pens_so_far};
 ghost use Rattle.arc_layer.specs.State.{IsLawfulState, state_before};
 ghost use Rattle.arc_layer.specs.Words.{saying_of};
 ghost use Rattle.gerber_layer.specs.Command.{view};
@@ -14,7 +15,8 @@ use crate::draws::{Bend, bend_of};
 use crate::edges::{closes, contour_mark, edges_behind, flashes, mark_by};
 use crate::kind::{RealFault, RealKind};
 use crate::mark::Mark;
-use crate::state::{State, at_start};
+use crate::pens::{draws, keep_pen};
+use crate::state::{State, at_start, selected_behind};
 use crate::words::{Saying, are_silent, is_quiet, read_word, selects_alone};
 use file_reading::Halt;
 use gerber_layer::Command;
@@ -40,12 +42,14 @@ impl Marks {
     }
 }
 
-/// What the words of a file so far have set and made; `commands` counts them. The edges are those of the open contour.
+/// What the words of a file so far have set and made; `commands` counts them. The edges are those of the open contour,
+/// and the pens the diameters in u of the fine pens, by their numbers.
 #[derive(Drop)]
 struct Reader {
     state: State,
     edges: Vec<Option<Bend>>,
     marks: HashMap<u32, Mark>,
+    pens: HashMap<u32, u64>,
     commands: u32,
 }
 
@@ -55,12 +59,14 @@ impl Reader {
         ensures lawful { IsLawfulState result.state }
         ensures edges { result.edges.items ≡ [] }
         ensures marks { (n : ℕ) → marks_so_far result n ≡ None }
+        ensures pens { (n : ℕ) → pens_so_far result n ≡ None }
         ensures commands { result.commands ≡ 0 }
     {
         Reader {
             state: at_start(),
             edges: Vec::new(alloc),
             marks: HashMap::new(alloc),
+            pens: HashMap::new(alloc),
             commands: 0,
         }
     }
@@ -71,6 +77,7 @@ impl Reader {
         requires mark { IfSome (option_map plain_mark mark) IsShortMark }
         ensures marked { OnOk result (IsMarked self.old (option_map plain_mark mark) self.new) }
         ensures edges { self.new.edges ≡ self.old.edges }
+        ensures pens { self.new.pens ≡ self.old.pens }
         ensures short { OnOk result (AreShort (marks_so_far self.new)) }
         ensures halt { IfErr result (λ h. h ≡ halt.NoMemory) }
     {
@@ -88,11 +95,25 @@ impl Reader {
         requires edges { All IsShort self.old.edges.items }
         ensures marked { OnOk result (IsMarked self.old (contour_mark self.old.edges.items) self.new) }
         ensures edges { OnOk result (self.new.edges.items ≡ []) }
+        ensures pens { self.new.pens ≡ self.old.pens }
         ensures short { OnOk result (AreShort (marks_so_far self.new)) }
         ensures halt { IfErr result (λ h. h ≡ halt.NoMemory) }
     {
         let edges = replace(&mut self.edges, Vec::new(alloc));
         self.put(contour_mark(edges))
+    }
+
+    // The fine pen of a command that draws.
+    fn pen_at(&self, command: &Command) -> Option<u64>
+        ensures { result ≡ drawn_with (view command.now) (pen_with self.now.state.selected (pens_so_far self.now)) }
+    {
+        if !draws(command) {
+            return None;
+        }
+        let Some(n) = self.state.selected else {
+            return None;
+        };
+        self.pens.get(&n).copied()
     }
 
     // Takes the last command.
@@ -102,12 +123,14 @@ impl Reader {
         state: &State,
         command: &Command,
         bend: Option<Bend>,
+        pen: Option<u64>,
     ) -> Result<(), Halt<RealKind>>
         requires short { AreShort (marks_so_far self.old) }
         requires edges { All IsShort self.old.edges.items }
         requires bend { IsShort bend }
-        ensures marked { OnOk result (IsMarked self.old (mark_with (closes (view command.now) state.now) self.old.edges.items bend (flashes (view command.now) state.now)) self.new) }
+        ensures marked { OnOk result (IsMarked self.old (mark_with (closes (view command.now) state.now) self.old.edges.items bend pen (flashes (view command.now) state.now)) self.new) }
         ensures edges { OnOk result (self.new.edges.items ≡ edges_by (view command.now) state.now.region self.old.edges.items bend) }
+        ensures pens { self.new.pens ≡ self.old.pens }
         ensures short { OnOk result (AreShort (marks_so_far self.new)) }
         ensures shorts { OnOk result (All IsShort self.new.edges.items) }
         ensures halt { IfErr result (λ h. h ≡ halt.NoMemory) }
@@ -117,7 +140,7 @@ impl Reader {
         }
         let edges = replace(&mut self.edges, Vec::new(alloc));
         self.edges = edges_behind(command, state.region, edges, bend)?;
-        self.put(mark_by(bend, flashes(command, state)))
+        self.put(mark_by(bend, pen, flashes(command, state)))
     }
 
     // Takes a word. An `Err` leaves a reader that is of no more use.
@@ -131,16 +154,19 @@ impl Reader {
         ensures lawful { OnOk result (IsLawfulState self.new.state) }
         ensures short { OnOk result (AreShort (marks_so_far self.new)) }
         ensures edges { OnOk result (All IsShort self.new.edges.items) }
-        ensures halt { IfErr result (Stops (mark_spec self.old.state self.old.edges.items (saying_of word.now))) }
+        ensures halt { IfErr result (Stops (mark_spec self.old.state self.old.edges.items (pen_with self.old.state.selected (pens_so_far self.old)) (saying_of word.now))) }
     {
         if selects_alone(word) {
             self.commands += 1;
+            self.state.selected = selected_behind(self.state.selected, &word.command);
             return Ok(());
         }
         let state = self.state;
         let bend = bend_of(&state, word)?;
+        let pen = self.pen_at(&word.command);
         self.commands += 1;
-        self.mark(alloc, &state, &word.command, bend)?;
+        keep_pen(&mut self.pens, word, state.unit)?;
+        self.mark(alloc, &state, &word.command, bend, pen)?;
         self.state = state.behind(word);
         Ok(())
     }

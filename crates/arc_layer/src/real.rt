@@ -13,6 +13,7 @@ ghost use Rattle.std.specs.Prelude.{◌≡◌, ◌≤◌, All, drop, length, map
 
 use crate::centres::moved;
 use crate::draws::Bend;
+use crate::fine::fine_draw;
 use crate::kind::{RealFault, RealKind};
 use crate::mark::Mark;
 use crate::marks::{Marks, read_marks};
@@ -22,6 +23,7 @@ use arcs::Arc;
 use area_contact::Area;
 use board_shapes::{MOST_LAYERS, Piece, Placed, Shape};
 use contact::Capsule;
+use fine_figures::FineFigure;
 use gerber_layer::laws::one_loose_answer;
 use gerber_layer::{FlattenFault, FlattenKind, Loose, Place, read_by};
 use gerber_words::laws::words_lie_ahead;
@@ -31,13 +33,23 @@ use slants::Slant;
 use std::alloc::Global;
 use texts::MOST_BYTES;
 
-/// The arc of a bend between the ends of a straight draw.
-fn arc_of(bend: &Bend, stroke: &Capsule) -> Arc
+// As wide as a fine pen, or else as twice the radius.
+fn width_by(pen: Option<u64>, stroke: &Capsule) -> u64
+    ensures { result ≡ spec.width_by pen (record { a = stroke.now.a; b = stroke.now.b; r = stroke.now.r }) }
+{
+    match pen {
+        Some(pen) => pen,
+        None => 2 * stroke.r.unsigned_abs(),
+    }
+}
+
+/// The arc of a bend between the ends of a straight draw, with the fine pen that draws it, if it is one.
+fn arc_of(bend: &Bend, pen: Option<u64>, stroke: &Capsule) -> Arc
     requires { IsPlaced bend.now.to_centre }
-    ensures { result ≡ spec.arc_of bend.now (record { a = stroke.now.a; b = stroke.now.b; r = stroke.now.r }) }
+    ensures { result ≡ spec.arc_of bend.now pen (record { a = stroke.now.a; b = stroke.now.b; r = stroke.now.r }) }
 {
     let centre = moved(stroke.a, bend.to_centre);
-    let width = 2 * stroke.r.unsigned_abs();
+    let width = width_by(pen, stroke);
     if bend.clockwise {
         Arc {
             centre,
@@ -78,7 +90,8 @@ fn marked(mark: &Mark, stroke: Capsule) -> RealShape
     ensures { real_figure result ≡ spec.with_mark (Some (plain_mark mark.now)) (figure_of (shape.Round stroke)) }
 {
     match mark {
-        Mark::Arc(bend) => RealShape::ArcDraw(arc_of(bend, &stroke)),
+        Mark::Arc(bend, pen) => RealShape::ArcDraw(arc_of(bend, *pen, &stroke)),
+        Mark::Pen(pen) => RealShape::Fine(FineFigure::Round(fine_draw(*pen, &stroke))),
         Mark::Flash => if is_slanted(&stroke) {
             RealShape::Slanted(slant_of(&stroke))
         } else {
@@ -170,7 +183,8 @@ fn marked_area(alloc: Global, mark: &Mark, area: Area) -> Result<RealShape, Real
 {
     match mark {
         Mark::Contour(edges) => region_by(alloc, area, edges),
-        Mark::Arc(_) => Ok(RealShape::Plain(Shape::Filled(area))),
+        Mark::Arc(_, _) => Ok(RealShape::Plain(Shape::Filled(area))),
+        Mark::Pen(_) => Ok(RealShape::Plain(Shape::Filled(area))),
         Mark::Flash => flashed(alloc, area),
     }
 }
@@ -295,8 +309,8 @@ fn first_fault(straight: FlattenFault, marks: Result<Marks, RealFault>) -> RealF
 /// The real copper of a layer, in the order of the commands that make it; all lengths are in u, a tenth of
 /// a nanometre. A draw under `G02` or `G03` is its arc, a contour with arcs its region, a vector line of a macro that runs along
 /// no axis its rectangle, a macro's area or disc that is turned by degrees its figure before the turn with what is left to
-/// turn, a polygon of one that polygon, a flash with a round hole a draw once round or a region, one of an odd size its figure
-/// in half u, and each other piece what `read_by::<Loose>` has.
+/// turn, a polygon of one that polygon, a flash with a round hole a draw once round or a region, what is of an odd size its
+/// figure in half u, and each other piece what `read_by::<Loose>` has.
 ///
 /// `Refused` is the first command with a fault, also of an arc, and the first condition of its row that holds; want of
 /// memory is `NoMemory`. The file has at most `MOST_BYTES` bytes.

@@ -8,7 +8,7 @@ ghost use Rattle.gerber_layer.specs.CommandEffects as effects;
 ghost use Rattle.gerber_layer.specs.Lawful.{IsLawfulCommand, IsShortFormat, IsWhole};
 ghost use Rattle.gerber_layer.specs.Settings as set;
 ghost use Rattle.planar.specs.Plane.{IsPlaced, IsReached};
-ghost use Rattle.std.specs.Option.{option_copied};
+ghost use Rattle.std.specs.Option.{option_copied, option_or};
 ghost use Rattle.std.specs.Prelude.{◌≡◌, ◌≤◌, []};
 
 use crate::words::{Curve, Quadrants, Saying};
@@ -23,6 +23,8 @@ pub struct State {
     pub unit: Option<Unit>,
     /// The current point, in u.
     pub at: Spot,
+    /// The current aperture.
+    pub selected: Option<u32>,
     /// A region is open.
     pub region: bool,
     pub curve: Curve,
@@ -40,6 +42,7 @@ pub fn at_start() -> State
         format: None,
         unit: None,
         at: Spot { x: 0, y: 0 },
+        selected: None,
         region: false,
         curve: Curve::Line,
         quadrants: None,
@@ -71,6 +74,16 @@ fn unit_behind(first: Option<Unit>, command: &Command) -> Option<Unit>
     match *command {
         Command::Unit(unit) => Some(unit),
         _ => None,
+    }
+}
+
+/// The aperture in force behind a command.
+pub fn selected_behind(selected: Option<u32>, command: &Command) -> Option<u32>
+    ensures { result ≡ option_or (set.selection_in (view command.now)) selected }
+{
+    match *command {
+        Command::Select(n) => Some(n),
+        _ => selected,
     }
 }
 
@@ -150,6 +163,7 @@ impl State {
             format: format_behind(self.format, &word.command),
             unit: unit_behind(self.unit, &word.command),
             at: self.point_behind(&word.command),
+            selected: selected_behind(self.selected, &word.command),
             region: region_behind(self.region, &word.command),
             curve: self.curve_at(word),
             quadrants: match word.quadrants {

@@ -446,7 +446,7 @@ fn of_holes() -> [(&'static str, &'static str); 7] {
     ]
 }
 
-// Flashes of odd sizes, all of this crate's own: in half u, also in copies; and no pens.
+// Flashes of odd sizes, all of this crate's own: in half u, also in copies; rectangles and obrounds are no pens.
 fn of_fines() -> [(&'static str, &'static str); 8] {
     [
         (
@@ -475,12 +475,54 @@ fn of_fines() -> [(&'static str, &'static str); 8] {
             "an area, -10000000 -5000000, 10000000 -5000000, 10000000 5000000, -10000000 5000000, -10000000 -5000000 by 8.0",
         ),
         (
-            "%ADD11C,1.0000001*%D11*X1000000D01*M02*",
+            "%ADD11O,1.0000001X1.0000001*%D11*X1000000D01*M02*",
             "Copper(Gerber(PenNotCircle)) at command 7",
         ),
         (
             "%ADD11C,1.00000001*%M02*",
             "Copper(Gerber(OffGrid)) at command 5",
+        ),
+    ]
+}
+
+// Draws with pens of odd sizes, all of this crate's own: straight ones in half u, arcs as wide as the pen.
+fn of_fine_pens() -> [(&'static str, &'static str); 8] {
+    [
+        (
+            "%ADD11C,1.0000001*%D11*X1000000Y-2000000D01*D10*X0D01*M02*",
+            "in halves 0 0, 20000000 -40000000, 10000001 by 7.0\n10000000 -20000000, 0 -20000000, 5000000 by 9.0",
+        ),
+        // Any word that selects it counts, and 0.1 nm is a pen.
+        (
+            "%ADD11C,0.0000001*%%SRX2Y1I3.0J0*%G54D11*D03*X1000000D01*%SR*%M02*",
+            "in halves 0 0, 0 0, 1 by 8.0\nin halves 0 0, 20000000 0, 1 by 9.0\nin halves 60000000 0, 60000000 0, 1 by 8.1\nin halves 60000000 0, 80000000 0, 1 by 9.1",
+        ),
+        // Others draw as they did.
+        (
+            "%ADD11C,0.3*%%ADD12C,0.3000001*%D11*X1000000D01*D12*X0D01*D11*X1000000D01*M02*",
+            "0 0, 10000000 0, 1500000 by 8.0\nin halves 20000000 0, 0 0, 3000001 by 10.0\n0 0, 10000000 0, 1500000 by 12.0",
+        ),
+        (
+            "%ADD11C,0.1000001*%D11*G75*G02X1000000I500000J0D01*G01X0D01*M02*",
+            "(5000000 0) 10000000 0, 0 0, 1000001 by 8.0\nin halves 20000000 0, 0 0, 1000001 by 9.0",
+        ),
+        (
+            "%ADD11C,0.1000001*%D11*G74*G03X1000000Y1000000I0J1000000D01*D10*X0Y2000000I1000000J0D01*M02*",
+            "(0 10000000) 0 0, 10000000 10000000, 1000001 by 8.0\n(0 10000000) 10000000 10000000, 0 20000000, 10000000 by 10.0",
+        ),
+        (
+            "%FSLAX26Y26*%%MOIN*%%ADD11C,0.0000005*%D11*X1000000D01*M02*",
+            "in halves 0 0, 508000000 0, 127 by 5.0",
+        ),
+        // In a region and by a move it draws nothing.
+        (
+            "%ADD11C,0.1000001*%D11*G36*X1000000D01*Y1000000D01*X0Y0D01*G37*X2000000D02*M02*",
+            "an area, 0 0, 10000000 0, 10000000 10000000, 0 0 by 11.0",
+        ),
+        // What ends a metre from 0.
+        (
+            "%ADD11C,49.9999999*%D11*X1000000000D01*M02*",
+            "in halves 0 0, 20000000000 0, 499999999 by 7.0",
         ),
     ]
 }
@@ -534,6 +576,10 @@ fn arcs_are_read(rt: HostRuntime) -> Result<(), Fail> {
         assert_eq!(rt; read.as_str(), expected);
     }
     for (words, expected) in of_fines() {
+        let read = told(rt.alloc(), words)?;
+        assert_eq!(rt; read.as_str(), expected);
+    }
+    for (words, expected) in of_fine_pens() {
         let read = told(rt.alloc(), words)?;
         assert_eq!(rt; read.as_str(), expected);
     }

@@ -17,7 +17,7 @@ use Rattle.apertures.specs.Definition.{is_zero}
 use Rattle.apertures.specs.Flash.{NoFlash, leaves, IsNarrow, IsSize, IsLawful, half, area_at, disc, rectangle_at, obround, placed, flash_of}
 use Rattle.apertures.specs.Telling.{told_fine, told_frame, told_ring}
 use Rattle.apertures.specs.declared.aperture.Aperture.{Aperture}
-use Rattle.apertures.specs.declared.aperture.Aperture.TheVariants.{Circle, Rectangle, Obround, Ring, Frame, FineRectangle, FineObround}
+use Rattle.apertures.specs.declared.aperture.Aperture.TheVariants.{Circle, Rectangle, Obround, Ring, Frame, FineRectangle, FineObround, FineCircle}
 use Rattle.regions.specs.Contours.{stays_open, too_short, close_of, same_number, same_spot}
 use Rattle.macro_flatten.specs.Laws.{IsDrawn}
 use Rattle.area_contact.specs.declared.TheConstants.{MOST_CONTOUR_POINTS}
@@ -113,6 +113,7 @@ flash_drawn (Ring d hole) to f h k e = area_drawn (told_ring (unsigned_abs d) (u
 flash_drawn (Frame x y hole) to f h k e = area_drawn (told_frame (unsigned_abs x) (unsigned_abs y) (unsigned_abs hole) to) f refl (omega arith) (omega arith) e
 flash_drawn (FineRectangle x y) to f h k e = area_drawn (told_fine false (unsigned_abs x) (unsigned_abs y) to) f refl (omega arith) (omega arith) e
 flash_drawn (FineObround x y) to f h k e = area_drawn (told_fine true (unsigned_abs x) (unsigned_abs y) to) f refl (omega arith) (omega arith) e
+flash_drawn (FineCircle d) to f h k e = area_drawn (told_fine true (unsigned_abs d) (unsigned_abs d) to) f refl (omega arith) (omega arith) e
 
 -- ---- Contours
 

@@ -108,11 +108,11 @@ class Asked(made.Case):
         self.assertEqual(thin.split(" ")[0], "0")
 
     def test_counts_of_odd_sizes(self):
-        """A line for each flash of an odd size, which has one figure on both sides, or none below; a definition alone is no piece."""
+        """A line for each flash and draw of an odd size, which has one figure on both sides, or none below; a definition alone is no piece."""
         odd = ["%ADD14C,0.0000003*%", "%ADD15O,0.0000001X0.4*%", "%ADD16R,1X0.4000001*%"]
         program = Recorder(Answer(3, b"", "no"))
-        self.told(program, [*HALF, *odd, "D15*", "%SRX2Y1I9.0J0*%", "X0Y5000000D03*", "%SR*%", "D16*", "X0Y5000000D03*"], [A, B])
-        self.assertEqual(program.texts[3].split("\n")[2:-1], ["0 1", "0 1", "1 1"])
+        self.told(program, [*HALF, *odd, "D15*", "%SRX2Y1I9.0J0*%", "X0Y5000000D03*", "%SR*%", "D16*", "X0Y5000000D03*", "D14*", "X9000000Y9000000D01*"], [A, B])
+        self.assertEqual(program.texts[3].split("\n")[2:-1], ["0 1", "0 1", "1 1", "1 1"])
 
     def test_counts_of_frames(self):
         """A line for each rectangle with a hole, a region, of which there is one area below, or none where it is thin."""
@@ -207,6 +207,7 @@ class Taken(made.Case):
         ("a rectangle with a hole", ["%ADD14R,3X2X1*%", "D14*", "X0Y0D03*"], [record("A", "J1.1", 1, .4), record("A", "J1.2", -.6, 0)], "agrees"),
         ("a point in the hole of a rectangle", ["%ADD14R,3X2X1*%", "D14*", "%SRX2Y1I5.0J0*%", "X0Y0D03*", "%SR*%"], [A, record("B", "J1.2", 5, 0)], "differs"),
         ("a circle of an odd size", ["%ADD14C,2.0000001*%", "D14*", "X0Y0D03*"], [A, B], "agrees"),
+        ("draws with a pen of an odd size", ["%ADD14C,0.1999999*%", "D14*", *HALF, "X1000000Y0D01*"], [A, B], "agrees"),
         ("nearer to the border of an odd size", ["%ADD14C,1.9999999*%", "D14*", "X0Y0D03*"], [A, B], "undecided"),
         ("odd sizes", ["%ADD14R,2.0000001X0.4*%", "%ADD15O,2.0000001X0.4*%", "%ADD16O,0.4000001X2*%", "%ADD17C,0.0000001*%",
                        *(word for k in range(14, 18) for word in (f"D{k}*", f"X0Y{k - 14}000000D03*"))],

@@ -1,5 +1,5 @@
-use Rattle.arc_layer.proofs.Fines.{obrounds, rectangles}
+use Rattle.arc_layer.proofs.Fines.{circles, obrounds, rectangles}
 use Rattle.arc_layer.proofs.laws.fines_are_told.Goals as goal
 
 pub returns : goal.returns
-returns c = record { rectangles = rectangles; obrounds = obrounds }
+returns c = record { rectangles = rectangles; obrounds = obrounds; circles = circles }

@@ -4,7 +4,8 @@ use Rattle.gerber_words.specs.Stepping.{ahead, entry_of}
 use Rattle.arc_layer.specs.Bends.{IsShort}
 use Rattle.arc_layer.specs.Marks.{mark_of}
 use Rattle.arc_layer.specs.declared.draws.Bend.{Bend}
-use Rattle.arc_layer.specs.Reading.{marks_of}
+use Rattle.arc_layer.specs.Pens.{pen_with}
+use Rattle.arc_layer.specs.Reading.{marks_of, pens_so_far}
 use Rattle.arc_layer.specs.Words.{Saying}
 use Rattle.arc_layer.proofs.ReadSoFar.{ReadSoFar, none_short, nothing-read, word-fault, word-read, stop-read}
 use Rattle.arc_layer.proofs.marks.read_marks.Goals as goal
@@ -15,7 +16,7 @@ loop-word-init c =
     let size : length c.new-words.result.cursor.rest.now ≡ length c.args.file.now = ap (λ (a : Ahead). length a.bytes) at_start in
     let none : c.new-reader.result.commands ≡ 0 = c.new-reader.ensures.commands in
     record {
-      read = subst (λ (a : Ahead). ReadSoFar c.args.file.now a c.new-reader.result) (sym at_start) (nothing-read c.args.file.now c.new-reader.result c.new-reader.ensures.state c.new-reader.ensures.edges c.new-reader.ensures.marks none);
+      read = subst (λ (a : Ahead). ReadSoFar c.args.file.now a c.new-reader.result) (sym at_start) (nothing-read c.args.file.now c.new-reader.result c.new-reader.ensures.state c.new-reader.ensures.edges c.new-reader.ensures.pens c.new-reader.ensures.marks none);
       lawful = c.new-reader.ensures.lawful;
       short = none_short _ c.new-reader.ensures.marks;
       edges = subst (λ (xs : List (Option Bend)). All IsShort xs) (sym c.new-reader.ensures.edges) (λ i d below. absurd (omega (arith, below)));
@@ -37,7 +38,7 @@ loop-word-preserved c =
 pub returns-in-Err-Fault-clause-fault : goal.returns-in-Err-Fault-clause-fault
 returns-in-Err-Fault-clause-fault c =
     let halts = rw c.in-Err-Fault.field-0-is at c.in-Err-Fault.ensures.halt in
-    let stops = subst (λ (w : Saying). mark_of c.loop-word.reader.state c.loop-word.reader.edges.items w ≡ Err c.in-Err-Fault.kind) c.read_word.ensures.value halts in
+    let stops = subst (λ (w : Saying). mark_of c.loop-word.reader.state c.loop-word.reader.edges.items (pen_with c.loop-word.reader.state.selected (pens_so_far c.loop-word.reader)) w ≡ Err c.in-Err-Fault.kind) c.read_word.ensures.value halts in
     rw c.in-Err-Fault.field-0-is (word-fault c.words_lie_ahead.ensures c.args.file.now (ahead c.loop-word.words) (ahead c.next_word.new.self) (entry_of c.in-Word.word) c.loop-word.reader c.in-Err-Fault.kind _ c.loop-word.invariant.read c.in-Word.ensures.next refl stops)
 
 pub returns-in-End-clause-ok : goal.returns-in-End-clause-ok

@@ -1,5 +1,8 @@
-use Rattle.std.proofs.Common.{Option, Result, sym, ap, ◌∙◌}
+use Rattle.std.proofs.Common.{ℕ, Option, Result, sym, ap, ◌∙◌}
+use Rattle.std.specs.HashMap.{get}
+use Rattle.std.specs.Prelude.{nat_eq}
 use Rattle.gerber_layer.specs.Settings.{ok_or_none}
+use Rattle.arc_layer.specs.Bends.{bend_of}
 use Rattle.arc_layer.specs.Marks.{closes, edges_by, flashes, mark_with, marked}
 use Rattle.arc_layer.specs.Words.{saying_of}
 use Rattle.arc_layer.specs.declared.draws.Bend.{Bend}
@@ -13,10 +16,11 @@ returns-clause-takes c =
     let edges = c.args.self.now.edges.items in
     let bend = c.in_ok-bend.ensures.value in
     record {
-      mark = mark_with (closes w.command s) edges c.in_ok-bend.bend (flashes w.command s);
-      clean = ap (λ (r : Result (Option Bend) RealKind). marked r (closes w.command s) edges (flashes w.command s)) (sym bend);
+      mark = mark_with (closes w.command s) edges c.in_ok-bend.bend c.pen_at-pen.result (flashes w.command s);
+      clean = ap (λ (pen : Option ℕ). marked (bend_of s w) (closes w.command s) edges pen (flashes w.command s)) (sym c.pen_at-pen.ensures) ∙ ap (λ (r : Result (Option Bend) RealKind). marked r (closes w.command s) edges c.pen_at-pen.result (flashes w.command s)) (sym bend);
       state = c.behind-self.ensures.value;
       edges = c.in_ok-mark.ensures.edges ∙ ap (λ (r : Result (Option Bend) RealKind). edges_by w.command s.region edges (ok_or_none r)) bend;
+      pens = λ n. ap (λ m. get nat_eq m n) c.in_ok-mark.ensures.pens ∙ c.in_ok-keep_pen.ensures.ok n;
       marks = c.in_ok-mark.ensures.marked.marks;
       counts = c.in_ok-mark.ensures.marked.commands;
     }
