@@ -12,7 +12,7 @@ use Rattle.verdict.specs.declared.verdict.Short.{Short}
 use Rattle.verdict.specs.declared.verdict.Supplement.{Supplement}
 use Rattle.verdict.specs.declared.verdict.Verdict.{Verdict}
 use Rattle.verdict.specs.Lawful.{IsNumber, IsTwig, IsPointLine, IsOpen, IsBranchLine, IsShort, IsSpotLine, IsSourceLine, IsSupplement, IsVerdict}
-use Rattle.verdict.specs.ReportReading.{Gives, behind, word_at, count_at, net_at, name_at, point_at, open_at, branch_at, items_at, short_at, bare_at, spot_at, source_at, section_at, titled_at, first_behind, first_line_at, supplement_at, more_at, ended, findings_at, lists_at, report_at}
+use Rattle.verdict.specs.ReportReading.{Gives, behind, word_at, count_at, net_at, name_at, point_at, open_at, branch_at, items_at, short_at, bare_at, spot_at, source_at, section_at, titled_at, first_behind, first_line_at, supplement_at, more_at, ended, endings_at, findings_at, lists_at, report_at}
 use Rattle.verdict.specs.ReportText.{word, end, count_line, numbered, line_of, section_text, net_line, name_line, point_line, open_line, branch_line, short_lines, bare_line, spot_line, source_line, last_line, nets_text, names_text, points_text, opens_text, shorts_text, bare_text, first_line, more_text, report_text}
 use Rattle.verdict.proofs.Steps.{step, some_is, guard_some, front_then, behind_takes, behind_again, word_takes, word_again, count_takes, count_again}
 use Rattle.verdict.proofs.ReadLists.{IsLine, items_take, items_again, items_few}
@@ -228,7 +228,7 @@ ended_again : (v : Verdict) → ended v (last_of v) ≡ Some v
 ended_again v = let same : pointwise eqb (last_of v) (last_of v) ≡ true = (bytes_eq-Decides (last_of v) (last_of v)).1 refl in ap (λ (b : Bool). cond b (Some v) None) same
 
 pub report_takes : (text : List ℕ) (v : Verdict) → report_at text ≡ Some v → IsVerdict v × (text ≡ report_text v)
-unfolding report_at lists_at findings_at
+unfolding report_at lists_at findings_at endings_at
 report_takes text v e = bind_then (first_line_at text) _ v e (λ a ha e1. bind_then (titled_at (codes "pieces") a.1) _ v e1 (λ b hb e2.
     bind_then (section_at net_at (codes "nets") b.1) _ v e2 (λ c hc e3. bind_then (section_at name_at (codes "names") c.1) _ v e3 (λ d hd e4.
     bind_then (section_at point_at (codes "points") d.1) _ v e4 (λ f hf e5. bind_then (section_at open_at (codes "opens") f.1) _ v e5 (λ g hg e6.
@@ -258,7 +258,7 @@ report_takes text v e = bind_then (first_line_at text) _ v e (λ a ha e1. bind_t
     subst (λ (w : Verdict). IsVerdict w × (text ≡ report_text w)) last.1 (lawful, whole))))))))))
 
 pub report_again : (v : Verdict) → IsVerdict v → length (report_text v) < 2 ^ 64 → report_at (report_text v) ≡ Some v
-unfolding report_at lists_at findings_at
+unfolding report_at lists_at findings_at endings_at
 report_again v is small =
     let m = 2 ^ 64 in
     let s0 : length (first_line v.more ++ from_pieces v (last_of v)) < 2 ^ 64 = subst (λ (t : List ℕ). length t < 2 ^ 64) (report_parts v) small in

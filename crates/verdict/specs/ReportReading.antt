@@ -304,14 +304,19 @@ more_at true bytes = supplement_at bytes >>= λ more. Some (Some more.0, more.1)
 abbrev pub ended : Verdict → List ℕ → Option Verdict
 ended v rest = if pointwise ◌==◌ rest (last_line v.opens v.shorts v.bare) then Some v else None
 
+-- what stands behind the shorts: the points without copper, the supplement, and the last line that is asked for
+unfoldable pub endings_at : Listed → List Open → List Short → List ℕ → Option Verdict
+endings_at listed opens shorts bytes = do
+  bare ← section_at bare_at (codes "missing") bytes
+  more ← more_at listed.told bare.1
+  ended (record { pieces = listed.pieces; names = listed.names; nets = listed.nets; points = listed.points; opens = opens; shorts = shorts; bare = bare.0; more = more.0 }) more.1
+
 -- what stands behind the lists of the board: what is amiss, the supplement, and the last line that they ask for
 unfoldable pub findings_at : Listed → List ℕ → Option Verdict
 findings_at listed bytes = do
   opens ← section_at open_at (codes "opens") bytes
   shorts ← section_at short_at (codes "shorts") opens.1
-  bare ← section_at bare_at (codes "missing") shorts.1
-  more ← more_at listed.told bare.1
-  ended (record { pieces = listed.pieces; names = listed.names; nets = listed.nets; points = listed.points; opens = opens.0; shorts = shorts.0; bare = bare.0; more = more.0 }) more.1
+  endings_at listed opens.0 shorts.0 shorts.1
 
 -- the lists of the board, behind the number of its pieces, and what stands behind them
 unfoldable pub lists_at : Bool → ℕ → List ℕ → Option Verdict
