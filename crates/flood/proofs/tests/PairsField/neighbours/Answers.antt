@@ -2,7 +2,7 @@ use Rattle.std.proofs.Common.{◌≡◌, ℕ, ◌+◌, ◌<◌, List, arith, sym
 use Rattle.tables.proofs.Listing.{IsListing, listing_all, listing_more, listing_skip}
 use Rattle.cell_index.specs.Field.{IsNear}
 use Rattle.flood.proofs.Linking.{IsLinked}
-use Rattle.flood.proofs.tests.PairsField.neighbours.Goals.{then-linked+in_ok-push, else-linked}
+use Rattle.flood.proofs.tests.PairsField.neighbours.Goals.{then-linked+in_default, else-linked}
 use Rattle.flood.proofs.tests.PairsField.neighbours.Goals as goal
 
 pub loop-q-preserved-then-q-i : goal.loop-q-preserved-then-q-i
@@ -13,7 +13,7 @@ loop-q-preserved g c =
     let near : ℕ → Type 0 = IsNear c.args.self.now.count (IsLinked c.args.self.now.pairs.now) c.args.i in
     let q : ℕ = c.loop-q.q in
     elim c.if-linked.branch [
-      | then-linked+in_ok-push w ↦ subst (λ (xs : List ℕ). IsListing near (q + 1) xs) (sym (ap (λ v. v.items) w.into-is ∙ w.in_ok-push.ensures.items))
+      | then-linked+in_default w ↦ subst (λ (xs : List ℕ). IsListing near (q + 1) xs) (sym (ap (λ v. v.items) w.into-is ∙ w.in_default.ensures.items))
           (listing_more near q c.loop-q.into.items c.loop-q.invariant (record { first = c.requires; second = c.loop-q-test.true; other = λ e. c.if-q-i.false (sym e); touch = c.linked.ensures.0 w.if-linked.true }))
       | else-linked w ↦ subst (λ (xs : List ℕ). IsListing near (q + 1) xs) (sym (ap (λ v. v.items) w.into-is))
           (listing_skip near q c.loop-q.into.items c.loop-q.invariant (λ n. let h = c.linked.ensures.1 n.touch in let f = w.if-linked.false in cc))
