@@ -12,8 +12,8 @@ returns-in-Ok-clause-marked c =
 pub returns-in-Ok-begin-clause-marked : goal.returns-in-Ok-begin-clause-marked
 returns-in-Ok-begin-clause-marked c =
     let fit = subst (IsFit c.args.self.now.dictionary) c.in-Begins.is c.requires.fit in
-    begun_marked c.args.self.now.dictionary c.begin.new.self c.in-Begins.name.now c.in-Ok-begin.ensures.macros c.in-Ok-begin.ensures.kept fit c.requires.marked
+    begun_marked c.args.self.now.dictionary c.begin.new.self c.in-Begins.name.now c.in-Ok-begin.ensures.macros c.begin.ensures.kept fit c.requires.marked
 
 pub returns-in-Ok-fill-clause-marked : goal.returns-in-Ok-fill-clause-marked
 returns-in-Ok-fill-clause-marked c =
-    filled_marked c.args.self.now.dictionary c.fill.new.self (plain c.in-Fills.primitive) c.in-Ok-fill.ensures.macros c.in-Ok-fill.ensures.kept c.requires.marked
+    filled_marked c.args.self.now.dictionary c.fill.new.self (plain c.in-Fills.primitive) c.in-Ok-fill.ensures.macros c.fill.ensures.kept c.requires.marked
