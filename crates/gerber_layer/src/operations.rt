@@ -129,16 +129,22 @@ impl<'a> Reader<'a> {
         ensures lawful { OnOk result (IsLawfulReader self.new) }
         ensures halt { IfErr result (Stops (spec.effect (known_of self.old) (view command.now))) }
     {
+        // What is called is lent a copy, so that the command itself need not lie in memory.
         if self.settings.ended {
-            return self.obey_by_effect(alloc, command);
+            let copy = *command;
+            return self.obey_by_effect(alloc, &copy);
         }
         if self.settings.region {
-            return self.obey_by_effect(alloc, command);
+            let copy = *command;
+            return self.obey_by_effect(alloc, &copy);
         }
         match *command {
             Command::Select(n) => self.select(n),
             Command::Operate(x, y, code) => self.operate_at_once(alloc, x, y, code),
-            _ => self.obey_by_effect(alloc, command),
+            _ => {
+                let copy = *command;
+                self.obey_by_effect(alloc, &copy)
+            },
         }
     }
 
