@@ -24,7 +24,8 @@ fn fault_at(halt: Halt<DrillKind>, line: u32, at: usize) -> DrillFault
     }
 }
 
-// Obeys a line that stands at a place.
+// Obeys a line that stands at a place. It is inlined into the loop over lines, so that a form is not copied on the way.
+#[inline(always)]
 fn obey_at(reader: &mut Reader, form: &DrillLine, at: usize) -> Result<(), DrillFault>
     requires lawful { IsLawfulReader reader.old }
     requires few { reader.old.lines + 1 < 2 ^ 32 }
@@ -36,7 +37,8 @@ fn obey_at(reader: &mut Reader, form: &DrillLine, at: usize) -> Result<(), Drill
     reader.obey(form).map_err(|halt| fault_at(halt, number, at))
 }
 
-// Obeys the file's end, and gives the pieces.
+// Obeys the file's end, and gives the pieces. It is a call, since it comes once.
+#[inline(never)]
 fn finished(mut reader: Reader, at: usize) -> Result<Vec<Piece>, DrillFault>
     requires lawful { IsLawfulReader reader }
     requires few { reader.lines + 1 < 2 ^ 32 }

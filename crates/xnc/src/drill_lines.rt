@@ -125,6 +125,8 @@ fn slot_end(text: &[u8]) -> Option<Coordinates>
     }
 }
 
+// A place, which most lines are, or a slot. It is inlined into the loop over lines.
+#[inline(always)]
 #[tactic(auto, unfolding(crate::specs::DrillLines::place_line))]
 fn place_line(text: &[u8]) -> DrillLine
     ensures { result ≡ spec.place_line text.now }

@@ -108,7 +108,9 @@ impl Reader {
         Ok(Effect::Drills(to, barrel))
     }
 
-    // What a line does that names a place, where the mode and the tool allow it. The diameter was looked up once.
+    // What a line does that names a place, where the mode and the tool allow it. The diameter was looked up once. It is inlined, as all that
+    // obeys a place.
+    #[inline(always)]
     #[tactic(auto, unfolding(crate::specs::Reader::placed_row, crate::specs::DrillEffects::rout, crate::specs::DrillEffects::straight, crate::specs::DrillEffects::hit, crate::specs::DrillEffects::slot))]
     fn placed_row(&self, form: &DrillLine, diameter: Option<u64>) -> Result<Effect, DrillKind>
         requires lawful { IsLawfulReader self.now }
