@@ -1,18 +1,24 @@
 //! The list of the gaps of a board.
 ghost use Rattle.board_shapes.specs.CommonBox.{Fits};
 ghost use Rattle.board_shapes.specs.Plain.{plain_board};
+ghost use Rattle.board_shapes.specs.Shapes.{InShape, shape_box};
 ghost use Rattle.board_shapes.specs.Tables.{IsNear};
+ghost use Rattle.cell_index.specs.Among.{TouchAmong};
 ghost use Rattle.contact.specs.Solid.{IsInside};
+ghost use Rattle.gaps.specs.Firsts.{AreFirsts};
 ghost use Rattle.gaps.specs.Gaps.{AreGaps, CloseAt};
+ghost use Rattle.gaps.specs.Grown.{Grown, wider_box};
 ghost use Rattle.gaps.specs.GrownBox.{IsGapFault, grown_box, grown_common};
-ghost use Rattle.std.specs.Prelude.{All, IfErr, IfOk, length, pos, ◌*◌, ◌+ℤ◌, ◌<◌, ◌≡◌, ◌≤◌};
+ghost use Rattle.gaps.specs.Meetings.{IsFieldLine};
+ghost use Rattle.std.specs.Prelude.{All, IfErr, IfOk, length, pos, ◌*◌, ◌+ℤ◌, ◌<◌, ◌^◌, ◌≡◌, ◌≤◌};
 ghost use Rattle.verdict.specs.Forest.{IsForest};
 
+use super::Fat;
 use super::fats::{fats_of, spans_of};
 use super::gap::Gap;
 use super::grown_box::{common, frame_for};
-use super::meetings::meetings;
-use board_shapes::Board;
+use super::meetings::{Span, meetings};
+use board_shapes::{Board, Placed};
 use cell_index::Cells;
 use contact::Bounds;
 use lengths::rows::{NoMemory, Rows};
@@ -88,11 +94,31 @@ fn gaps_in<L: Ledger>(
     let numbers = numbers_of(alloc, nets, pieces.len())?;
     let spans = spans_of(alloc, pieces)?;
     let fats = fats_of(alloc, pieces, grow)?;
-    let field = Cells::for_search(alloc, &fats, frame)?;
+    met_in::<L>(alloc, &fats, frame, &numbers, &spans, blank)
+}
+
+/// The least lines of grown pieces that touch, found in a frame in which all of them lie.
+fn met_in<L: Ledger>(
+    alloc: Global,
+    fats: &[Placed<Fat>],
+    frame: Frame,
+    numbers: &[u32],
+    spans: &[Span],
+    blank: Blank,
+) -> Result<Rows<Gap>, NoMemory>
+    requires name { blank.name ≡ L.name }
+    requires parts { blank.parts ≡ L.parts }
+    requires some { 0 < blank.parts }
+    requires few { length fats.now < 2 ^ 32 }
+    requires inside { All (λ f. IsInside (wider_box (shape_box f.shape.shape.now) f.shape.grow) frame) fats.now }
+    requires numbered { length numbers.now ≡ length fats.now }
+    requires spanned { length spans.now ≡ length fats.now }
+    ensures { IfOk result (AreFirsts (IsFieldLine (length fats.now) (TouchAmong (λ f p. Grown (InShape f.shape.now) f.grow p) fats.now) numbers.now spans.now)) }
+{
+    let field = Cells::for_search(alloc, fats, frame)?;
     let mut tests = Steps::<L>::new(blank);
-    let least = meetings(alloc, &field, &numbers, &spans, &mut tests)?;
-    let list = rows(alloc, &least)?;
-    Ok(list)
+    let least = meetings(alloc, &field, numbers, spans, &mut tests)?;
+    rows(alloc, &least)
 }
 
 /// The same lines.
