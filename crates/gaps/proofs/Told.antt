@@ -7,7 +7,7 @@ use Rattle.planar.specs.declared.Spot.{Spot}
 use Rattle.planar.specs.declared.TheConstants.{METRE, TWO_METRES}
 use Rattle.planar.specs.Plane.{Point, at, InCapsule, IsInFrame, IsPlaced, IsWithin, Share, dot_of, square}
 use Rattle.planar.proofs.Ring.{linear, ring}
-use Rattle.planar.proofs.SpotWithin.{spot_before, whole_from_zero}
+use Rattle.planar.proofs.SpotWithin.{spot_before}
 use Rattle.contact.specs.declared.Bounds.{Bounds}
 use Rattle.contact.specs.declared.Capsule.{Capsule}
 use Rattle.contact.specs.Round.{box_of}
@@ -40,9 +40,6 @@ spots_share p q r h =
     let one : Share p p (pos 0) q q r ↔ InCapsule p p r (at q) = share_spot p p q r h in
     let two : InCapsule p p r (at q) ↔ ((dot_of p q q) ≤ℤ square r) = spot_before p p r q back in
     (λ k. two.0 (one.0 k), λ k. one.1 (two.1 k))
-
-pub apart_from_zero : (p q : Spot) → pos 0 ≤ℤ (dot_of p q q)
-apart_from_zero p q = whole_from_zero p q
 
 same_spot : (a b : Spot) → (a.x ≡ b.x) × (a.y ≡ b.y) → a ≡ b
 same_spot a b e = ap (λ (z : ℤ). let p : Spot = record { x = z; y = a.y } in p) e.0 ∙ ap (λ (z : ℤ). let p : Spot = record { x = b.x; y = z } in p) e.1

@@ -1,4 +1,4 @@
-use Rattle.std.proofs.Common.{◌≡◌, All, List, length, ◌<◌, ◌+◌, ℕ, Contains, arith, rules, subst, sym}
+use Rattle.std.proofs.Common.{◌≡◌, All, List, length, ◌<◌, ◌≤◌, ◌+◌, ℕ, Contains, arith, falls, rules, subst, sym}
 use Rattle.std.specs.List.Sorted.{IsStrictlyIncreasing}
 use Rattle.cell_index.specs.Among.{TouchAmong, bottom_in, extent_in, top_in}
 use Rattle.cell_index.specs.Field.{IsNear, rivals_of}
@@ -6,6 +6,33 @@ use Rattle.gaps.specs.Meetings.{IsOver, net_of, span_of}
 use Rattle.gaps.specs.declared.gap.Gap.{Gap}
 use Rattle.gaps.proofs.Collecting.{IsCollected, collected_all, collected_more, collected_none, gathers_on, one_row, rows_within, thinned}
 use Rattle.gaps.proofs.meetings.meetings.Goals as goal
+
+no_less : (n more : ℕ) → n ≤ n + more
+no_less n more = omega arith
+
+pub candidates-requires : goal.candidates-requires
+candidates-requires g c = record { piece = subst (λ (n : ℕ). c.loop-i.i < n) c.count-i-end.ensures.value c.loop-i-test.true }
+
+pub add_piece-requires-clause-first : goal.add_piece-requires-clause-first
+add_piece-requires-clause-first g c = subst (λ (n : ℕ). c.loop-i.i < n) c.count-i-end.ensures.value c.loop-i-test.true
+
+pub add_piece-requires-clause-numbered : goal.add_piece-requires-clause-numbered
+add_piece-requires-clause-numbered g c = c.requires.numbered
+
+pub add_piece-requires-clause-spanned : goal.add_piece-requires-clause-spanned
+add_piece-requires-clause-spanned g c = c.requires.spanned
+
+pub bounds-numbers-i : goal.bounds-numbers-i
+bounds-numbers-i g c = subst (λ (n : ℕ). c.loop-i.i < n) (sym c.requires.numbered) (subst (λ (n : ℕ). c.loop-i.i < n) c.count-i-end.ensures.value c.loop-i-test.true)
+
+pub bounds-spans-i : goal.bounds-spans-i
+bounds-spans-i g c = subst (λ (n : ℕ). c.loop-i.i < n) (sym c.requires.spanned) (subst (λ (n : ℕ). c.loop-i.i < n) c.count-i-end.ensures.value c.loop-i-test.true)
+
+pub loop-i-smaller : goal.loop-i-smaller
+loop-i-smaller g c = falls c.count-i-end.result c.loop-i.i c.loop-i-test.true
+
+pub returns-in_err-found-clause-ticks : goal.returns-in_err-found-clause-ticks
+returns-in_err-found-clause-ticks g c = no_less c.args.tests.now _
 
 pub loop-i-init : goal.loop-i-init
 loop-i-init g c = (
