@@ -7,3 +7,4 @@ pub mod OneOutcome
 pub mod Staged
 pub mod Walked
 pub mod Seen
+pub mod Rooms

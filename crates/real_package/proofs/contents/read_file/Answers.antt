@@ -1,8 +1,9 @@
-use Rattle.std.proofs.Common.{◌∙◌, ap}
+use Rattle.std.proofs.Common.{◌∙◌, ◌≤◌, ℕ, ap, subst, sym}
 use Rattle.arc_layer.specs.Real.{plain_reals}
 use Rattle.real_package.specs.RealBoards.{plain_real_board, room_left}
 use Rattle.real_package.proofs.Halted.{copper_halts, copper_reads, drill_halts, netlist_halts}
 use Rattle.real_package.proofs.OnSpans.{on_spans}
+use Rattle.real_package.proofs.Rooms.{as_many, few_more}
 use Rattle.real_package.proofs.Seen.{has_more}
 use Rattle.real_package.proofs.contents.read_file.Goals as goal
 
@@ -31,3 +32,11 @@ pub returns-in_ok-add-in-Ok-clause-ok : goal.returns-in_ok-add-in-Ok-clause-ok
 returns-in_ok-add-in-Ok-clause-ok c =
     let room = c.room_left-room.ensures ∙ ap (λ l. room_left (plain_reals l)) c.as_slice.ensures.value in
     copper_reads c.args.entry.now c.in-Copper.layer c.args.bytes.now (plain_real_board c.args.board.now) (plain_real_board c.add.new.self) c.room_left-room.result (plain_reals c.in-Ok.pieces.items) c.in-Copper.is room c.in-Ok.ensures.ok (has_more c.args.board.now c.add.new.self c.in-Ok.pieces.items c.in_ok-add-in-Ok.ensures.ok)
+
+pub add-requires-clause-few : goal.add-requires-clause-few
+add-requires-clause-few c = few_more c.args.board.now.pieces.items c.as_slice.result.now c.room_left-room.result _ c.as_slice.ensures.value c.room_left-room.ensures c.requires.lawful.few_pieces c.in-Ok.ensures.few
+
+pub add-requires-in-Ok-as_real_pieces-clause-few : goal.add-requires-in-Ok-as_real_pieces-clause-few
+add-requires-in-Ok-as_real_pieces-clause-few c =
+    few_more c.args.board.now.pieces.items c.as_slice.result.now c.room_left-room.result _ c.as_slice.ensures.value c.room_left-room.ensures c.requires.lawful.few_pieces
+    (subst (λ (n : ℕ). n ≤ c.room_left-room.result.pieces) (sym (as_many c.in-Ok-read_drill.pieces.items c.in-Ok-as_real_pieces.barrels.items c.in-Ok-as_real_pieces.ensures)) c.in-Ok-read_drill.ensures.few)
