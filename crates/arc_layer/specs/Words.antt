@@ -106,7 +106,7 @@ abbrev pub is_selection : Command → Bool
 is_selection (selects n) = true
 is_selection other = false
 
--- a word that selects an aperture, and says neither a curve nor quadrants nor what may tell more: behind it the same is in force
+-- a word that selects an aperture, and says neither a curve nor quadrants nor what may tell more: behind it all else in force is the same
 abbrev pub selects_alone : Saying → Bool
 selects_alone w = is_selection w.command && (is_none w.curve && (is_none w.quadrants && not w.tells))
 

@@ -2,7 +2,7 @@
 //! lines, turned figures and polygons (Gerber Layer Format Specification, 4.4, 4.5, 4.7, 4.8 and 4.10).
 //!
 //! `gerber_layer` reads the file with each arc draw as the straight one between its ends, each slanted line as a
-//! stroke, each draw with a fine pen with the next even one, and what else is no figure as an area that tells it. What that
+//! stroke, each draw with a fine pen as one with the next even pen, and what else is no figure as an area that tells it. What that
 //! leaves out is read here of the same words: `words` reads what a word says, `state` keeps what is in force, `draws` tells
 //! the bend of a draw, or why it is refused (`kind`), `centres` which centre a single quadrant means; `edges` keeps the bends
 //! of the open contour, `pens` tells the fine pen that a word defines. `marks` reads all marks (`mark`) of a file, and `real`

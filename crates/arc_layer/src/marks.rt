@@ -103,7 +103,7 @@ impl Reader {
         self.put(contour_mark(edges))
     }
 
-    // The fine pen of a command that draws.
+    // The selected pen, if it is fine and the command draws.
     fn pen_at(&self, command: &Command) -> Option<u64>
         ensures { result ≡ drawn_with (view command.now) (pen_with self.now.state.selected (pens_so_far self.now)) }
     {

@@ -23,7 +23,7 @@ pub struct State {
     pub unit: Option<Unit>,
     /// The current point, in u.
     pub at: Spot,
-    /// The current aperture.
+    /// The number of the current aperture.
     pub selected: Option<u32>,
     /// A region is open.
     pub region: bool,

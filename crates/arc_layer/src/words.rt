@@ -190,7 +190,7 @@ fn is_selection(command: &Command) -> bool
     matches!(*command, Command::Select(_))
 }
 
-/// Whether a word selects an aperture and says no more, so that behind it the same is in force.
+/// Whether a word selects an aperture and says no more: behind it all else in force is the same.
 pub fn selects_alone(word: &Saying) -> bool
     ensures { result ≡ spec.selects_alone (spec.saying_of word.now) }
 {
