@@ -165,11 +165,12 @@ class Layer:
         self.made["flashes with a hole"] += 1
 
     def odds(self):
-        """Circles, rectangles and obrounds of which at least one size is an odd number of u."""
+        """Circles, rectangles and obrounds of which at least one size is an odd number of u; no obround is 2 u wide, of which `between` takes
+        no bounds with copper below."""
         for k, name in enumerate("CROCRO", 70):
             steps = [factor * (int(10 ** self.rng.uniform(0, 6)) // self.step()) + 1 for factor in (2, 1)]
             self.rng.shuffle(steps)
-            sizes = [next(it for it in steps if it % 2)] if name == "C" else steps
+            sizes = [next(it for it in steps if it % 2)] if name == "C" else [4 if name == "O" and it == 2 else it for it in steps]
             yield f"%ADD{k}{name},{'X'.join(f'{it * self.step() / self.scale:.7f}' for it in sizes)}*%"
 
     def odd(self):
