@@ -10,18 +10,19 @@ pub enum MacroFault {
     /// The exposure is not equal to 1.
     #[error("an exposure that is not on")]
     ExposureOff,
-    /// The rotation is not equal to 0, 90, 180 or 270 degrees; in real copper, only of a vector line along no axis and of a
-    /// polygon off the origin, which quarter turns alone may turn.
+    /// In `Exact` copper, the rotation is not equal to 0, 90, 180 or 270 degrees. In `Real` copper, it is no multiple of 90
+    /// degrees, of a vector line along no axis or of a polygon whose middle is not the origin: others may have any.
     #[error("a turn that is no quarter turn")]
     Turn,
-    /// A term is no whole number of u, of a rotation of 10^-7 degrees, or a width, a height or a diameter is no even one.
+    /// A term is no whole number of u, of a rotation no whole number of 10^-7 degrees, or a width, a height or a diameter is
+    /// an odd number of u.
     #[error("a length off the grid")]
     OffGrid,
-    /// A term, a length or a corner is over 1 m from 0, of a rotation over 1,000 degrees, a size is negative, or a diameter or the
-    /// width of a slanted line is over 50 mm.
+    /// A term, a length or a corner is over 1 m from 0, of a rotation a term or the sum over 1,000 degrees, a size is negative, or
+    /// a diameter or the width of a vector line along no axis is over 50 mm.
     #[error("a length out of range")]
     OutOfRange,
-    /// A vector line is along no axis, where those alone are taken that are.
+    /// In `Exact` copper, a vector line is along no axis.
     #[error("a slanted line")]
     Slanted,
 }

@@ -1,12 +1,11 @@
 //! Fine apertures, as the spots of an area tell them, and draws with fine pens.
 ghost use Rattle.arc_layer.specs.Fine as spec;
-ghost use Rattle.fine_figures.specs.Taken as taken;
 ghost use Rattle.planar.specs.Plane.{IsPlaced};
 ghost use Rattle.planar.specs.declared.TheConstants.{TWO_METRES};
 ghost use Rattle.std.specs.Prelude.{◌≡◌, ◌≤◌, ◌-ℤ◌, unsigned_abs, All, pos};
 
 use contact::{Bounds, Capsule};
-use fine_figures::{FineFigure, FineStroke};
+use fine_figures::{FineFigure, FineStroke, doubled};
 use planar::Spot;
 
 fn way(n: u64) -> i64
@@ -66,16 +65,6 @@ fn fine_stroke(middle: Spot, w: u64, h: u64) -> FineStroke
     } else {
         let (a, b) = around(middle, 0, h - w);
         FineStroke { a, b, r: w }
-    }
-}
-
-fn doubled(s: Spot) -> Spot
-    requires { IsPlaced s }
-    ensures { result ≡ taken.doubled s }
-{
-    Spot {
-        x: 2 * s.x,
-        y: 2 * s.y,
     }
 }
 

@@ -9,7 +9,7 @@ ghost use Rattle.gerber_layer.specs.Command.{view};
 ghost use Rattle.gerber_layer.specs.Lawful.{IsLawfulCommand};
 ghost use Rattle.gerber_layer.specs.Reader.{Stops};
 ghost use Rattle.file_reading.specs.declared.halt.Halt.TheVariants as halt;
-ghost use Rattle.std.specs.Prelude.{◌≡◌, ◌+◌, ◌^◌, ◌<◌, ◌≤◌, ◌==◌, ◌&&◌, if◌then◌else◌, ℕ, true, [], All, is_some, length, option_map, IfErr, IfOk, IfSome, None, OnOk};
+ghost use Rattle.std.specs.Prelude.{◌≡◌, ◌+◌, ◌^◌, ◌<◌, ◌≤◌, ℕ, true, [], All, length, option_map, IfErr, IfOk, IfSome, None, OnOk};
 
 use crate::draws::{Bend, bend_of};
 use crate::edges::{closes, contour_mark, edges_behind, flashes, mark_by};

@@ -4,12 +4,11 @@ ghost use Rattle.arc_layer.specs.State.{IsLawfulState};
 ghost use Rattle.arc_layer.specs.Words.{saying_of};
 ghost use Rattle.file_reading.specs.LookingBack as looking;
 ghost use Rattle.gerber_layer.specs.Command.{view};
-ghost use Rattle.gerber_layer.specs.CommandEffects as effects;
 ghost use Rattle.gerber_layer.specs.Lawful.{IsLawfulCommand, IsShortFormat, IsWhole};
 ghost use Rattle.gerber_layer.specs.Settings as set;
 ghost use Rattle.planar.specs.Plane.{IsPlaced, IsReached};
 ghost use Rattle.std.specs.Option.{option_copied, option_or};
-ghost use Rattle.std.specs.Prelude.{◌≡◌, ◌≤◌, []};
+ghost use Rattle.std.specs.Prelude.{◌≡◌, []};
 
 use crate::words::{Curve, Quadrants, Saying};
 use gerber_layer::{Command, Format, Here, coordinate};

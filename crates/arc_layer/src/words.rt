@@ -5,8 +5,7 @@ ghost use Rattle.gerber_layer.specs.Command.{view};
 ghost use Rattle.gerber_layer.specs.Lawful.{IsLawfulCommand};
 ghost use Rattle.gerber_words.specs.Stepping.{entry_of};
 ghost use Rattle.gerber_words.specs.Words as words;
-ghost use Rattle.std.specs.Option.{option_copied};
-ghost use Rattle.std.specs.Prelude.{◌≡◌, ◌≤◌, ◌==◌, ◌&&◌, not, true, length, option_map};
+ghost use Rattle.std.specs.Prelude.{◌≡◌, ◌≤◌, ◌==◌, ◌&&◌, not, true, length};
 
 use apertures::{has_seventh, is_further, may_be_fine, may_have_hole};
 use gerber_layer::{Command, behind_code, goes_on, part, read_loose_command};

@@ -21,8 +21,8 @@ use lengths::rows::NoMemory;
 use planar::{Frame, Spot};
 use std::alloc::Global;
 
-/// Placed solids, filed under the cells of the frame in which they stand, layer by layer. Their numbers are their places
-/// in the list. Searches look at the finer cells of a copy of their boxes.
+/// Placed solids. Their numbers are their places in the list. Searches look at the finer cells of a copy of their boxes. Those
+/// of `new` are filed once more, layer by layer, under the cells of the frame in which they stand.
 #[derive(Drop)]
 pub struct Cells<'a, S: Meets<S>> {
     pub items: &'a [Placed<S>],
@@ -42,7 +42,7 @@ pub struct Cells<'a, S: Meets<S>> {
 
 impl<'a, S: Meets<S>> Cells<'a, S> {
     /// A field of the items, of which there are fewer than 2^32, with their bounds inside the frame and their spans within
-    /// the layers.
+    /// the layers. Only tests call it, `cell` and `wide`: programs search.
     pub fn new(
         alloc: Global,
         items: &'a [Placed<S>],
@@ -91,7 +91,8 @@ impl<'a, S: Meets<S>> Cells<'a, S> {
         })
     }
 
-    /// The pieces that stand in the cell on the layer, rising. The layers count from 1, the cells from 0. No memory.
+    /// The pieces that stand in the cell on the layer, rising. The layers count from 1, the cells from 0 to 127 across
+    /// and up. No memory.
     pub fn cell(&self, layer: u8, across: u8, up: u8) -> &[u32]
         requires layer { (1 ≤ layer) × (layer ≤ self.now.layers) }
         requires across { across < 128 }

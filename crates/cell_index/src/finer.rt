@@ -62,7 +62,7 @@ impl Finer {
     }
 
     /// Puts into `into`, rising, pieces among which are all whose copies meet the copy of piece i, of those that are wanted.
-    /// After a refusal `into` holds some of them, and the caller empties it.
+    /// No clause says what `into` holds after a refusal: `Cells::candidates` empties it then (`refused`).
     pub fn met<W: Wanted>(&self, i: usize, wanted: &W, into: &mut Vec<u32>) -> Result<(), NoMemory>
         requires piece { i < length self.now.copies.items }
         ensures known { OnOk result (All (λ q. q < length self.now.copies.items) into.new.items) }

@@ -15,7 +15,7 @@ ghost use Rattle.contact.specs.declared.Bounds.{Bounds};
 ghost use Rattle.planar.specs.Plane.{IsPlaced, Point, at};
 ghost use Rattle.planar.specs.declared.Frame.{Frame};
 ghost use Rattle.planar.specs.declared.Spot.{Spot};
-ghost use Rattle.std.specs.Prelude.{IsTrue, ◌+◌, ◌<◌, ◌≡◌, ◌↔◌};
+ghost use Rattle.std.specs.Prelude.{IsTrue, ◌+◌, ◌≡◌, ◌↔◌};
 
 mod extents;
 pub mod laws;

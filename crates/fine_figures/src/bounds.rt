@@ -31,7 +31,7 @@ fn is_outside(fine: &FineFigure, bound: &Shape) -> bool
     }
 }
 
-/// Whether the figure lies in the fine one: where it says so, it does, and of others that do, it may refuse some
+/// Whether the figure, in u, lies in the fine one, in half u: where it says so, it does, and of others that do, it may refuse some
 /// (`TakenBelow`).
 pub fn is_fine_below(fine: &FineFigure, bound: &Shape) -> bool
     ensures taken { IsTrue result ↔ TakenBelow fine.now (figure_of bound.now) }
@@ -40,7 +40,7 @@ pub fn is_fine_below(fine: &FineFigure, bound: &Shape) -> bool
     is_within(fine, bound)
 }
 
-/// Whether it holds the fine one: where it says so, it does, and of others that do, it may refuse some
+/// Whether the figure, in u, holds the fine one, in half u: where it says so, it does, and of others that do, it may refuse some
 /// (`TakenAbove`).
 pub fn is_fine_above(fine: &FineFigure, bound: &Shape) -> bool
     ensures taken { IsTrue result ↔ TakenAbove fine.now (figure_of bound.now) }

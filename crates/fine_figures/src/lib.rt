@@ -1,7 +1,8 @@
 //! Figures on the grid of half a u, and whether figures on that of u bound them.
 //!
-//! A pad whose size is an odd number of u has its sides, or the ends of its middle line, at half a u. What is
-//! told here in half u is exact; whoever rounds the sizes down and up has bounds on our grid.
+//! A pad whose size is an odd number of u has its sides, or the ends of its middle line and its radius, at half a u;
+//! a draw with such a pen has its radius there. What is told here in half u is exact; whoever rounds the sizes down
+//! and up has bounds on our grid.
 //!
 //! - `bounds`: whether a figure lies in a fine one, or holds it.
 //! - `strokes`: whether strokes have their ends near one another.
@@ -17,6 +18,7 @@ mod strokes;
 pub use bounds::{is_fine_above, is_fine_below};
 pub use contact::Bounds;
 pub use planar::Spot;
+pub use strokes::doubled;
 
 /// The places that are at most `r` from the segment between `a` and `b`, all in half u: a disc where these are
 /// one spot.

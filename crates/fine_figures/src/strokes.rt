@@ -8,10 +8,10 @@ use super::FineStroke;
 use contact::Capsule;
 use planar::Spot;
 
-/// The spot in half u.
-fn doubled(s: Spot) -> Spot
-    requires { IsPlaced s }
-    ensures { result ≡ spec.doubled s }
+/// A spot in u, within 1 m of 0 in x and y, as one in half u. It takes no memory.
+pub fn doubled(s: Spot) -> Spot
+    requires placed { IsPlaced s }
+    ensures value { result ≡ spec.doubled s }
 {
     Spot {
         x: 2 * s.x,
@@ -44,7 +44,7 @@ fn ends_near(fine: &FineStroke, bound: &Capsule, far: u64) -> bool
     is_near(fine.a, doubled(bound.a), far) && is_near(fine.b, doubled(bound.b), far)
 }
 
-/// Whether the capsule is thinner than the fine stroke by at least what their ends are apart.
+/// Whether the capsule, in u, is thinner than the fine stroke by at least what their ends are apart.
 pub fn is_thinner(fine: &FineStroke, bound: &Capsule) -> bool
     ensures { IsTrue result ↔ IsThinner fine.now bound.now.a bound.now.b bound.now.r }
 {

@@ -33,7 +33,7 @@ use verdict::{Tree, Trees};
 /// Why there is no list of gaps.
 #[derive(Clone, Copy, Debug, PartialEq, Eq)]
 pub enum GapFault {
-    /// The common box of all grown shapes, which this is, has a side over that of a frame.
+    /// The common box of all grown shapes, which this is, in u, has a side over 1 m.
     FrameTooLarge(Bounds),
     /// Memory is wanted.
     NoMemory,
@@ -54,7 +54,7 @@ impl From<NoMemory> for GapFault {
 /// the board's nets. `nanometres` is at most 10,000,000.
 ///
 /// `FrameTooLarge` comes exactly where the box of all pieces, each grown by half the distance, has
-/// a side over 1 m: that is judged before memory is taken.
+/// a side over 1 m: that is judged before memory is taken. Behind it `NoMemory` may come at any board.
 pub fn gaps(
     alloc: Global,
     board: &Board,

@@ -1,6 +1,5 @@
 //! The text of a list of gaps.
 ghost use Rattle.gaps.specs.GapsText.{gap_line, gaps_text, head_line};
-ghost use Rattle.std.specs.List.{flat_map};
 ghost use Rattle.std.specs.Prelude.{IfOk, OnOk, ◌++◌, ◌≡◌};
 
 use super::gap::Gap;
@@ -31,7 +30,7 @@ fn push_gap(out: &mut Vec<u8>, gap: &Gap) -> Result<(), AllocError>
     put(out, b"\n")
 }
 
-/// The text of the gaps at a distance.
+/// The text of the gaps at a distance in nanometres.
 pub fn write_gaps(alloc: Global, nanometres: u32, gaps: &[Gap]) -> Result<Vec<u8>, NoMemory>
     ensures { IfOk result (λ text. text.items ≡ gaps_text nanometres gaps.now) }
 {

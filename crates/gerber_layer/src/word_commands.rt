@@ -17,6 +17,7 @@ use gerber_words::{Attribute, AttributeKind, Word, is_field};
 use lengths::decimal::{Unit, read_decimal, small_value, unsigned};
 use texts::{ByteClass, all_digits, begins, digits_len, is_digit, is_word, run_len};
 
+/// The code that ends an operation: `D01`, `D02` or `D03`, or each without its 0. None for any other text.
 #[tactic(auto, unfolding(crate::specs::WordCommands::code_in))]
 pub fn code_in(text: &[u8]) -> Option<Code>
     ensures { result ≡ spec.code_in text.now }
@@ -38,6 +39,7 @@ fn is_idle(text: &[u8]) -> bool
     is_word(text, b"G1") || is_word(text, b"G74") || is_word(text, b"G75") || is_word(text, b"G90")
 }
 
+/// What stands behind the code of lines, `G01` or `G1`, that a word may begin with, or else the text itself.
 pub fn behind_line_code(text: &[u8]) -> &[u8]
     ensures { result.now ≡ spec.behind_line_code text.now }
 {
@@ -517,6 +519,8 @@ fn operation(text: &[u8]) -> Command<'_>
     from_x(behind_line_code(text))
 }
 
+/// An operation word by its text from X on: some of X, Y, offsets and a code, in this order. Refused as an arc where it has offsets,
+/// and as a bad word where it is no operation.
 #[inline(always)]
 #[tactic(auto, unfolding(crate::specs::WordCommands::from_x))]
 pub fn from_x(text: &[u8]) -> Command<'_>

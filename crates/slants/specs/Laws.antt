@@ -74,7 +74,7 @@ pub record IsNear (angle : ℕ) (k : ℤ) (t : Turn) : Type 0 where
 abbrev pub NearIsBetween : Type 0
 NearIsBetween = (about : Spot) (angle : ℕ) (k : ℤ) (t : Turn) → angle < RIGHT_ANGLE → IsNear angle k t → IsBetween (turns_by about angle) t
 
--- What lies in the figure at each of these turns lies in it at one: there is a copper of it
+-- What lies in the figure at each of these turns, by an angle below a right one, lies in it at one: there is a copper of it
 abbrev pub SurelyIsPossibly : Type 0
 SurelyIsPossibly = (contour : List Spot) (about : Spot) (angle : ℕ) (p : Point) → angle < RIGHT_ANGLE → SurelyTurned contour about angle p → PossiblyTurned contour about angle p
 
@@ -84,7 +84,7 @@ SurelyIsPossibly = (contour : List Spot) (about : Spot) (angle : ℕ) (p : Point
 abbrev pub DiscsAreBetween : Type 0
 DiscsAreBetween = (a : TurnedDisc) (s : Spot) (r : ℕ) (p : Point) → (DiscBelow a s r → InFigure (disc_about s r) p → SurelyInDisc a p) × (DiscAbove a s r → PossiblyInDisc a p → InFigure (disc_about s r) p)
 
--- There is a copper of a turned disc: what lies in it at each of these turns lies in it at one
+-- There is a copper of a disc that is turned by less than a right angle: what lies in it at each of these turns lies in it at one
 abbrev pub DiscsHaveCopper : Type 0
 DiscsHaveCopper = (a : TurnedDisc) (p : Point) → a.angle < RIGHT_ANGLE → SurelyInDisc a p → PossiblyInDisc a p
 
@@ -94,6 +94,6 @@ DiscsHaveCopper = (a : TurnedDisc) (p : Point) → a.angle < RIGHT_ANGLE → Sur
 abbrev pub PolygonIsBetween : Type 0
 PolygonIsBetween = (g : RegularPolygon) (points : List Spot) (p : Point) → (PolygonBelow g points → InFigure (filled points) p → SurelyInPolygon g p) × (PolygonAbove g points → PossiblyInPolygon g p → InFigure (filled points) p)
 
--- There is a copper of each: what lies on the left of each edge at all turns of its cone lies in the hull of the corners at theirs
+-- There is a copper of each of 3 to 12 corners whose circle ends less than 1 m from 0 in x and in y: what lies on the left of each edge at all turns of its cone lies in the hull of the corners at theirs
 abbrev pub PolygonsHaveCopper : Type 0
 PolygonsHaveCopper = (g : RegularPolygon) (p : Point) → IsRegular g → SurelyInPolygon g p → PossiblyInPolygon g p

@@ -36,12 +36,13 @@ pub fn turned_is_between()
     ensures { TurnedIsBetween }
 {}
 
-/// A way that is at most 1 off the cosine and the sine of half an angle is in the angle's cone.
+/// A way that is at most 1 off the cosine and the sine of half an angle, so many times as long, is in the angle's cone, for an
+/// angle below a right one.
 pub fn near_is_between()
     ensures { NearIsBetween }
 {}
 
-/// What lies in a turned figure at each turn by about the angle lies in it at one.
+/// What lies in a turned figure at each turn by about the angle, which is below a right one, lies in it at one.
 pub fn surely_is_possibly()
     ensures { SurelyIsPossibly }
 {}
@@ -51,7 +52,7 @@ pub fn discs_are_between()
     ensures { DiscsAreBetween }
 {}
 
-/// What lies in a turned disc at each turn by about the angle lies in it at one.
+/// What lies in a turned disc at each turn by about the angle, which is below a right one, lies in it at one.
 pub fn discs_have_copper()
     ensures { DiscsHaveCopper }
 {}
@@ -61,7 +62,8 @@ pub fn polygon_is_between()
     ensures { PolygonIsBetween }
 {}
 
-/// What lies in a regular polygon at all turns of its cones lies in the hull of its corners: it has a copper.
+/// A regular polygon has a copper: what lies in it at all turns of its cones lies in the hull of its corners. It has from 3 to 12
+/// corners, and the circle through them ends less than 1 m from 0 in x and in y.
 pub fn polygons_have_copper()
     ensures { PolygonsHaveCopper }
 {}

@@ -1,5 +1,5 @@
 //! Classes of bytes, and how many bytes of one stand in front of a text.
-ghost use Rattle.std.specs.Prelude.{◌≡◌, ◌+◌, ◌≤◌, ℕ, Bool, true, length, take};
+ghost use Rattle.std.specs.Prelude.{◌≡◌, ◌≤◌, ℕ, Bool, true, length, take};
 ghost use Rattle.std.specs.List.{list_all, prefix_len};
 ghost use Rattle.texts.specs.Blanks.{is_blank};
 ghost use Rattle.texts.specs.Digits.{is_decimal_digit};

@@ -125,7 +125,7 @@ fn slot_end(text: &[u8]) -> Option<Coordinates>
     }
 }
 
-// A place, which most lines are, or a slot. It is inlined into the loop over lines.
+// A place, which most lines are, or a slot. It is inlined into the loop over lines, so that its form is not copied on the way.
 #[inline(always)]
 #[tactic(auto, unfolding(crate::specs::DrillLines::place_line))]
 fn place_line(text: &[u8]) -> DrillLine

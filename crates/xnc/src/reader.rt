@@ -109,7 +109,7 @@ impl Reader {
     }
 
     // What a line does that names a place, where the mode and the tool allow it. The diameter was looked up once. It is inlined, as all that
-    // obeys a place.
+    // obeys a place is, so that neither form nor effect is copied on the way.
     #[inline(always)]
     #[tactic(auto, unfolding(crate::specs::Reader::placed_row, crate::specs::DrillEffects::rout, crate::specs::DrillEffects::straight, crate::specs::DrillEffects::hit, crate::specs::DrillEffects::slot))]
     fn placed_row(&self, form: &DrillLine, diameter: Option<u64>) -> Result<Effect, DrillKind>

@@ -1,4 +1,4 @@
-use Rattle.std.proofs.Common.{◌≡◌, ◌↔◌, ◌+◌, ◌-◌, ◌<◌, ◌≤◌, ℕ, suc, pos, List, [], ◌∷◌, length, take, drop, get_or, add-one, arith, sym, subst}
+use Rattle.std.proofs.Common.{◌≡◌, ◌↔◌, ◌+◌, ◌-◌, ◌<◌, ◌≤◌, ℕ, pos, List, [], ◌∷◌, length, take, drop, get_or, add-one, arith, sym, subst}
 use Rattle.std.proofs.Math.Seq.{drop-cons}
 use Rattle.std.proofs.lemmas.List.{take_all}
 use Rattle.planar.specs.declared.Frame.{Frame}

@@ -1,4 +1,4 @@
-use Rattle.std.proofs.Common.{◌≡◌, ℕ, ℤ, pos, ◌+ℤ◌, List, Result, Ok, Err, IfOk, length, map, arith, ap, sym, subst, refl, ◌∙◌, get_or}
+use Rattle.std.proofs.Common.{◌≡◌, ℕ, ℤ, pos, ◌+ℤ◌, List, Result, Ok, Err, IfOk, length, map, arith, ap, sym, refl, ◌∙◌, get_or}
 use Rattle.std.proofs.lemmas.List.{length-map}
 use Rattle.contact.specs.Solid.{IsInside}
 use Rattle.board_shapes.specs.Figures.{figure_box}
