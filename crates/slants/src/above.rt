@@ -1,6 +1,6 @@
 //! Whether a polygon holds a slanted rectangle.
 ghost use Rattle.board_shapes.specs.Figures.{InFigure, filled};
-ghost use Rattle.planar.specs.Plane.{IsPlaced, Point, cross_of, dot_of};
+ghost use Rattle.planar.specs.Plane.{IsPlaced, Point, cross_of};
 ghost use Rattle.slants.specs.Copper.{InSlant};
 ghost use Rattle.slants.specs.Rounds.{EachEdge, EachFrom, GoesRound, on_way};
 ghost use Rattle.slants.specs.Taken.{HasRoot, IsPlacedSlant, Keeps, TakenAbove, reach};

@@ -1,6 +1,6 @@
 //! Regular polygons in any direction, and whether polygons with whole corners bound them.
 ghost use Rattle.board_shapes.specs.Figures.{InFigure, filled};
-ghost use Rattle.planar.specs.Plane.{IsPlaced, IsReached, IsWithin, Point};
+ghost use Rattle.planar.specs.Plane.{IsPlaced, IsWithin, Point};
 ghost use Rattle.planar.specs.declared.TheConstants.{METRE};
 ghost use Rattle.slants.specs.Polygons as spec;
 ghost use Rattle.slants.specs.Polygons.{CornersLean, EdgeHolds, IsRegular, PolygonAbove, PolygonBelow, PossiblyInPolygon, SurelyInPolygon, corner_of, direction_of, edge_end, edge_start, inner_of, place_of, reach_of, step_of};

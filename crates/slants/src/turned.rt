@@ -1,6 +1,6 @@
 //! Whether polygons bound a figure that is turned by any turn between two.
 ghost use Rattle.board_shapes.specs.Figures.{InFigure, filled};
-ghost use Rattle.planar.specs.Plane.{IsPlaced, IsWithin, Point, cross_of, dot_of};
+ghost use Rattle.planar.specs.Plane.{IsPlaced, Point, cross_of, dot_of};
 ghost use Rattle.slants.specs.Rounds.{EachEdge, EachFrom, GoesRound, on_way};
 ghost use Rattle.slants.specs.Turned.{AllLean, AreBounded, AreReady, InTurned, IsBetween, IsBounded, IsTriangle, Leans, TurnedAbove, TurnedBelow};
 ghost use Rattle.slants.specs.declared.turns.Turn.{Turn as AnyTurn};

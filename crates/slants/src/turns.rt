@@ -1,5 +1,4 @@
 //! Turns, and rigid motions by those between two.
-ghost use Rattle.planar.specs.Plane.{IsWithin};
 ghost use Rattle.slants.specs.Turned.{AreReady, IsBounded, IsTriangle, IsSmall, back_of, meet_of, mirrored};
 ghost use Rattle.std.specs.Prelude.{IsTrue, ◌≡◌, ◌↔◌};
 
