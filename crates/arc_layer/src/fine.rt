@@ -68,7 +68,7 @@ fn fine_stroke(middle: Spot, w: u64, h: u64) -> FineStroke
     }
 }
 
-/// A draw with a round pen of this diameter, between the ends of its stroke.
+/// A draw with a round pen of this diameter in u, between the ends of its stroke, in half u.
 pub fn fine_draw(pen: u64, stroke: &Capsule) -> FineStroke
     ensures { result ≡ spec.fine_draw pen (record { a = stroke.now.a; b = stroke.now.b; r = stroke.now.r }) }
 {
