@@ -42,7 +42,7 @@ pub struct Cells<'a, S: Meets<S>> {
 
 impl<'a, S: Meets<S>> Cells<'a, S> {
     /// A field of the items, of which there are fewer than 2^32, with their bounds inside the frame and their spans within
-    /// the layers. Only tests call it, `cell` and `wide`: programs search.
+    /// the layers. Only tests call it, `cell` and `wide`; programs call `for_search`.
     pub fn new(
         alloc: Global,
         items: &'a [Placed<S>],
