@@ -1,5 +1,5 @@
 //! Reads a netlist.
-ghost use Rattle.std.specs.Prelude.{◌≡◌, ◌+◌, ◌^◌, ◌<◌, ◌≤◌, length, IfOk, IfErr, OnOk};
+ghost use Rattle.std.specs.Prelude.{◌≡◌, ◌≤◌, length, IfOk, IfErr, OnOk};
 ghost use Rattle.ipc356_records.specs.Lawful.{IsLawfulForm};
 ghost use Rattle.ipc356_records.specs.Line.{finishes, view};
 ghost use Rattle.ipc356_records.specs.NetlistFile.{FitsBoard, IsFault, IsRead};

@@ -26,7 +26,7 @@ pub struct Reader<'a> {
 }
 
 impl<'a> Reader<'a> {
-    ghost use Rattle.std.specs.Prelude.{◌≡◌, ◌+◌, ◌^◌, ◌<◌, ◌≤◌, ◌∷◌, [], length, map, IfOk, IfErr, IsErrOf, OnOk};
+    ghost use Rattle.std.specs.Prelude.{◌≡◌, ◌+◌, ◌≤◌, ◌∷◌, [], map, IfOk, IfErr, IsErrOf, OnOk};
     ghost use Rattle.std.specs.Option.{option_copied};
     ghost use Rattle.ipc356_records.specs.Lawful.{IsLawfulForm, IsName};
     ghost use Rattle.ipc356_records.specs.Line.{view, view_fields};

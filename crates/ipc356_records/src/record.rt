@@ -56,7 +56,6 @@ pub struct Records<'a> {
 }
 
 impl<'a> Records<'a> {
-    ghost use Rattle.texts.specs.Stepping.{Shortens};
     ghost use Rattle.ipc356_records.specs.Records.{ahead, Gives, IsShorter};
 
     /// A file of at most `MOST_BYTES` bytes, before its first line.

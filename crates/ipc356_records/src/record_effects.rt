@@ -1,5 +1,5 @@
 //! The table of lines: what each does, or its fault. The rows themselves are calls of the reader.
-ghost use Rattle.std.specs.Prelude.{◌≡◌, ◌≤◌, IfOk, Option};
+ghost use Rattle.std.specs.Prelude.{◌≡◌, IfOk, Option};
 ghost use Rattle.planar.specs.Plane.{IsReached};
 ghost use Rattle.ipc356_records.specs.Line.{view};
 ghost use Rattle.ipc356_records.specs.Reader.{IsFit, shown, showing};
