@@ -1,6 +1,5 @@
 //! How a body word is read.
 ghost use Rattle.std.specs.Prelude.{◌≡◌, Bool, IfSome};
-ghost use Rattle.lengths.specs.Decimal.{fraction};
 ghost use Rattle.aperture_macros.specs.BodyWord as spec;
 ghost use Rattle.aperture_macros.specs.Seen.{seen_body, seen_one};
 ghost use Rattle.aperture_macros.specs.Sized.{IsSized};

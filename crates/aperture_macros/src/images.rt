@@ -14,7 +14,7 @@ use contact::MOST_DIAMETER;
 use lengths::decimal::{Decimal, Unit};
 use planar::Spot;
 
-/// A figure about the origin: a disc by its centre and its diameter, a rectangle by its lower left
+/// A figure about the origin, in u: a disc by its centre and its diameter, a rectangle by its lower left
 /// and its upper right corner, the stroke of a slanted line by its ends and its width, at most `MOST_DIAMETER`, or a
 /// regular polygon by its middle, the diameter of the circle through its corners, and their number.
 #[derive(Clone, Copy)]

@@ -3,7 +3,6 @@ ghost use Rattle.std.specs.Prelude.{◌≡◌, ◌<◌, ◌≤◌, ◌+◌, IfEr
 ghost use Rattle.planar.specs.Plane.{IsPlaced};
 ghost use Rattle.area_contact.specs.Contour.{IsClosed};
 ghost use Rattle.area_contact.specs.declared.TheConstants.{MOST_CONTOUR_POINTS};
-ghost use Rattle.board_shapes.specs.Figures.{Stroke};
 ghost use Rattle.aperture_macros.specs.Images.{area_at, set_down};
 ghost use Rattle.aperture_macros.specs.Seen.{IsMade, IsNoArea, Makes};
 ghost use Rattle.aperture_macros.specs.Telling as spec;

@@ -1,5 +1,5 @@
 //! What lengths are, in u.
-ghost use Rattle.std.specs.Prelude.{◌≡◌, ◌≤◌, ◌^◌, pos, IfOk};
+ghost use Rattle.std.specs.Prelude.{◌≡◌, ◌≤◌, pos, IfOk};
 ghost use Rattle.planar.specs.Plane.{IsPlaced, IsReached};
 ghost use Rattle.contact.specs.declared.TheConstants.{MOST_DIAMETER};
 ghost use Rattle.lengths.specs.Grid.{position_of};
@@ -76,7 +76,7 @@ fn sum(text: &[u8], parameters: &[Decimal], unit: Unit) -> Result<i64, MacroFaul
     }
 }
 
-/// A coordinate, at most 1 m from 0.
+/// A coordinate in u, at most 1 m from 0; or its fault.
 #[tactic(auto, unfolding(crate::specs::Values::coordinate_at))]
 pub fn coordinate(text: &[u8], parameters: &[Decimal], unit: Unit) -> Result<i64, MacroFault>
     ensures value { result ≡ spec.coordinate_at text.now parameters.now unit }
@@ -89,7 +89,7 @@ pub fn coordinate(text: &[u8], parameters: &[Decimal], unit: Unit) -> Result<i64
     Ok(u)
 }
 
-/// A width or a height: even, and from 0 to 1 m.
+/// A width or a height in u: even, and from 0 to 1 m; or its fault.
 #[tactic(auto, unfolding(crate::specs::Values::size_at))]
 pub fn size(text: &[u8], parameters: &[Decimal], unit: Unit) -> Result<u64, MacroFault>
     ensures value { result ≡ spec.size_at text.now parameters.now unit }
@@ -105,7 +105,7 @@ pub fn size(text: &[u8], parameters: &[Decimal], unit: Unit) -> Result<u64, Macr
     Ok(u.unsigned_abs())
 }
 
-/// A diameter, at most `MOST_DIAMETER`.
+/// A diameter in u: even, and at most `MOST_DIAMETER`; or its fault.
 #[tactic(auto, unfolding(crate::specs::Values::diameter_at))]
 pub fn diameter(text: &[u8], parameters: &[Decimal], unit: Unit) -> Result<u64, MacroFault>
     ensures value { result ≡ spec.diameter_at text.now parameters.now unit }
@@ -118,7 +118,7 @@ pub fn diameter(text: &[u8], parameters: &[Decimal], unit: Unit) -> Result<u64, 
     Ok(d)
 }
 
-/// The point that the first two parts of a text are.
+/// The point, in u, that the first two parts of a text are; or the first fault of the two.
 #[tactic(auto, unfolding(crate::specs::Values::point_at))]
 pub fn point(text: &[u8], parameters: &[Decimal], unit: Unit) -> Result<Spot, MacroFault>
     ensures value { result ≡ spec.point_at text.now parameters.now unit }
