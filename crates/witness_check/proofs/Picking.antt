@@ -1,11 +1,10 @@
 -- The marks of the probes at which branches begin.
-use Rattle.std.proofs.Common.{◌≡◌, ℕ, ◌+◌, ◌<◌, Bool, true, false, List, length, get_or, set, All, Option, None, inl, inr, refl, sym, ap, subst, ◌∙◌, arith}
+use Rattle.std.proofs.Common.{◌≡◌, ℕ, ◌+◌, ◌<◌, Bool, true, false, List, length, get_or, set, All, Option, inl, inr, refl, sym, ap, subst, ◌∙◌, arith}
 use Rattle.std.proofs.lemmas.Bool.{cases_eq}
-use Rattle.std.proofs.lemmas.List.{get_or-set_other, get_or-set_same, get_or_default, length-set}
-use Rattle.tables.specs.Lists.{IsLeast}
+use Rattle.std.proofs.lemmas.List.{get_or-set_other, get_or-set_same, get_or_default}
 use Rattle.verdict.specs.declared.verdict.Branch.{Branch}
 use Rattle.verdict.specs.declared.verdict.Short.{Short}
-use Rattle.witness_check.specs.Homes.{AreHomes, ArePicked, AreWanted, HasLeast, IsWanted}
+use Rattle.witness_check.specs.Homes.{AreHomes, ArePicked, AreWanted, IsWanted}
 
 -- One mark more is set.
 pub mark_kept : (wanted : List Bool) (q : ℕ) → q < length wanted → (k : ℕ) → get_or wanted k false ≡ true → get_or (set wanted q true) k false ≡ true

@@ -135,6 +135,14 @@ pub least_found : (P : ℕ → Type 0) (wanted : Bool) (found : Option ℕ) → 
 least_found P wanted None on under all = all
 least_found P wanted (Some least) on under all = (under, λ q h. all q h on)
 
+-- Beside a number that is not enough for a piece the piece is enough for whatever that was.
+pub less_enough : (wanted : Bool) (found : Option ℕ) (piece p : ℕ) → (IsEnough wanted found piece → ⊥) → IsEnough wanted found p → IsEnough wanted (Some piece) p
+less_enough wanted None piece p none h = absurd h
+less_enough wanted (Some f) piece p none h = λ on. elim (le_or_lt f piece) [
+  | inl le ↦ absurd (none (λ wants. le))
+  | inr less ↦ let low = h on in omega (arith, low, less)
+]
+
 -- What was found for one probe is written anew, and is enough beside what it was enough beside.
 pub kept_all : (wanted : List Bool) (homes : List (Option ℕ)) (k : ℕ) (next : Option ℕ) → k < length homes → ((p : ℕ) → IsEnough (get_or wanted k false) (get_or homes k None) p → IsEnough (get_or wanted k false) next p) → (q p : ℕ) → IsEnough (get_or wanted q false) (get_or homes q None) p → IsEnough (get_or wanted q false) (get_or (set homes k next) q None) p
 kept_all wanted homes k next below kept q p h = elim (cases_eq q k) [

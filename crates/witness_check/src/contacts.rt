@@ -1,14 +1,17 @@
 //! Pieces of a board that touch.
+ghost use Rattle.area_contact.specs.Contour.{InArea, area_box, edges_of};
 ghost use Rattle.board_shapes.specs.Plain.{plain_board};
 ghost use Rattle.board_shapes.specs.Shapes.{InShape, shape_box};
 ghost use Rattle.board_shapes.specs.Spans.{CommonLayer};
 ghost use Rattle.board_shapes.specs.Tables.{IsNear};
 ghost use Rattle.contact.specs.Solid.{IsInside, SharePoint};
-ghost use Rattle.std.specs.Prelude.{◌+◌, ◌<◌, ◌≤◌, ◌↔◌, IsTrue, length};
+ghost use Rattle.planar.specs.Plane.{InCapsule};
+ghost use Rattle.std.specs.Prelude.{◌≡◌, ◌+◌, ◌<◌, ◌≤◌, ◌↔◌, IsTrue, length};
 
-use board_shapes::{Board, Piece};
-use contact::Meets;
-use planar::Frame;
+use area_contact::Area;
+use board_shapes::{Board, Piece, Shape};
+use contact::{Capsule, Closed, Meets};
+use planar::{Frame, Spot};
 use std::sync::ledger::Ledger;
 use steps::Steps;
 
@@ -55,5 +58,41 @@ fn are_joined_pieces<L: Ledger>(
     if one.top.max(two.top) > one.bottom.min(two.bottom) {
         return false;
     }
-    one.shape.meets(&two.shape, frame, tests)
+    share_an_end(&one.shape, &two.shape, frame) || one.shape.meets(&two.shape, frame, tests)
+}
+
+// A quick test, which most pairs that are joined pass: two capsules begin at one spot, or one ends in an area.
+fn share_an_end(one: &Shape, two: &Shape, frame: Frame) -> bool
+    requires one_inside { IsInside (shape_box one.now) frame }
+    requires two_inside { IsInside (shape_box two.now) frame }
+    ensures { IsTrue result → SharePoint (InShape one.now) (InShape two.now) }
+{
+    match (one, two) {
+        (Shape::Round(first), Shape::Round(second)) => begin_together(first, second),
+        (Shape::Round(capsule), Shape::Filled(area)) => ends_in(capsule, area, frame),
+        (Shape::Filled(area), Shape::Round(capsule)) => ends_in(capsule, area, frame),
+        (Shape::Filled(_), Shape::Filled(_)) => false,
+    }
+}
+
+// Whether two capsules begin at one spot.
+fn begin_together(first: &Capsule, second: &Capsule) -> bool
+    ensures { IsTrue result → SharePoint (InCapsule first.now.a first.now.b first.now.r) (InCapsule second.now.a second.now.b second.now.r) }
+{
+    is_same(first.a, second.a)
+}
+
+// Whether two spots are one.
+fn is_same(one: Spot, two: Spot) -> bool
+    ensures { IsTrue result ↔ (one ≡ two) }
+{
+    one == two
+}
+
+// Whether the end of the capsule lies in the area.
+fn ends_in(capsule: &Capsule, area: &Area, frame: Frame) -> bool
+    requires { IsInside (area_box area.now.points.items) frame }
+    ensures { IsTrue result → SharePoint (InCapsule capsule.now.a capsule.now.b capsule.now.r) (InArea (edges_of area.now.points.items)) }
+{
+    area.has(capsule.b, frame)
 }

@@ -2,7 +2,7 @@
 ghost use Rattle.std.specs.Prelude.{◌≡◌, ◌<◌, ◌^◌, ◌↔◌, All, IfSome, IsTrue, length, slice_get, Some};
 ghost use Rattle.verdict.specs.Right.{bare_from};
 ghost use Rattle.verdict.specs.Seats.{net_by};
-ghost use Rattle.witness_check.specs.Lines.{AreLinesBy, IsLineAt, IsLineBy};
+ghost use Rattle.witness_check.specs.Lines.{AreLinesBy, IsLineBy};
 
 use board_shapes::Probe;
 use verdict::PointLine;

@@ -1,7 +1,7 @@
 //! The first point of each name on each net, and the names on each net, found by the audit's own way: rows of points by
 //! names, thinned with one stamp a name.
-ghost use Rattle.std.specs.Prelude.{◌≡◌, ◌≢◌, ℕ, ◌+◌, ◌<◌, ◌^◌, ◌++◌, [], ◌∷◌, length, All, IfOk, IfSome, OnOk};
-ghost use Rattle.verdict.specs.Right.{fresh, seats_from};
+ghost use Rattle.std.specs.Prelude.{◌≡◌, ◌≢◌, ℕ, ◌+◌, ◌<◌, ◌^◌, ◌++◌, [], length, All, IfOk, IfSome, OnOk};
+ghost use Rattle.verdict.specs.Right.{fresh};
 ghost use Rattle.verdict.specs.Seats.{AreFirstSeats, marks_at, marks_from, marks_of_seats, seats_at};
 ghost use Rattle.witness_check.specs.Marked.{AreUpTo};
 ghost use Rattle.witness_check.specs.Seated.{HaveFirsts, Takes, begins_on};
