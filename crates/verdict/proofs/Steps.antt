@@ -10,6 +10,7 @@ use Rattle.std.proofs.lemmas.Fmt.{decimal_digit, decimal_nonempty, first_decimal
 use Rattle.std.proofs.lemmas.List.{take_at, drop_at, take-append-drop, take-take, get_or-take, length-append, length-take, length-take-le}
 use Rattle.std.proofs.lemmas.List.Elements.{All-from_recursion, recursion_from_All}
 use Rattle.std.proofs.lemmas.List.Sums.{take_while-cons, split_at_first, passes_at_first}
+use Rattle.std.proofs.lemmas.List.Folds.{list_any_at}
 use Rattle.std.proofs.lemmas.Slice.Eq.{bytes_eq-Decides}
 use Rattle.std.proofs.lemmas.Str.Parse.{IsNumeralModel, numerals_by_value, parse_digits}
 use Rattle.std.specs.Char.{digit_value}
@@ -224,7 +225,7 @@ unfolding word_at
 word_again n rest small none = step (behind (32 ∷ []) (word n ++ rest)) (λ r. number_at r) (decimal n ++ rest) (Some (n, rest)) (behind_again (32 ∷ []) (decimal n ++ rest)) (number_again n rest small none)
 
 -- one digit with no digit behind it
-pub digit_reads : (bytes rest : List ℕ) (digit : ℕ) → bytes ≡ digit ∷ rest → is_decimal_digit digit ≡ true → starts is_decimal_digit rest ≡ false → (digit - 48 < 10) × (number_at bytes ≡ Some (digit - 48, rest))
+digit_reads : (bytes rest : List ℕ) (digit : ℕ) → bytes ≡ digit ∷ rest → is_decimal_digit digit ≡ true → starts is_decimal_digit rest ≡ false → (digit - 48 < 10) × (number_at bytes ≡ Some (digit - 48, rest))
 digit_reads bytes rest digit e one none =
     let d = digit_of digit one in
     let n : ℕ = digit - 48 in
@@ -398,5 +399,28 @@ false_where false not = refl
 pub digit_above : (byte above : ℕ) → byte ≡ 48 + above → above < 10 → is_decimal_digit byte ≡ true
 digit_above byte above is small = lt-ltb (digit_value byte) 10 (let e = digit_value_digit byte (omega (arith, is), omega (arith, is, small)) in omega (arith, e, is, small))
 
+-- one digit by its value, with no digit behind it
+pub value_reads : (bytes rest : List ℕ) (digit value : ℕ) → bytes ≡ digit ∷ rest → value < 10 → digit ≡ 48 + value → starts is_decimal_digit rest ≡ false → (value < 10) × (number_at bytes ≡ Some (value, rest))
+value_reads bytes rest digit value e small is none =
+    let read = digit_reads bytes rest digit e (digit_above digit value is small) none in
+    (small, subst (λ (n : ℕ). number_at bytes ≡ Some (n, rest)) (omega (arith, is)) read.1)
+
 pub no_digit_above : (byte above : ℕ) → (48 ≤ byte → byte ≡ 48 + above) → 10 ≤ above → is_decimal_digit byte ≡ false
 no_digit_above byte above is large = false_where (is_decimal_digit byte) (λ one. let d = digit_of byte one in let e = is d.low in omega (arith, d.high, e, large))
+
+-- ---- A name up to the first feed, by the place of the feed
+
+any_at : (bytes : List ℕ) (at : ℕ) → at ≡ position_or_len is_feed bytes → at < length bytes → list_any is_feed bytes ≡ true
+any_at bytes at is below = list_any_at is_feed bytes at 0 below (subst (λ (k : ℕ). is_feed (get_or bytes k 0) ≡ true) (sym is) (passes_at_first is_feed bytes 0 (omega (arith, is, below))))
+
+pub text_cut : (bytes name : List ℕ) (at : ℕ) → at ≡ position_or_len is_feed bytes → at < length bytes → name ≡ take at bytes → IsText name → text_at bytes ≡ Some (name, drop (at + 1) bytes)
+text_cut bytes name at is below e lawful = text_read bytes name (drop (at + 1) bytes) (any_at bytes at is below) (e ∙ ap (λ (k : ℕ). take k bytes) is) lawful (ap (λ (k : ℕ). drop (k + 1) bytes) is)
+
+pub text_cut_refused : (bytes : List ℕ) (at : ℕ) → at ≡ position_or_len is_feed bytes → at < length bytes → (IsText (take at bytes) → ⊥) → text_at bytes ≡ None
+text_cut_refused bytes at is below bad = text_refused bytes (any_at bytes at is below) (subst (λ (k : ℕ). IsText (take k bytes) → ⊥) is bad)
+
+pub text_endless : (bytes : List ℕ) (at : ℕ) → at ≡ position_or_len is_feed bytes → length bytes ≤ at → text_at bytes ≡ None
+unfolding text_at
+text_endless bytes at is past =
+    let none : list_any is_feed bytes ≡ false = false_where (list_any is_feed bytes) (λ one. let below = placed is_feed bytes one in omega (arith, below, is, past)) in
+    rw none refl

@@ -1,5 +1,5 @@
 //! The fields of a report: fixed words and numbers, each read from the front of the bytes.
-ghost use Rattle.std.specs.Prelude.{◌≡◌, ◌+◌, ◌<◌, ◌≤◌, [], ◌∷◌, IfErr, IfSome, Option, Some, decimal, false, true};
+ghost use Rattle.std.specs.Prelude.{◌≡◌, ◌+◌, ◌<◌, ◌≤◌, [], ◌∷◌, IfErr, IfSome, None, Option, Some, decimal, false, true};
 ghost use Rattle.std.specs.List.{list_all};
 ghost use Rattle.std.specs.Option.{option_map};
 ghost use Rattle.texts.specs.Digits.{is_decimal_digit};
@@ -76,7 +76,7 @@ fn leading(bytes: &[u8]) -> (usize, u64)
     long_run(bytes)
 }
 
-// The same by a test at each byte; few numbers are so long.
+// The same, where fewer bytes are left or the number is longer.
 #[cold]
 #[inline(never)]
 fn long_run(bytes: &[u8]) -> (usize, u64)
@@ -95,7 +95,7 @@ fn above_zero(byte: u8) -> u64
     u64::from(byte).wrapping_sub(48)
 }
 
-// The same, to be inlined where the length is known.
+// How many digits stand in front, and their value where they are at most 18. It is inlined where the length is known.
 #[inline(always)]
 fn run(bytes: &[u8]) -> (usize, u64)
     ensures { spec.IsRun bytes.now result.0 result.1 }
@@ -253,6 +253,18 @@ pub fn usual_word(bytes: &[u8]) -> Option<(u32, &[u8])>
     }
 }
 
+// The value of a digit; none exactly where the byte is no digit.
+fn digit_value(byte: u8) -> Option<u8>
+    ensures some { IfSome result (λ d. (d < 10) × (byte ≡ 48 + d)) }
+    ensures none { result ≡ None → is_decimal_digit byte ≡ false }
+{
+    if is_digit(byte) {
+        Some(byte - b'0')
+    } else {
+        None
+    }
+}
+
 // A number of one digit, where such a number stands in front.
 fn one_digit(bytes: &[u8]) -> Option<(u8, &[u8])>
     ensures { IfSome result (λ x. (x.0 < 10) × (spec.number_at bytes.now ≡ Some (x.0, x.1.now))) }
@@ -260,10 +272,11 @@ fn one_digit(bytes: &[u8]) -> Option<(u8, &[u8])>
     let Some((digit, rest)) = bytes.split_first() else {
         return None;
     };
-    if !is_digit(*digit) || begins_digit(rest) {
+    if begins_digit(rest) {
         return None;
     }
-    Some((*digit - b'0', rest))
+    let value = digit_value(*digit)?;
+    Some((value, rest))
 }
 
 /// A blank and a number of one digit, where such a number stands in front.
@@ -274,17 +287,6 @@ pub fn short(bytes: &[u8]) -> Option<(u8, &[u8])>
     match behind_byte(bytes, b' ') {
         Some(rest) => one_digit(rest),
         None => None,
-    }
-}
-
-// The value of a digit.
-fn digit_value(byte: u8) -> Option<u8>
-    ensures { IfSome result (λ d. (d < 10) × (byte ≡ 48 + d)) }
-{
-    if is_digit(byte) {
-        Some(byte - b'0')
-    } else {
-        None
     }
 }
 

@@ -9,7 +9,8 @@ use texts::Numeral;
 // A text of so many digits leaves a byte of a word free.
 const MOST_DIGITS: usize = 7;
 
-// How many times the digit before the last one's unit a word loses where the last falls from 9 to 0 and that one rises.
+// Where the last digit falls from 9 to 0 and the one before it rises by one, a word loses so many times what one is worth in the
+// place of the latter: the last digit stands in the next higher byte.
 const CARRY: u64 = 9 * 256 - 1;
 
 /// A number and, where it has at most seven digits, its text as the low bytes of a word, so that it is compared at once.

@@ -16,7 +16,7 @@ use crate::verdict::{Branch, Open, PointLine, Short, SourceLine, SpotLine, Tree,
 use lengths::rows::Rows;
 use lengths::text::{Text, TextFault};
 use std::alloc::{AllocError, Global};
-use texts::{after_byte, before_byte, has, put, put_behind, put_blank_number, put_blank_signed};
+use texts::{place_of, put, put_behind, put_blank_number, put_blank_signed};
 
 /// What stands behind a blank as often as there are some, up to the end of a line.
 pub trait Word: Drop {
@@ -185,11 +185,12 @@ fn write_net(out: &mut Vec<u8>, net: Option<u32>) -> Result<(), AllocError>
 fn text(alloc: Global, bytes: &[u8]) -> Result<(Text, &[u8]), ReadFault>
     ensures { spec.Gives (λ x. (x.0, x.1.now)) result (spec.text_at bytes.now) }
 {
-    if !has(bytes, b'\n') {
+    let end = place_of(bytes, b'\n');
+    if end == bytes.len() {
         return Err(ReadFault::NotAReport);
     }
-    match Text::new(alloc, before_byte(bytes, b'\n')) {
-        Ok(name) => Ok((name, after_byte(bytes, b'\n'))),
+    match Text::new(alloc, &bytes[..end]) {
+        Ok(name) => Ok((name, &bytes[end + 1..])),
         Err(TextFault::BadText) => Err(ReadFault::NotAReport),
         Err(TextFault::NoMemory) => Err(ReadFault::NoMemory),
     }
@@ -559,13 +560,17 @@ impl Line for SourceLine {
     }
 }
 
-// So many items. Memory is taken for those that are there, and not for the count. Not inlined, so that the loop over each kind of
-// line has the registers.
+// Each item takes so many bytes or more.
+const LEAST_ITEM: usize = 6;
+
+// So many items. Memory is taken once, for no more than the bytes have room for. Not inlined, so that the loop over each kind of line
+// has the registers.
 #[inline(never)]
 fn items<T: Line>(alloc: Global, count: u64, bytes: &[u8]) -> Result<(Rows<T>, &[u8]), ReadFault>
     ensures { spec.Gives (λ x. (x.0, x.1.now)) result (spec.items_at T.at count 0 bytes.now) }
 {
-    let mut items = Rows::new(alloc);
+    let most = bytes.len() / LEAST_ITEM;
+    let mut items = Rows::with_capacity(alloc, count.min(most as u64) as usize)?;
     let mut rest = bytes;
     let mut line = LineNumber::of(0);
     for _ in 0..count {

@@ -125,8 +125,8 @@ fn endings(
     ended(verdict, rest)
 }
 
-// What stands behind the lists of the board: what is amiss, the supplement and the last line. It is two functions, whose proof costs
-// half of that of one.
+// What stands behind the points: what is amiss, the supplement and the last line. Its end is `endings`, since the proof of both in one
+// would cost twice as much.
 #[tactic(auto, unfolding(crate::specs::ReportReading::findings_at))]
 fn findings(alloc: Global, listed: Listed, bytes: &[u8]) -> Result<Verdict, ReadFault>
     ensures { spec.Gives (λ v. v) result (spec.findings_at listed bytes.now) }
@@ -164,7 +164,7 @@ fn report(alloc: Global, text: &[u8]) -> Result<Verdict, ReadFault>
 }
 
 /// The verdict whose text this is. `NotAReport` comes exactly where the bytes are the text of no verdict, and the
-/// memory that is taken grows with the lines that are there.
+/// memory that is taken grows with the bytes that are there.
 pub fn read_report(alloc: Global, text: &[u8]) -> Result<Verdict, ReadFault>
     ensures ok { IfOk result (λ v. IsVerdict v × (text.now ≡ report_text v)) }
     ensures fault { IfErr result (λ fault. fault ≡ ReadFault.NotAReport → (v : Verdict) → IsVerdict v → text.now ≡ report_text v → ⊥) }

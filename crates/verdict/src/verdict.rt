@@ -1,5 +1,5 @@
 //! A verdict on a board: its nets as trees, the nets of its points, and what is amiss.
-ghost use Rattle.std.specs.Prelude.{◌≡◌, [], ◌↔◌, IsTrue};
+ghost use Rattle.std.specs.Prelude.{◌↔◌, IsTrue};
 
 use lengths::rows::Rows;
 use lengths::text::Text;

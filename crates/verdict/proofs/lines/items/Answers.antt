@@ -6,7 +6,7 @@ use Rattle.verdict.proofs.lines.items.Goals as goal
 
 pub returns-in_err-item : goal.returns-in_err-item
 returns-in_err-item g c =
-    let p = err_from_is_err_and c.from_residual.result c.from_residual.ensures.1 in
+    let p = err_from_is_err_and c.from_residual-in_err-item.result c.from_residual-in_err-item.ensures.1 in
     let fails = subst (λ (n : ℕ). Fails c.in_err-item.field-0.0 (g.T.Line.at n c.loop.rest.now)) c.loop.invariant.1 c.in_err-item.ensures in
     rw (p.1, p.2) (items_end g.T.Line.at c.in_err-item.field-0.0 c.loop.items c.args.count c.loop.counter c.loop.rest.now (items_at g.T.Line.at c.args.count 0 c.args.bytes.now) c.loop-test.true fails c.loop.invariant.0)
 
