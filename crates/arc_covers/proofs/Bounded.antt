@@ -14,6 +14,7 @@ use Rattle.covers.specs.Boards.{Layout, Span, TouchAt}
 use Rattle.covers.specs.Covering.{IsCovered}
 use Rattle.arc_regions.specs.Copper.{PossiblyIn}
 use Rattle.covers.specs.Plain.{InPiece, layout_of, span_of}
+use Rattle.slants.specs.Cones.{PossiblyTurned}
 use Rattle.slants.specs.Discs.{disc_about}
 use Rattle.arc_covers.specs.Bounds.{AreBounds, HoldTogether, InSome, IsOn, StandFor, capsules_from, capsules_of, figures_of, share_of}
 use Rattle.covers.specs.Laws as covers
@@ -170,7 +171,7 @@ module _ (holds : ℕ → Point → Type 0) (real : Layout) (b : PlainBoard) (sp
   above_shape (Plain shape) copper same = above_one (figure_of shape) same (λ q h. (copper q).1 h)
   above_shape (ArcDraw arc) copper (chain, r, same, bound) = covered holds real (InPiece b) (layout_of b) span (pos r) some i first chain there (chain_at b span (pos r) first chain part at same on) (λ p h. bound p (copper.most p h))
   above_shape (Slanted line) copper (points, same, bound) = above_one (filled points) same (λ q h. bound q ((copper q).1 h))
-  above_shape (Turned t) copper (points, same, bound) = above_one (filled points) same (λ q h. bound q (copper.most q h))
+  above_shape (Turned t) copper together = above_all (PossiblyTurned t.contour.items t.about t.angle) (λ q h. copper.most q h) together
   above_shape (TurnedDisc disc) copper (s, r, same, bound) = above_one (disc_about s r) same (λ q h. bound q (copper.most q h))
   above_shape (Polygon g) copper (points, same, bound) = above_one (filled points) same (λ q h. bound q (copper.most q h))
   above_shape (Fine fine) copper (f, same, bound) = above_one f same (λ q h. bound q ((copper q).1 h))

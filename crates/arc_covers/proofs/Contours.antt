@@ -7,6 +7,7 @@ use Rattle.board_shapes.specs.declared.shape.Shape.{Shape}
 use Rattle.arcs.specs.declared.Arc.{Arc}
 use Rattle.arc_regions.specs.declared.Region.{Region as Contour}
 use Rattle.real_shapes.specs.declared.RealShape.{RealShape}
+use Rattle.slants.specs.declared.figure.TurnedFigure.{TurnedFigure}
 use Rattle.real_shapes.specs.declared.RealShape.TheVariants.{ArcDraw, Fine, Plain, Polygon, Region, Slanted, Turned, TurnedDisc}
 use Rattle.arc_covers.specs.Bounds.{OneFigure, OrNone, figures_of}
 use Rattle.arc_covers.specs.Taken.{AloneTaken, StandTaken}
@@ -48,13 +49,13 @@ one_piece (q ∷ r ∷ rest) p some few is = absurd (omega arith)
 -- what one figure alone bounds has one
 alone_is : (side : Side) (real : RealShape) (figures : List Figure) → AloneTaken side real figures → length figures ≡ 1
 alone_is side (Slanted line) figures (points, same, taken) = ap (λ (fs : List Figure). length fs) same
-alone_is side (Turned t) figures (points, same, taken) = ap (λ (fs : List Figure). length fs) same
 alone_is side (TurnedDisc disc) figures (s, r, same, taken) = ap (λ (fs : List Figure). length fs) same
 alone_is side (Polygon g) figures (points, same, taken) = ap (λ (fs : List Figure). length fs) same
 alone_is side (Fine fine) figures (f, same, taken) = ap (λ (fs : List Figure). length fs) same
 alone_is side (Plain shape) figures h = absurd h
 alone_is side (ArcDraw arc) figures h = absurd h
 alone_is side (Region area) figures h = absurd h
+alone_is side (Turned t) figures h = absurd h
 
 pub no_pieces : (side : Side) (real : RealShape) (pieces : List (Placed Shape)) (b : Bool) → length pieces < 1 → IsTrue b ↔ (side ≡ Below) → IsTrue b ↔ OrNone side (AloneTaken side real) (figures_of (plain_pieces pieces))
 no_pieces side real [] b none told = or_none side (AloneTaken side real) [] b (λ h. let one = alone_is side real [] h in absurd (omega (arith, one))) refl told
@@ -66,13 +67,13 @@ more_pieces side real (p ∷ []) some = absurd (omega arith)
 more_pieces side real (p ∷ q ∷ rest) some = or_more side (AloneTaken side real) (figure_of p.shape) (figure_of q.shape) (figures_of (plain_pieces rest)) (figures_of (plain_pieces (p ∷ q ∷ rest))) false (λ h. let one = alone_is side real (figures_of (plain_pieces (p ∷ q ∷ rest))) h in absurd (omega (arith, one))) refl refl
 
 -- and stands so
-pub alone_stands : (side : Side) (real : RealShape) (figures : List Figure) (b : Bool) → ((x : Shape) → real ≡ Plain x → ⊥) → ((x : Arc) → real ≡ ArcDraw x → ⊥) → ((x : Contour) → real ≡ Region x → ⊥)
+pub alone_stands : (side : Side) (real : RealShape) (figures : List Figure) (b : Bool) → ((x : Shape) → real ≡ Plain x → ⊥) → ((x : Arc) → real ≡ ArcDraw x → ⊥) → ((x : Contour) → real ≡ Region x → ⊥) → ((x : TurnedFigure) → real ≡ Turned x → ⊥)
     → IsTrue b ↔ OrNone side (AloneTaken side real) figures → IsTrue b ↔ StandTaken side real figures
-alone_stands side (Slanted line) figures b plain bent curved told = told
-alone_stands side (Turned t) figures b plain bent curved told = told
-alone_stands side (TurnedDisc disc) figures b plain bent curved told = told
-alone_stands side (Polygon g) figures b plain bent curved told = told
-alone_stands side (Fine fine) figures b plain bent curved told = told
-alone_stands side (Plain shape) figures b plain bent curved told = absurd (plain shape refl)
-alone_stands side (ArcDraw arc) figures b plain bent curved told = absurd (bent arc refl)
-alone_stands side (Region area) figures b plain bent curved told = absurd (curved area refl)
+alone_stands side (Slanted line) figures b plain bent curved turned told = told
+alone_stands side (Turned t) figures b plain bent curved turned told = absurd (turned t refl)
+alone_stands side (TurnedDisc disc) figures b plain bent curved turned told = told
+alone_stands side (Polygon g) figures b plain bent curved turned told = told
+alone_stands side (Fine fine) figures b plain bent curved turned told = told
+alone_stands side (Plain shape) figures b plain bent curved turned told = absurd (plain shape refl)
+alone_stands side (ArcDraw arc) figures b plain bent curved turned told = absurd (bent arc refl)
+alone_stands side (Region area) figures b plain bent curved turned told = absurd (curved area refl)

@@ -16,15 +16,15 @@ use Rattle.lengths.specs.declared.rows.NoMemory.{NoMemory}
 use Rattle.arcs.specs.Copper.{InChain}
 use Rattle.arcs.specs.Laws.{TakenIsBetween}
 use Rattle.slants.specs.Laws as slants
-use Rattle.slants.specs.Laws.{DiscsAreBetween, PolygonIsBetween, TurnedIsBetween}
+use Rattle.slants.specs.Laws.{DiscsAreBetween, PolygonIsBetween}
 use Rattle.slants.specs.declared.Slant.{Slant}
 use Rattle.slants.specs.declared.discs.TurnedDisc.{TurnedDisc as Disc}
 use Rattle.slants.specs.declared.polygons.RegularPolygon.{RegularPolygon}
 use Rattle.fine_figures.specs.Laws.{FineIsBetween}
 use Rattle.fine_figures.specs.declared.FineFigure.{FineFigure}
-use Rattle.arc_covers.specs.Bounds.{BoundRegion, DiscFor, FigureFor, IsBound, IsDiscBound, IsFineBound, IsLineBound, IsOn, IsPolygonBound, IsTurnedBound, ContourFor, PiecesStandFor, StandFor, capsules_from, capsules_of, figures_of}
+use Rattle.arc_covers.specs.Bounds.{BoundRegion, BoundTurned, DiscFor, FigureFor, IsBound, IsDiscBound, IsFineBound, IsLineBound, IsOn, IsPolygonBound, ContourFor, PiecesStandFor, StandFor, capsules_from, capsules_of, figures_of}
 use Rattle.arc_regions.specs.declared.Region.{Region as Contour}
-use Rattle.arc_covers.specs.Taken.{IsDiscTaken, IsFineTaken, IsLineTaken, IsPolygonTaken, IsTaken, IsTurnedTaken, PiecesAreTaken, RegionTaken, StandTaken}
+use Rattle.arc_covers.specs.Taken.{IsDiscTaken, IsFineTaken, IsLineTaken, IsPolygonTaken, IsTaken, PiecesAreTaken, RegionTaken, StandTaken, TurnedTaken}
 use Rattle.real_shapes.specs.declared.RealShape.{RealShape}
 use Rattle.real_shapes.specs.declared.RealShape.TheVariants.{ArcDraw, Fine, Plain, Polygon, Region, Slanted, Turned, TurnedDisc}
 use Rattle.arc_covers.specs.declared.side.Side.{Side}
@@ -182,8 +182,9 @@ pub layers_refused : (side : Side) (real : Placed RealShape) (pieces : List (Pla
 layers_refused side real pieces b on is off told = (λ yes. absurd cc, λ t. let yes = told.1 (of_pieces (IsOn real.top real.bottom) pieces t.layers) in absurd cc)
 
 -- what is taken stands
-pub stands : (side : Side) (real : Placed RealShape) (pieces : List PlainPiece) → TakenIsBetween → slants.TakenIsBetween → TurnedIsBetween → DiscsAreBetween → PolygonIsBetween → FineIsBetween → ((side : Side) (area : Contour) (figures : List Figure) → RegionTaken side area figures → BoundRegion side area figures) → PiecesAreTaken side real pieces → PiecesStandFor side real pieces
-stands side real pieces law lines turns discs polygons fines regions t = record { figures = by side real.shape t.figures; layers = t.layers }
+pub stands : (side : Side) (real : Placed RealShape) (pieces : List PlainPiece) → TakenIsBetween → slants.TakenIsBetween → DiscsAreBetween → PolygonIsBetween → FineIsBetween → ((side : Side) (area : Contour) (figures : List Figure) → RegionTaken side area figures → BoundRegion side area figures)
+    → ((side : Side) (contour : List Spot) (about : Spot) (angle : ℕ) (figures : List Figure) → TurnedTaken side contour about angle figures → BoundTurned side contour about angle figures) → PiecesAreTaken side real pieces → PiecesStandFor side real pieces
+stands side real pieces law lines discs polygons fines regions turned t = record { figures = by side real.shape t.figures; layers = t.layers }
   where
     bound : (side : Side) (arc : Arc) (chain : List Spot) (r : ℕ) → IsTaken side arc chain r → IsBound side arc chain (pos r)
     bound Below arc chain r (inl none) = λ p inside. absurd (subst (λ (c : List Spot). InChain c (pos r) p) none inside)
@@ -193,10 +194,6 @@ stands side real pieces law lines turns discs polygons fines regions t = record 
     line_bound : (side : Side) (line : Slant) (points : List Spot) → IsLineTaken side line points → IsLineBound side line points
     line_bound Below line points taken = λ p inside. (lines line points p).0 taken inside
     line_bound Above line points taken = λ p inside. (lines line points p).1 taken inside
-
-    turned_bound : (side : Side) (contour : List Spot) (about : Spot) (angle : ℕ) (points : List Spot) → IsTurnedTaken side contour about angle points → IsTurnedBound side contour about angle points
-    turned_bound Below contour about angle points taken = λ p inside. (turns contour about angle points p).0 taken inside
-    turned_bound Above contour about angle points taken = λ p inside. (turns contour about angle points p).1 taken inside
 
     disc_bound : (side : Side) (disc : Disc) (s : Spot) (r : ℕ) → IsDiscTaken side disc s r → IsDiscBound side disc s r
     disc_bound Below disc s r taken = λ p inside. (discs disc s r p).0 taken inside
@@ -230,7 +227,7 @@ stands side real pieces law lines turns discs polygons fines regions t = record 
     by side (ArcDraw arc) (chain, r, same, taken) = (chain, r, same, bound side arc chain r taken)
     by side (Slanted line) h = one_area side (IsLineTaken side line) (IsLineBound side line) (figures_of pieces) (line_bound side line) h
     by side (Region area) h = regions side area (figures_of pieces) h
-    by side (Turned f) h = one_area side (IsTurnedTaken side f.contour.items f.about f.angle) (IsTurnedBound side f.contour.items f.about f.angle) (figures_of pieces) (turned_bound side f.contour.items f.about f.angle) h
+    by side (Turned f) h = turned side f.contour.items f.about f.angle (figures_of pieces) h
     by side (TurnedDisc disc) h = one_disc side disc (figures_of pieces) h
     by side (Polygon g) h = one_area side (IsPolygonTaken side g) (IsPolygonBound side g) (figures_of pieces) (polygon_bound side g) h
     by side (Fine fine) h = one_figure side fine (figures_of pieces) h

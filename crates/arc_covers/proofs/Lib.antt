@@ -10,4 +10,5 @@ mod Parts
 mod Shares
 mod Steps
 mod Told
+mod Outlined
 mod Turning

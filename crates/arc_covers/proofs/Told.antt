@@ -35,13 +35,13 @@ along a [] r p h = absurd h
 along a (b ∷ rest) r p (inl h) = inl h
 along a (b ∷ rest) r p (inr h) = inr (along b rest r p h)
 
-in_chain : (chain : List Spot) (r : ℕ) (p : Point) → InChain chain (pos r) p → InSome (capsules_of chain (pos r)) p
+pub in_chain : (chain : List Spot) (r : ℕ) (p : Point) → InChain chain (pos r) p → InSome (capsules_of chain (pos r)) p
 in_chain [] r p h = absurd h
 in_chain (a ∷ rest) r p h = along a rest r p h
 
 -- ---- figures that touch a line of edges
 
-abbrev Has : List Spot → Spot → Type 0
+abbrev pub Has : List Spot → Spot → Type 0
 Has [] s = ⊥
 Has (b ∷ rest) s = (b ≡ s) ⊎ Has rest s
 
@@ -58,10 +58,10 @@ has_back (x ∷ xs) s h = elim (has_of (reverse xs) (x ∷ []) s (subst (λ (zs 
 ]
 
 -- the figure has a spot of one of the edges
-abbrev Touches : Spot → List Spot → Figure → Type 0
+abbrev pub Touches : Spot → List Spot → Figure → Type 0
 Touches a corners f = (s : Spot) × InFigure f (at s) × SomeEdge (OnEdge (at s)) (edges_from a corners)
 
-on_edge : (a b : Spot) (rest : List Spot) (s : Spot) → Has (a ∷ b ∷ rest) s → SomeEdge (OnEdge (at s)) (edges_from a (b ∷ rest))
+pub on_edge : (a b : Spot) (rest : List Spot) (s : Spot) → Has (a ∷ b ∷ rest) s → SomeEdge (OnEdge (at s)) (edges_from a (b ∷ rest))
 on_edge a b rest s (inl h) = inl (subst (λ (z : Spot). InCapsule a b (pos 0) (at z)) h (holds_start a b (pos 0)))
 on_edge a b rest s (inr (inl h)) = inl (subst (λ (z : Spot). InCapsule a b (pos 0) (at z)) h (holds_end a b (pos 0)))
 on_edge a b [] s (inr (inr h)) = absurd h
@@ -72,7 +72,7 @@ touch_from a corners c [] r on = All-nil (Touches a corners)
 touch_from a corners c (d ∷ chain) r on =
     All-cons (Touches a corners) (round (record { a = c; b = d; r = pos r })) (capsules_from d chain (pos r)) (c, holds_start c d (pos r), on c (inl refl)) (touch_from a corners d chain r (λ s h. on s (inr h)))
 
-touch_chain : (a : Spot) (corners chain : List Spot) (r : ℕ) → ((s : Spot) → Has chain s → SomeEdge (OnEdge (at s)) (edges_from a corners)) → All (Touches a corners) (capsules_of chain (pos r))
+pub touch_chain : (a : Spot) (corners chain : List Spot) (r : ℕ) → ((s : Spot) → Has chain s → SomeEdge (OnEdge (at s)) (edges_from a corners)) → All (Touches a corners) (capsules_of chain (pos r))
 touch_chain a corners [] r on = All-nil (Touches a corners)
 touch_chain a corners (c ∷ chain) r on = touch_from a corners c chain r on
 

@@ -43,11 +43,6 @@ abbrev pub IsLineBound : Side → Slant → List Spot → Type 0
 IsLineBound Below line points = (p : Point) → InFigure (filled points) p → InSlant line p
 IsLineBound Above line points = (p : Point) → InSlant line p → InFigure (filled points) p
 
--- what a contour bounds lies in the turned figure at each turn of its cone, or holds it at each
-abbrev pub IsTurnedBound : Side → List Spot → Spot → ℕ → List Spot → Type 0
-IsTurnedBound Below contour about angle points = (p : Point) → InFigure (filled points) p → SurelyTurned contour about angle p
-IsTurnedBound Above contour about angle points = (p : Point) → PossiblyTurned contour about angle p → InFigure (filled points) p
-
 -- the disc about a spot lies in the turned disc at each turn of its cone, or holds it at each
 abbrev pub IsDiscBound : Side → Disc → Spot → ℕ → Type 0
 IsDiscBound Below disc s r = (p : Point) → InFigure (disc_about s r) p → SurelyInDisc disc p
@@ -108,14 +103,19 @@ abbrev pub BoundRegion : Side → Contour → List Figure → Type 0
 BoundRegion Below area figures = ContourFor Below (λ points. (p : Point) → InFigure (filled points) p → SurelyIn area.start area.parts.items p) figures
 BoundRegion Above area figures = HoldTogether (PossiblyIn area.start area.parts.items) figures
 
--- for a figure stands the figure itself, for an arc draw the capsules of one chain of one radius that is a bound: below it maybe none; for a slanted line, a turned figure or a polygon one contour that is: below it maybe none; for a turned disc one disc, or below it none, for a fine figure one figure, or below it none;
--- for a region below one contour that lies in it or none, above figures that hold it together
+-- below they are one contour that lies in the turned figure at each turn of its cone, or none; above they hold it at each
+abbrev pub BoundTurned : Side → List Spot → Spot → ℕ → List Figure → Type 0
+BoundTurned Below contour about angle figures = ContourFor Below (λ points. (p : Point) → InFigure (filled points) p → SurelyTurned contour about angle p) figures
+BoundTurned Above contour about angle figures = HoldTogether (PossiblyTurned contour about angle) figures
+
+-- for a figure stands the figure itself, for an arc draw the capsules of one chain of one radius that is a bound: below it maybe none; for a slanted line or a polygon one contour that is: below it maybe none; for a turned disc one disc, or below it none, for a fine figure one figure, or below it none;
+-- for a region and a turned figure below one contour that lies in it or none, above figures that hold it together
 abbrev pub StandFor : Side → RealShape → List Figure → Type 0
 StandFor side (Plain shape) figures = figures ≡ figure_of shape ∷ []
 StandFor side (ArcDraw arc) figures = (chain : List Spot) × (r : ℕ) × (figures ≡ capsules_of chain (pos r)) × IsBound side arc chain (pos r)
 StandFor side (Slanted line) figures = ContourFor side (IsLineBound side line) figures
 StandFor side (Region area) figures = BoundRegion side area figures
-StandFor side (Turned t) figures = ContourFor side (IsTurnedBound side t.contour.items t.about t.angle) figures
+StandFor side (Turned t) figures = BoundTurned side t.contour.items t.about t.angle figures
 StandFor side (TurnedDisc disc) figures = DiscFor side (IsDiscBound side disc) figures
 StandFor side (Polygon g) figures = ContourFor side (IsPolygonBound side g) figures
 StandFor side (Fine fine) figures = FigureFor side (IsFineBound side fine) figures

@@ -5,6 +5,7 @@ pub mod Eighths
 pub mod Faults
 pub mod Findings
 pub mod Laws
+pub mod Outlines
 pub mod RealBoards
 pub mod Regions
 pub mod Taken

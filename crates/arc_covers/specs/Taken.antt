@@ -19,6 +19,7 @@ use Rattle.arc_regions.specs.declared.Region.{Region as Contour}
 use Rattle.fine_figures.specs.Taken as fine_figures
 use Rattle.fine_figures.specs.declared.FineFigure.{FineFigure}
 use Rattle.arc_covers.specs.Eighths.{LiesBelow}
+use Rattle.arc_covers.specs.Outlines.{OutlineLies, OutlineStands}
 use Rattle.arc_covers.specs.Regions.{RegionAbove}
 use Rattle.arc_covers.specs.Bounds.{AddUp, IsOn, ContourFor, DiscFor, FigureFor, OneContour, OneDisc, OneFigure, capsules_of, figures_of, share_of}
 use Rattle.arc_covers.specs.declared.side.Side.{Side}
@@ -59,14 +60,19 @@ abbrev pub RegionTaken : Side → Contour → List Figure → Type 0
 RegionTaken Below area figures = ContourFor Below (LiesBelow area.start area.parts.items) figures
 RegionTaken Above area figures = RegionAbove area.start area.parts.items figures
 
--- For a figure that figure, for a slanted line, a turned figure or a polygon one contour that is taken or below none. For an arc draw the capsules of one chain of one radius that is taken. Capsules have one chain; no capsules are those of none and of each single
--- spot, of which the former is taken below and nothing above. For a region what its own check takes, for a turned disc one disc and for a fine figure one figure that is taken or below none
+-- one contour that is taken, by `slants` or as the figure has any outline, or below none; above the polygon and the capsules of an outline too
+abbrev pub TurnedTaken : Side → List Spot → Spot → ℕ → List Figure → Type 0
+TurnedTaken Below contour about angle figures = ContourFor Below (λ points. IsTurnedTaken Below contour about angle points ⊎ OutlineLies contour about angle points) figures
+TurnedTaken Above contour about angle figures = OneContour (IsTurnedTaken Above contour about angle) figures ⊎ OutlineStands contour about angle figures
+
+-- For a figure that figure, for a slanted line or a polygon one contour that is taken or below none. For an arc draw the capsules of one chain of one radius that is taken. Capsules have one chain; no capsules are those of none and of each single
+-- spot, of which the former is taken below and nothing above. For a region or a turned figure what its own check takes, for a turned disc one disc and for a fine figure one figure that is taken or below none
 abbrev pub StandTaken : Side → RealShape → List Figure → Type 0
 StandTaken side (Plain shape) figures = figures ≡ figure_of shape ∷ []
 StandTaken side (ArcDraw arc) figures = (chain : List Spot) × (r : ℕ) × (figures ≡ capsules_of chain (pos r)) × IsTaken side arc chain r
 StandTaken side (Slanted line) figures = ContourFor side (IsLineTaken side line) figures
 StandTaken side (Region area) figures = RegionTaken side area figures
-StandTaken side (Turned t) figures = ContourFor side (IsTurnedTaken side t.contour.items t.about t.angle) figures
+StandTaken side (Turned t) figures = TurnedTaken side t.contour.items t.about t.angle figures
 StandTaken side (TurnedDisc disc) figures = DiscFor side (IsDiscTaken side disc) figures
 StandTaken side (Polygon g) figures = ContourFor side (IsPolygonTaken side g) figures
 StandTaken side (Fine fine) figures = FigureFor side (IsFineTaken side fine) figures
@@ -74,7 +80,6 @@ StandTaken side (Fine fine) figures = FigureFor side (IsFineTaken side fine) fig
 -- For those that one figure alone bounds, that figure
 abbrev pub AloneTaken : Side → RealShape → List Figure → Type 0
 AloneTaken side (Slanted line) figures = OneContour (IsLineTaken side line) figures
-AloneTaken side (Turned t) figures = OneContour (IsTurnedTaken side t.contour.items t.about t.angle) figures
 AloneTaken side (TurnedDisc disc) figures = OneDisc (IsDiscTaken side disc) figures
 AloneTaken side (Polygon g) figures = OneContour (IsPolygonTaken side g) figures
 AloneTaken side (Fine fine) figures = OneFigure (IsFineTaken side fine) figures

@@ -8,6 +8,7 @@ ghost use Rattle.board_shapes.specs.Pieces.{plain_pieces};
 ghost use Rattle.std.specs.Prelude.{IfErr, IfOk, IsTrue, drop, length, sum, take, ◌+◌, ◌≡◌, ◌≤◌, ◌↔◌};
 
 use crate::laws::taken_are_bounds;
+use crate::outlines::is_turned;
 use crate::regions::is_region;
 use crate::rows::{are_chain, are_on, is_itself, stand_alone};
 use crate::side::Side;
@@ -69,8 +70,8 @@ fn part(pieces: &[Piece], start: usize, count: u32) -> &[Piece]
 }
 
 /// Whether the pieces are taken for the real piece on that side: they are its figure, the capsules of
-/// a chain that the checks take for its arc draw, a contour that they take for its slanted line, its turned
-/// figure or its polygon, a disc for its turned disc, a figure for its fine one, or what they take for its region, on its layers.
+/// a chain that the checks take for its arc draw, a contour that they take for its slanted line or its
+/// polygon, a disc for its turned disc, a figure for its fine one, or what they take for its turned figure or its region, on its layers.
 /// `NoMemory` where memory is wanted.
 fn stand(alloc: Global, side: Side, real: &RealPiece, pieces: &[Piece]) -> Result<bool, NoMemory>
     ensures { IfOk result (λ yes. IsTrue yes ↔ PiecesAreTaken side real.now (plain_pieces pieces.now)) }
@@ -82,6 +83,7 @@ fn stand(alloc: Global, side: Side, real: &RealPiece, pieces: &[Piece]) -> Resul
         RealShape::Plain(shape) => Ok(is_itself(shape, pieces)),
         RealShape::ArcDraw(arc) => are_chain(alloc, side, arc, pieces),
         RealShape::Region(region) => is_region(alloc, side, region, pieces),
+        RealShape::Turned(figure) => is_turned(alloc, side, figure, pieces),
         alone => Ok(stand_alone(side, alone, pieces)),
     }
 }
@@ -91,7 +93,7 @@ fn stand(alloc: Global, side: Side, real: &RealPiece, pieces: &[Piece]) -> Resul
 /// nobody needs to trust them.
 ///
 /// `Counts` where they do not add up; `Piece` with the first real piece for which what is counted to it is
-/// not taken, though it may bound it; `NoMemory` where memory is wanted for the spots of a chain.
+/// not taken, though it may bound it; `NoMemory` where memory is wanted for the spots of a chain or an outline.
 pub fn check_between(
     alloc: Global,
     real: &[RealPiece],

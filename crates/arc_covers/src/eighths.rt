@@ -213,7 +213,7 @@ fn are_parts_placed(parts: &[Part]) -> bool
 }
 
 /// The square of a metre about the spot.
-fn frame_about(a: Spot) -> Frame
+pub fn frame_about(a: Spot) -> Frame
     requires { IsPlaced a }
     ensures { result ≡ spec.frame_about a }
 {

@@ -7,6 +7,7 @@ use covers::Copper;
 use covers::laws::verdicts_decide;
 use fine_figures::laws::fine_is_between;
 use slants::laws::{discs_are_between, polygon_is_between, turned_is_between};
+use turned_outlines::laws::{outline_holds, outline_lies};
 
 /// Pieces that are taken for those of a real board stand for them.
 pub fn taken_are_bounds()
@@ -20,6 +21,8 @@ pub fn taken_are_bounds()
     fine_is_between();
     taken_holds();
     taken_lies();
+    outline_holds();
+    outline_lies();
 }
 
 /// A board of figures, arc draws, slanted lines, regions with arcs, turned figures and discs, regular polygons and fine figures lies

@@ -7,6 +7,7 @@
 //! - `rows`: whether pieces are a figure, a contour, or the capsules of a chain.
 //! - `regions`: whether they are a polygon and the capsules along its arcs.
 //! - `eighths`: whether they are a contour in a region, by chains of eighth turns.
+//! - `outlines`: whether they are taken for a turned figure.
 //! - `between`: the check over whole boards.
 //! - `counts`: the file of counts.
 //! - `laws`: what follows of every board whose copper the real pieces allow.
@@ -16,6 +17,7 @@ mod between;
 mod counts;
 mod eighths;
 pub mod laws;
+mod outlines;
 mod regions;
 mod rows;
 mod side;

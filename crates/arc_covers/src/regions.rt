@@ -76,7 +76,7 @@ fn are_links(pieces: &[Piece], start: Spot, rest: &[Spot], r: u64) -> bool
 }
 
 /// Whether they are those along the chain.
-fn are_capsules(pieces: &[Piece], chain: &[Spot], r: u64) -> bool
+pub fn are_capsules(pieces: &[Piece], chain: &[Spot], r: u64) -> bool
     ensures { IsTrue result ↔ (figures_of (plain_pieces pieces.now) ≡ capsules_of chain.now (pos r)) }
 {
     match chain {
@@ -86,7 +86,7 @@ fn are_capsules(pieces: &[Piece], chain: &[Spot], r: u64) -> bool
 }
 
 /// The radius of the first piece, if it is a capsule.
-fn radius_of(pieces: &[Piece]) -> Option<u64>
+pub fn radius_of(pieces: &[Piece]) -> Option<u64>
     ensures some { IfSome result (λ r. (a b : Spot) × (rest : List Figure) × (figures_of (plain_pieces pieces.now) ≡ round (record { a = a; b = b; r = pos r }) ∷ rest)) }
     ensures none { IfNone result ((a b : Spot) (r : ℕ) (rest : List Figure) → ¬ (figures_of (plain_pieces pieces.now) ≡ round (record { a = a; b = b; r = pos r }) ∷ rest)) }
 {

@@ -8,9 +8,7 @@ ghost use Rattle.board_shapes.specs.Pieces.{plain_piece, plain_pieces};
 ghost use Rattle.planar.specs.declared.Spot.{Spot};
 ghost use Rattle.std.specs.Prelude.{All, IfNone, IfOk, IfSome, IsTrue, List, length, pos, ◌≡◌, ◌↔◌, ◌∷◌, []};
 
-use crate::side::{
-    Side, is_disc_taken, is_fine_taken, is_line_taken, is_polygon_taken, is_taken, is_turned_taken,
-};
+use crate::side::{Side, is_disc_taken, is_fine_taken, is_line_taken, is_polygon_taken, is_taken};
 use arcs::{Arc, Spot};
 use area_contact::Area;
 use board_shapes::{Piece, Shape};
@@ -164,18 +162,13 @@ fn is_disc(side: Side, disc: &TurnedDisc, capsule: &Capsule) -> bool
     capsule.a == capsule.b && is_disc_taken(side, disc, capsule.a, capsule.r.unsigned_abs())
 }
 
-/// Whether the shape is taken for the real one, which one figure alone bounds: a contour for a slanted line, a turned figure or a
+/// Whether the shape is taken for the real one, which one figure alone bounds: a contour for a slanted line or a
 /// polygon, a disc for a turned disc, either for a fine figure.
 fn is_alone(side: Side, real: &RealShape, shape: &Shape) -> bool
     ensures { IsTrue result ↔ AloneTaken side real.now (figure_of shape.now ∷ []) }
 {
     match (real, shape) {
         (RealShape::Slanted(line), Shape::Filled(area)) => is_line_taken(side, line, &area.points),
-        (RealShape::Turned(figure), Shape::Filled(area)) => is_turned_taken(
-            side,
-            figure,
-            &area.points,
-        ),
         (RealShape::Polygon(polygon), Shape::Filled(area)) => {
             is_polygon_taken(side, polygon, &area.points)
         }

@@ -385,6 +385,111 @@ fn a_turned_pad(rt: HostRuntime) -> Result<(), Fail> {
     Ok(())
 }
 
+/// The points of a contour of six corners.
+fn six(alloc: Global, places: [(i16, i16); 6]) -> Result<Vec<Spot>, Fail> {
+    let mut points = Vec::new(alloc);
+    for place in places {
+        points.push(spot(place))?;
+    }
+    points.push(spot(places[0]))?;
+    Ok(points)
+}
+
+/// It as a piece, and capsules of some radius along so many of its edges.
+fn outlined(
+    alloc: Global,
+    places: [(i16, i16); 6],
+    r: u16,
+    edges: usize,
+) -> Result<Vec<Piece>, Fail> {
+    let points = six(alloc, places)?;
+    let mut pieces = Vec::new(alloc);
+    if are_placed(&points) {
+        pieces.push(on(1, Shape::Filled(Area::new(alloc, points)?)))?;
+    }
+    let ends = [
+        places[1], places[2], places[3], places[4], places[5], places[0],
+    ];
+    for i in 0..edges.min(6) {
+        pieces.push(on(1, capsule(places[i], ends[i], r)))?;
+    }
+    Ok(pieces)
+}
+
+/// An L that is turned by 30 degrees: the nearest spots with capsules of 1 u hold it, and a contour 2 u within lies in it, not
+/// one u less. Other capsules, fewer and none do not.
+#[test]
+fn a_turned_outline(rt: HostRuntime) -> Result<(), Fail> {
+    let alloc = rt.alloc();
+    let mut real = Vec::new(alloc);
+    real.push(Placed {
+        shape: RealShape::Turned(TurnedFigure {
+            contour: six(
+                alloc,
+                [
+                    (0, 0),
+                    (30_000, 0),
+                    (30_000, 10_000),
+                    (10_000, 10_000),
+                    (10_000, 30_000),
+                    (0, 30_000),
+                ],
+            )?,
+            about: spot((0, 0)),
+            angle: 300_000_000,
+        }),
+        top: 1,
+        bottom: 1,
+        origin: ORIGIN,
+    })?;
+    let near = [
+        (0, 0),
+        (25_981, 15_000),
+        (20_981, 23_660),
+        (3660, 13_660),
+        (-6340, 30_981),
+        (-15_000, 25_981),
+    ];
+    let within = [
+        (1, 3),
+        (25_978, 15_001),
+        (20_980, 23_657),
+        (3659, 13_657),
+        (-6341, 30_978),
+        (-14_997, 25_980),
+    ];
+    let beyond = [
+        (0, 1),
+        (25_980, 15_000),
+        (20_981, 23_659),
+        (3660, 13_659),
+        (-6340, 30_980),
+        (-14_999, 25_981),
+    ];
+    let below = Err(BoundsFault::Piece(Side::Below, 0));
+    let above = Err(BoundsFault::Piece(Side::Above, 0));
+    for (places, lower_count, r, edges, upper_count, told) in [
+        (within, 1, 1, 6, 7, Ok(())),
+        (within, 0, 1, 6, 7, Ok(())),
+        (within, 1, 0, 6, 7, above),
+        (within, 1, 1, 5, 6, above),
+        (within, 1, 1, 0, 1, above),
+        (beyond, 1, 1, 6, 7, below),
+        (near, 1, 1, 6, 7, below),
+    ] {
+        let lower = outlined(alloc, places, 0, 0)?;
+        let lower = if lower_count == 0 {
+            Vec::new(alloc)
+        } else {
+            lower
+        };
+        let upper = outlined(alloc, near, r, edges)?;
+        let found = check_between(alloc, &real, &lower, &[lower_count], &upper, &[upper_count]);
+        assert!(rt; found == told, "with {edges} of {r}");
+    }
+    Ok(())
+}
+
 /// A disc of radius 3,000 u about (10000, 0), turned about 0.
 fn turned_disc(alloc: Global, angle: u32) -> Result<Vec<RealPiece>, Fail> {
     let mut real = Vec::new(alloc);

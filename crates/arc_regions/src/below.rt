@@ -63,8 +63,9 @@ fn is_clear<L: Ledger>(
     capsule_clear(area, &capsule, frame, tests)
 }
 
-/// Whether each capsule along the chain is.
-fn chain_clear<L: Ledger>(
+/// Whether each capsule of radius `r`, in u, along the chain is one, lies in the frame and shares no point
+/// with the area.
+pub fn chain_clear<L: Ledger>(
     area: &Area,
     chain: &[Spot],
     r: u64,
@@ -116,8 +117,9 @@ fn links_odd(p: Spot, start: Spot, rest: &[Spot]) -> bool
     odd
 }
 
-/// Whether it crosses an odd number of the links of the chain.
-fn chain_odd(p: Spot, chain: &[Spot]) -> bool
+/// Whether the ray from `p` to the right crosses an odd number of the links of the chain. All spots are
+/// within a metre.
+pub fn chain_odd(p: Spot, chain: &[Spot]) -> bool
     requires p_placed { IsPlaced p }
     requires placed { All IsPlaced chain.now }
     ensures { result ≡ odd (edges_of chain.now) p.x p.y (pos 1) }
@@ -162,8 +164,8 @@ fn stands_clear<L: Ledger>(
     }
 }
 
-/// The first corner of the area.
-fn first_corner(area: &Area) -> Spot
+/// The first corner of the area, within a metre.
+pub fn first_corner(area: &Area) -> Spot
     ensures placed { IsPlaced result }
     ensures first { result ≡ first_of area.now.points.items }
 {

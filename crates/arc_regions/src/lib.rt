@@ -16,7 +16,7 @@ pub mod laws;
 mod links;
 
 pub use above::{draw_of, end_of, is_above, is_part, is_same};
-pub use below::is_below;
+pub use below::{chain_clear, chain_odd, first_corner, is_below};
 pub use planar::Spot;
 
 /// A round arc about `centre` to `end`, in u. Where it begins and ends at one spot, it is the whole

@@ -4,7 +4,7 @@ use Rattle.std.proofs.lemmas.List.{length-map}
 use Rattle.arc_covers.specs.Bounds.{AddUp, ContourFor, IsOn, figures_of, share_of}
 use Rattle.arc_covers.specs.Faults.{AreFirstOff, IsFirstFault, on_side}
 use Rattle.arc_covers.specs.RealBoards.{IsCopperOf, IsReal, real_span}
-use Rattle.arc_covers.specs.Taken.{FirstTaken, IsTurnedTaken, PiecesAreTaken, StandTaken}
+use Rattle.arc_covers.specs.Taken.{FirstTaken, PiecesAreTaken, StandTaken, TurnedTaken}
 use Rattle.arc_covers.specs.declared.between.BoundsFault.TheVariants as fault
 use Rattle.arc_covers.specs.declared.side.Side.{Side}
 use Rattle.arc_covers.specs.declared.side.Side.TheVariants.{Below, Above}
@@ -48,7 +48,7 @@ StandBy side (bent arc) figures = StandTaken side (ArcDraw arc) figures
 StandBy side (slanted line) figures = StandTaken side (Slanted line) figures
 StandBy Below (curved begins parts) figures = ContourFor Below (LiesBelow begins parts) figures
 StandBy Above (curved begins parts) figures = RegionAbove begins parts figures
-StandBy side (turned contour about angle) figures = ContourFor side (IsTurnedTaken side contour about angle) figures
+StandBy side (turned contour about angle) figures = TurnedTaken side contour about angle figures
 StandBy side (turned_disc disc) figures = StandTaken side (TurnedDisc disc) figures
 StandBy side (regular g) figures = StandTaken side (Polygon g) figures
 StandBy side (fine f) figures = StandTaken side (Fine f) figures
