@@ -1,4 +1,5 @@
-"""Contours within regions with arcs, as `between` takes them: clear of the straight edges, and of draws along chains of eighth turns for arcs.
+"""Contours within regions with arcs, as `between` takes them: clear of the straight edges, and of draws along chains of eighth turns for arcs; and
+within turned outlines, clear of draws along their edges.
 
 How the corners were found does not matter: they are tested.
 """
@@ -39,7 +40,7 @@ def eighth_radius(centre, start):
 def inset(corners, keeps):
     """Corners of an area within an outline, over `keeps` from each edge; None where none is found."""
     order = 1 if sum(cross((0, 0), a, b) for a, b in edges(corners)) > 0 else -1
-    grid = Segments(edges(corners))
+    grid = Segments(edges(corners), max(keeps) // 2 + 1)
     for more in FURTHER:
         found = met([line for k in range(len(corners)) for line in moved(corners, keeps, k, order, more)])
         if found and is_clear(found, grid, keeps) and odd_inside(corners, found[0]) and not odd_inside(found, corners[0]):

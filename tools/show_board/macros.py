@@ -8,6 +8,7 @@ from .exact import Refused, cos_sin, decimal, exact, limited, minus, plus, root,
 from .outlines import convex_bounds, disc_bounds, polygon_bounds, whole_corners
 from .regular import figure_of as regular_of, regular_bounds
 from .slants import line_bounds
+from .turned_outlines import outline_bounds, placed_outline
 
 MOST_DEEP = 64          # brackets in one another
 TOKEN = re.compile(r"\$(\d{1,9})|(\d+\.?\d*|\.\d+)|([-+xX/()])")
@@ -127,7 +128,8 @@ COUNTS = {1: (5, 6), 2: (8,), 20: (8,), 21: (7,), 22: (7,), 5: (7,)}
 
 def figures(body, parameters, scale):
     """The real shapes of a macro's body, turned, in u: ("disc", centre, radius), ("line", start, end, width), ("turned", corners, angle)
-    ("turned disc", centre, radius, angle) and ("regular", corners, diameter, angle, centre) of whole numbers, ("convex", corners) or ("outline", corners)."""
+    ("turned disc", centre, radius, angle), ("turned outline", corners, angle) and ("regular", corners, diameter, angle, centre) of whole numbers,
+    ("convex", corners) or ("outline", corners)."""
     variables = {k + 1: value for k, value in enumerate(parameters)}
     for word in body:
         word = re.sub(r"\s", "", word)
@@ -157,7 +159,7 @@ def primitive(values, scale):
     degrees = values[-1] if code != 1 or len(values) == 6 else Q(0)
     if code == 1:
         return sized(u[2]) and exposed(values[1], placed_disc((exact(u[3]), exact(u[4])), u[2] / 2, degrees))
-    kind, corners = "convex", None
+    corners = None
     if code in (2, 20):
         if sized(u[2]) and u[3:5] != u[5:7]:
             return exposed(values[1], line(*u[2:7], degrees))
@@ -176,8 +178,9 @@ def primitive(values, scale):
                 return exposed(values[1], known)
             corners = regular(int(values[2]), u[3], u[4], u[5])
     else:
-        kind, corners = "outline", outline(values, u)
-    return corners and exposed(values[1], placed(kind, corners, degrees))
+        corners = outline(values, u)
+        return corners and exposed(values[1], placed_outline(corners, degrees))
+    return corners and exposed(values[1], placed("convex", corners, degrees))
 
 
 def exposed(on, figure):
@@ -212,8 +215,7 @@ def outline(values, u):
     spots = list(zip(u[3:-1:2], u[4:-1:2]))
     if spots[0] != spots[-1]:
         raise Refused("macro: outline not closed")
-    spots = [p for p, q in zip(spots, spots[1:]) if p != q]
-    return [(exact(x), exact(y)) for x, y in spots] if len(spots) > 2 else None
+    return [(exact(x), exact(y)) for x, y in spots[:-1]] if sum(p != q for p, q in zip(spots, spots[1:])) > 2 else None
 
 
 def bounds_of(figure):
@@ -222,7 +224,7 @@ def bounds_of(figure):
     return BOUNDS[figure[0]](*figure[1:])
 
 
-BOUNDS = {"disc": disc_bounds, "line": line_bounds, "turned": turned_bounds, "turned disc": turned_disc_bounds, "regular": regular_bounds, "convex": convex_bounds, "outline": polygon_bounds}
+BOUNDS = {"disc": disc_bounds, "line": line_bounds, "turned": turned_bounds, "turned disc": turned_disc_bounds, "turned outline": outline_bounds, "regular": regular_bounds, "convex": convex_bounds, "outline": polygon_bounds}
 
 
 def without(figures_in_order):
@@ -248,6 +250,8 @@ def row(kind, *parts):
         return len(turned_bounds(*parts)[0]), 1
     if kind == "turned disc":
         return len(turned_disc_bounds(*parts)[0]), 1
+    if kind == "turned outline":
+        return tuple(map(len, outline_bounds(*parts)))
     if kind == "regular":
         return len(regular_bounds(*parts)[0]), 1
     if kind == "disc":

@@ -103,16 +103,16 @@ def polygon_lower(spots):
     return []
 
 
-def simple(spots, grid):
-    """No two edges that are not neighbours come within 2 u, and no edge folds back on its neighbour."""
+def simple(spots, grid, apart=2):
+    """No two edges that are not neighbours come within 2 u or another distance, and no edge folds back on its neighbour."""
     n = len(spots)
     for i, (a, b) in enumerate(grid.segments):
         for j in grid.near(a, b, 4):
             if (i - j) % n in (0, 1, n - 1):
                 continue
-            if segments_within(a, b, *grid.segments[j], 2):
+            if segments_within(a, b, *grid.segments[j], apart):
                 return False
         c = spots[(i + 2) % n]
-        if dot(b, a, c) > 0 and abs(cross(b, a, c)) <= 4 * (abs(a[0] - b[0]) + abs(a[1] - b[1]) + abs(c[0] - b[0]) + abs(c[1] - b[1]) + 4):
+        if dot(b, a, c) > 0 and abs(cross(b, a, c)) <= 2 * apart * (abs(a[0] - b[0]) + abs(a[1] - b[1]) + abs(c[0] - b[0]) + abs(c[1] - b[1]) + 4):
             return False
     return True

@@ -51,11 +51,11 @@ def odd_inside(corners, p, scale=1):
 
 
 class Segments:
-    """Segments by cells along them; asked for those that may come within r of another."""
+    """Segments by cells along them, at least so wide; asked for those that may come within r of another."""
 
-    def __init__(self, segments):
+    def __init__(self, segments, least=1):
         self.segments, self.cells = segments, {}
-        self.step = 1 + sum(abs(a[0] - b[0]) + abs(a[1] - b[1]) for a, b in segments) // (2 * max(1, len(segments)))
+        self.step = max(least, 1 + sum(abs(a[0] - b[0]) + abs(a[1] - b[1]) for a, b in segments) // (2 * max(1, len(segments))))
         for k, (a, b) in enumerate(segments):
             for cell in self.cells_of(a, b, 0):
                 self.cells.setdefault(cell, []).append(k)

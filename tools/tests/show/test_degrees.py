@@ -199,7 +199,7 @@ class TestFigures(unittest.TestCase):
         ("a chamfered box", ["4,1,8,-1,-.5,-.8,-.7,.8,-.7,1,-.5,1,.5,.8,.7,-.8,.7,-1,.5,-1,-.5,$1"], [Q("12.3456789")], ["turned"], [(1, 1)]),
         ("one with spots on straight ways", ["4,1,6,0,0,1,0,2,0,2,0,2,2,0,2,0,0,$1"], [45], ["turned"], [(1, 1)]),
         ("a corner twice on a side that rises", ["4,1,4,1,1,1,1,0,2,0,0,1,1,$1"], [1], ["turned"], [(1, 1)]),
-        ("a corner inwards", ["4,1,5,0,0,2,0,2,2,1,1,0,2,0,0,$1"], [45], ["outline"], None),
+        ("a corner inwards", ["4,1,5,0,0,2,0,2,2,1,1,0,2,0,0,$1"], [45], ["turned outline"], [(1, 6)]),
         ("a star, twice round", ["4,1,5,0,1,.6,-.8,-1,.3,1,.3,-.6,-.8,0,1,$1"], [45], ["outline"], None),
         ("a line there and back", ["4,1,3,0,0,1,1,2,2,0,0,$1"], [45], ["outline"], None),
         ("of Altium", ["21,1,0.6,0.4,0,0,45.0", "21,1,0.4,0.6,0,0,45.0", "1,1,0.2,0.1,0.3"], [], ["turned", "turned", "disc"], [(1, 1), (1, 1), (1, 1)]),

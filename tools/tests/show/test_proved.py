@@ -28,6 +28,7 @@ PAD = ["%AMRoundRect*", "0 by thirty degrees*", "4,1,4,$2,$3,$4,$5,$6,$7,$8,$9,$
 TURNED = ["%AMRotRect*", "0 Rectangle, with rotation*", "21,1,$1,$2,0,0,$3*%", "%AMOutline4P*", "4,1,4,$1,$2,$3,$4,$5,$6,$7,$8,$1,$2,$9*%",
           "%AMROUNDEDRECT*", "21,1,0.6,0.4,0,0,45.0*", "21,1,0.4,0.6,0,0,45.0*", *(f"1,1,0.2,{x},{y}*" for x, y in ((0, .2828427), (-.2828427, 0), (0, -.2828427), (.2828427, 0))),
           "%", "%ADD20RotRect,2.0X0.4X30*%", "%ADD21RotRect,2.0X0.4X90*%", "%ADD22Outline4P,-1X-0.5X1X-0.5X0.7X0.5X-0.7X0.5X-112.5*%", "%ADD23ROUNDEDRECT*%"]
+DART = "0,0,2,0,2,2,1,1,0,2,0,0"     # an outline that is not convex
 A, B = record("A", "J1.1", 1, 0), record("A", "J1.2", -1, 0)
 
 
@@ -84,6 +85,14 @@ class Asked(made.Case):
         self.told(program, [*HALF, *TURNED, *thin, *(word for k in range(20, 25) for word in (f"D{k}*", place))], [A, B])
         half, *pads = program.texts[3].split("\n")[1:-1]
         self.assertEqual(pads, [*["1 1"] * 9, "0 1", "1 1", "1 1"])
+
+    def test_counts_of_turned_outlines(self):
+        """A line for each primitive: above there is an area, and a draw along each edge of an outline that is not convex."""
+        macro = ["%AMDART*", "1,1,0.4,1,0*", f"4,1,5,{DART},$1*", "21,1,1,0.2,0,0,$1*", "4,1,3,0,0,1,0,1,1,0,0,$1*%", "%ADD20DART,30*%", "%ADD21DART,90*%"]
+        program, place = Recorder(Answer(3, b"", "no")), "X5000000Y5000000D03*"
+        self.told(program, [*HALF, *macro, "D20*", "%SRX2Y1I9.0J0*%", place, "%SR*%", "D21*", place], [A, B])
+        half, *pads = program.texts[3].split("\n")[1:-1]
+        self.assertEqual(pads, [*["1 1", "1 6", "1 1", "1 1"] * 2, *["1 1"] * 4])
 
     def test_counts_of_regions(self):
         """A line for each contour of a region, which has one area below, or none where it is small."""
@@ -155,7 +164,7 @@ class Asked(made.Case):
         rows = [["%ADD14C,0.00000035*%"], ["%ADD14C,0.20000015*%", "D14*", "X0Y5000000D02*", "X1Y5000001D01*"], ["%ADD14C,0.20000015*%", "D14*", *HALF], ["%LPC*%", "D11*", "X9000000Y0D03*"], ["D12*", "X0Y5000000D02*", "X1Y5000001D01*"], ["%LR90*%", "D11*", "X9000000Y0D03*"],
                 ["G36*", "X9000000Y0D02*", "G03X9000000Y0I1000000J0D01*", "G37*"], ["X0Y0D03*", "X5Y5*"],
                 ["%AMA*", "20,1,0.2,0,0,0.3,0.4,30*%", "%ADD14A*%", "D14*", "X0Y5000000D03*"], ["%AMA*", "5,1,7,0.1,0,0.2,30*%", "%ADD14A*%", "D14*", "X0Y5000000D03*"],
-                ["%AMA*", "4,1,5,0,0,2,0,2,2,1,1,0,2,0,0,30*%", "%ADD14A*%", "D14*", "X0Y5000000D03*"], ["%AMA*", "4,1,4,0,0,1,1,1,0,0,1,0,0,30*%", "%ADD14A*%", "D14*", "X0Y5000000D03*"],
+                ["%AMA*", "4,1,4,0,0,1,1,1,0,0,1,0,0,30*%", "%ADD14A*%", "D14*", "X0Y5000000D03*"],
                 ["%AMA*", "20,1,0.0000003,0,0,0.3,0.4,0*%", "%ADD14A*%", "D14*", "X0Y5000000D03*"],
                 ["%AMA*", "1,1,0.2,0,0*", "1,0,0.1,0,0*%", "%ADD14A*%", "D14*", "X0Y5000000D03*"], ["%AMA*", "1,1,0.2,0,0*%", "%ADD14A*%", "D14*", "%LS2*%", "X0Y5000000D03*"],
                 ["%ADD14O,1X1X0.2*%", "D14*", "X0Y5000000D03*"], ["%ADD14C,0.000001X0.0000008*%", "D14*", "X0Y5000000D03*"], ["%ABD15*%", "D11*", "X9000000Y0D03*", "%AB*%", "D15*", "X0Y0D03*"]]
