@@ -115,7 +115,7 @@ class Layer:
             f"1,1,{text(w)},{text(x)},{text(y)}", f"21,1,{text(w)},{text(2 * abs(dx))},{text(x)},{text(y)}", "20,1,0,0,0,0.1,0.1"))
 
     def pads(self):
-        """Pads of layout tools, and convex outlines, turned by a parameter or by a number."""
+        """Pads of layout tools, and outlines, turned by a parameter or by a number."""
         yield from PADS
         for k in range(50, 60):
             size = 10 ** self.rng.randint(3, 7)
@@ -134,18 +134,34 @@ class Layer:
                 yield f"%ADD{k}Outline4P,-{left}X-{h}X{right}X-{h}X{w}X{h}X-{w}X{h}X{turn}*%"
 
     def outline(self, size):
-        """A triangle up to a figure of twenty corners, or a box without its corners, either way round."""
-        rng, far = self.rng, max(size, 10 ** 4) // self.step()
-        if rng.random() < .5:
-            (w, h), (a, b, c, d) = (rng.randint(far // 2, far) for _ in "xy"), (rng.randint(1, far // 5) for _ in range(4))
-            spots = [(-w, a - h), (a - w, -h), (w - b, -h), (w, b - h), (w, h - c), (w - c, h), (d - w, h), (-w, h - d)]
-        else:
-            count, flat = rng.randrange(3, 21), rng.uniform(.6, 1)
-            turns = (2 * math.pi * (k + rng.uniform(0, .3)) / count for k in range(count))
-            spots = [(round(far * math.cos(turn)), round(far * flat * math.sin(turn))) for turn in turns]
-        spots = spots[::rng.choice((1, -1))]
+        """An outline of some kind, either way round."""
+        kind = self.rng.choice((self.chamfered, self.rounded, self.slotted, self.star))
+        spots = kind(max(size, 10 ** 4) // self.step())[::self.rng.choice((1, -1))]
         places = (f"{v * self.step() / self.scale:.7f}" for spot in [*spots, spots[0]] for v in spot)
         return f"4,1,{len(spots)},{','.join(places)}"
+
+    def chamfered(self, far):
+        """A box without its corners."""
+        (w, h), (a, b, c, d) = (self.rng.randint(far // 2, far) for _ in "xy"), (self.rng.randint(1, far // 5) for _ in range(4))
+        return [(-w, a - h), (a - w, -h), (w - b, -h), (w, b - h), (w, h - c), (w - c, h), (d - w, h), (-w, h - d)]
+
+    def rounded(self, far):
+        """A triangle up to a figure of twenty corners."""
+        count, flat = self.rng.randrange(3, 21), self.rng.uniform(.6, 1)
+        turns = (2 * math.pi * (k + self.rng.uniform(0, .3)) / count for k in range(count))
+        return [(round(far * math.cos(turn)), round(far * flat * math.sin(turn))) for turn in turns]
+
+    def slotted(self, far):
+        """A box with a slot, or an L."""
+        a, b, c, h, deep = (self.rng.randint(far // 5, far) for _ in range(5))
+        spots = [(-a, -h), (b + c, -h), (b + c, deep), (b, deep), (b, 0), (0, 0), (0, deep), (-a, deep)]
+        return spots if self.rng.random() < .5 else spots[:5] + [(-a, 0)]
+
+    def star(self, far):
+        """Of three points up to eleven."""
+        count, rng = self.rng.randrange(3, 12), self.rng
+        places = ((math.pi * (k + rng.uniform(0, .3)) / count, far * (rng.uniform(.7, 1) if k % 2 else rng.uniform(.2, .4))) for k in range(2 * count))
+        return [(round(r * math.cos(turn)), round(r * math.sin(turn))) for turn, r in places]
 
     def pad(self):
         self.pick(50, 59)

@@ -28,7 +28,10 @@ PAD = ["%AMRoundRect*", "0 by thirty degrees*", "4,1,4,$2,$3,$4,$5,$6,$7,$8,$9,$
 TURNED = ["%AMRotRect*", "0 Rectangle, with rotation*", "21,1,$1,$2,0,0,$3*%", "%AMOutline4P*", "4,1,4,$1,$2,$3,$4,$5,$6,$7,$8,$1,$2,$9*%",
           "%AMROUNDEDRECT*", "21,1,0.6,0.4,0,0,45.0*", "21,1,0.4,0.6,0,0,45.0*", *(f"1,1,0.2,{x},{y}*" for x, y in ((0, .2828427), (-.2828427, 0), (0, -.2828427), (.2828427, 0))),
           "%", "%ADD20RotRect,2.0X0.4X30*%", "%ADD21RotRect,2.0X0.4X90*%", "%ADD22Outline4P,-1X-0.5X1X-0.5X0.7X0.5X-0.7X0.5X-112.5*%", "%ADD23ROUNDEDRECT*%"]
-DART = "0,0,2,0,2,2,1,1,0,2,0,0"     # an outline that is not convex
+# Outlines that are not convex, by degrees.
+DART, SLOTTED = "0,0,2,0,2,2,1,1,0,2,0,0", "0,0,3,0,3,2,2,2,2,1,1,1,1,2,0,2,0,0"
+BENT = ["%AMDART*", f"4,1,5,{DART},$1*%", "%AMSLOTTED*", "1,1,0.4,-1,0*", f"4,1,8,{SLOTTED},$1*", "21,1,1,0.2,-1.2,0,$1*%", "%AMBOTH*",
+        f"4,1,5,{DART},$1*", "4,1,6,-1,-1,-1,1,-.5,1,-.5,-.5,1,-.5,1,-1,-1,-1,$1+360*%", "%ADD20DART,30*%", "%ADD21SLOTTED,-100.5*%", "%ADD22BOTH,45*%"]
 A, B = record("A", "J1.1", 1, 0), record("A", "J1.2", -1, 0)
 
 
@@ -238,6 +241,18 @@ class Taken(made.Case):
          [record("A", "J1.1", 0, 0), record("A", "J1.2", 2.1, 1.2), record("B", "J1.3", 1.3, 0), record("C", "J1.4", 0, .75)], "agrees"),
     ]
 
+    # Behind BENT.
+    BENT_ROWS = [
+        ("a corner inwards", ["D20*", "X0Y0D03*"], [record("A", "J1.1", .709, 2.372), record("A", "J1.2", -.813, 1.609)], "agrees"),
+        ("a short by it", ["D20*", "X0Y0D03*"], [record("A", "J1.1", .709, 2.372), record("B", "J1.2", -.813, 1.609)], "differs"),
+        ("beside it", ["D20*", "X0Y0D03*"], [record("A", "J1.1", .709, 2.372), record("A", "J1.2", .216, 1.626)], "differs"),
+        ("nearer than the bounds", ["D20*", "X0Y0D03*", "D10*", "X-586602Y816025D03*"], [record("A", "J1.1", .709, 2.372), record("B", "J1.2", -.587, .816)], "undecided"),
+        ("beside others", ["D21*", "X0Y0D03*"], [record("A", "J1.1", 1.777, -.838), record("A", "J1.2", 1.413, -2.804), record("B", "J2.1", .273, 1.475), record("C", "J3.1", -1, 0)], "agrees"),
+        ("two, clockwise, at a sum of degrees", ["D22*", "X0Y0D03*"], [record("A", "J1.1", .354, 1.061), record("A", "J1.2", -.99, 1.273), record("B", "J2.1", 1.061, 0), record("B", "J2.2", -1.061, 0)], "agrees"),
+        ("copies", ["D20*", "%SRX2Y2I3.0J3.5*%", "X0Y0D03*", "%SR*%"],
+         [record("A", "J1.1", 0, .1), record("B", "J2.1", 3, .1), record("C", "J3.1", 0, 3.6), record("D", "J4.1", 3, 3.6), record("D", "J4.2", 3.709, 5.872)], "agrees"),
+    ]
+
     def told(self, program, name, lines, records):
         """What `show` says of a file, by its status and its answer, and the notes."""
         text = "\n".join([*HEAD, *lines, "M02*", ""])
@@ -257,6 +272,9 @@ class Taken(made.Case):
 
     def test_turned_rows(self):
         self.try_rows(self.TURNED_ROWS, TURNED)
+
+    def test_bent_rows(self):
+        self.try_rows(self.BENT_ROWS, BENT)
 
     def test_kept_out(self):
         """What is not taken, and said without the word: an arc that has no place, and an arc and a primitive that `show` alone reads."""
