@@ -79,7 +79,7 @@ def bare(shapes):
     report = types.SimpleNamespace(pieces=count, net_of=[k // 7 for k in range(count)], names=[], nets=count // 7 + 1, spots=[], points=[], opens=[], shorts=[],
                                    bare=[], sources=[(0, k + 9, 0, 1, 1) for k in range(count)])
     told = types.SimpleNamespace(files=["t"], layers=1, netlist="n", layer_word=str)
-    return types.SimpleNamespace(shapes=shapes, report=report, manifest=told, records=[], package=types.SimpleNamespace(flattened=set()))
+    return types.SimpleNamespace(shapes=shapes, report=report, manifest=told, records=[], package=types.SimpleNamespace(flattened=set(), own=""))
 
 
 def discs(across, up):
