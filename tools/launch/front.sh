@@ -168,11 +168,8 @@ go_and_run() {
   exit "$status"
 }
 
-# Whether the command is a tool: it has a page in the help text, and lies beside it.
-is_tool() {
-  case ${1-} in '' | */* | *' '*) return 1 ;; esac
-  [ -f "$home/$1" ] && help_of "$1" >/dev/null
-}
+# Whether the command is a tool, which lies beside the help text. That text is not asked: a shell reads it byte by byte.
+is_tool() { case ${1-} in manifest | show) [ -f "$home/$1" ] ;; *) return 1 ;; esac; }
 
 # Whether a tool runs the program.
 needs_program() { [ "$1" = show ] && [ -z "${BOARDNET-}" ]; }

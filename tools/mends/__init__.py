@@ -3,26 +3,19 @@
 A mend says by words of the file itself what the file says; what is not certain is none. table.py has them all. A file without a mend
 keeps its bytes. Commands and lines keep their numbers: a word or a line that goes leaves an empty one behind.
 """
-from typing import NamedTuple
+from collections import namedtuple
 
 
-class Mend(NamedTuple):
+class Mend(namedtuple("Mend", "kind line text more what", defaults=(0, ""))):
     """What was mended: the kind, as in table.py, the first line, what stands there, how many more of the kind, and what became of it."""
 
-    kind: str
-    line: int
-    text: str
-    more: int = 0
-    what: str = ""
+    __slots__ = ()
 
 
-class Mended(NamedTuple):
+class Mended(namedtuple("Mended", "file line kind words")):
     """A mend of a file, as it is told: `words` are a sentence with the file and the line."""
 
-    file: str
-    line: int
-    kind: str
-    words: str
+    __slots__ = ()
 
 
 def short(text, most=40):

@@ -1,6 +1,16 @@
 """The mends of a copper file. Words that go leave others without an effect behind, so that commands keep their numbers."""
-from . import definitions, identities, long_contours, turns
-from .copper_words import Broken, Edits
+from . import definitions, identities
+from .copper_words import MOST_EDGES, Broken, Edits
+
+
+def seldom(edits, macros, names):
+    """What few files have: macros that are turned, and long contours."""
+    if macros:
+        from . import turns
+        turns.rewrite(edits, macros, names)
+    if edits.data.count(b"*") > MOST_EDGES:
+        from . import long_contours
+        long_contours.rewrite(edits)
 
 
 def mended(data):
@@ -10,8 +20,7 @@ def mended(data):
         identities.extended(edits)
         identities.plain(edits)
         found = definitions.Definitions(edits)
-        turns.rewrite(edits, found.rewrite(), {macro.name for macro in found.macros})
-        long_contours.rewrite(edits)
+        seldom(edits, found.rewrite(), {macro.name for macro in found.macros})
     except Broken:
         return data, []
     mends = list(edits.mends())

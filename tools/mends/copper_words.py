@@ -11,6 +11,7 @@ AXES = (b"X", b"Y", b"I", b"J")     # what an operation word may begin with
 SIZES = {b"C": 1, b"R": 2, b"O": 2}    # of a standard aperture
 NOTHING = b"TFleft_out"     # an attribute without a meaning, in a pair of percent signs
 COMMENT = b"G04"
+MOST_DIGITS = 100
 MOST_EDGES = 100_000        # of a contour, in the profile
 
 
@@ -22,6 +23,17 @@ def has(data, signs):
         if letter in data and any(head.startswith(behind) for head in {part[:most] for part in data.split(letter)[1:]}):
             return True
     return False
+
+
+def in_u(decimal, scale):
+    """A decimal times a scale, None where that is no whole number, or of more digits than any length has."""
+    whole, _, part = decimal.lstrip(b"+-").partition(b".")
+    part = part.rstrip(b"0")
+    digits = whole.lstrip(b"0") + part
+    if len(digits) > MOST_DIGITS:
+        return None
+    u, rest = divmod(int(digits or b"0") * scale, 10 ** len(part))
+    return None if rest else -u if decimal.startswith(b"-") else u
 
 
 class Broken(Exception):

@@ -1,9 +1,7 @@
 """Apertures and macros of a copper file: which are used, and those outside the profile that are not; words of macros broken over lines."""
 import re
-from decimal import Decimal
-from fractions import Fraction
 
-from .copper_words import AXES, COMMENT, DECIMAL, NOTHING, SELECTION, SIZES, pairs, words
+from .copper_words import AXES, COMMENT, DECIMAL, NOTHING, SELECTION, SIZES, in_u, pairs, words
 from .table import LINES, UNUSED
 
 DEFINED = re.compile(rb"ADD([0-9]{1,9})([^,]+)(?:,(.*))?", re.S)
@@ -38,8 +36,8 @@ class Aperture:
         """Whether `check` takes the definition."""
         if len(self.values) != SIZES.get(self.name):
             return False
-        sizes = [Fraction(Decimal(value.decode())) * scale for value in self.values]
-        return (all(size % 2 == 0 and 0 <= size <= MOST for size in sizes) and min(sizes) <= MOST_WIDE
+        sizes = [in_u(value, scale) for value in self.values]
+        return (all(size is not None and size % 2 == 0 and 0 <= size <= MOST for size in sizes) and min(sizes) <= MOST_WIDE
                 and (self.name == b"C" or min(sizes) > 0))
 
 

@@ -7,6 +7,7 @@ from .table import ENDS, FORCE, FORM, LIFT, MACHINE, PLATING, UNIT
 
 UNIT_LINE = re.compile(rb"(METRIC|INCH)((?:,(?:TZ|LZ|0+\.0+))*)")
 NO_POINT = re.compile(rb"^[^;\n]*[XYC][+-]?[0-9]+(?![0-9.])", re.M)
+PLACES_AND_COMMENTS = (b"X", b"Y", b";")
 MODES = {b"M71": b"METRIC", b"M72": b"INCH"}
 TOOL = re.compile(rb"(T[0-9]{1,4})((?:[CFSBHZ][+-]?[0-9.]+)+)")
 SIZE = re.compile(rb"C[+-]?[0-9.]+")
@@ -28,7 +29,7 @@ class Drill:
             Holes(self, plating)
         for at, line in enumerate(self.lines):
             bare = line.strip(b" \t\r")
-            if bare and not bare.startswith(b";"):
+            if bare and not bare.startswith(PLACES_AND_COMMENTS):
                 self.line(at, bare)
 
     def header_unit(self):

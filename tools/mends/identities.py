@@ -1,17 +1,17 @@
 """Words of a copper file that change nothing, written as `check` takes them."""
 import re
-from fractions import Fraction
 
 from .copper_words import AXES, COMMENT, DECIMAL, OPERATION, SIZES, has, pairs, words
 from .table import END, FORMAT, IDENTITY, STATE, STRAIGHT
 
 TAKEN = (b"OFA0B0", b"MIA0B0", b"SFA1B1", b"SFA1.0B1.0", b"IR0")
-BY_VALUE = re.compile(rb"(OF|MI|SF)(?:A(" + DECIMAL + rb"))?(?:B(" + DECIMAL + rb"))?|(IR)(" + DECIMAL + rb")")
+# Most files have none of these words: the expressions are compiled where one has.
+BY_VALUE = rb"(OF|MI|SF)(?:A(" + DECIMAL + rb"))?(?:B(" + DECIMAL + rb"))?|(IR)(" + DECIMAL + rb")"
 AS_TAKEN = {b"OF": b"OFA0B0", b"MI": b"MIA0B0", b"SF": b"SFA1B1", b"IR": b"IR0"}
-ONCE = re.compile(rb"SRX0*1Y0*1(?:I[+-]?0*\.?0*)?(?:J[+-]?0*\.?0*)?")
-ONCE_TAKEN = re.compile(rb"SRX0{0,8}1Y0{0,8}1I" + DECIMAL + rb"J" + DECIMAL)
-LENGTHS = re.compile(rb"FSLA(?:N[0-9])?(?:G[0-9])?(X[0-9]{2}Y[0-9]{2})(?:N[0-9])?(?:G[0-9])?(?:D[0-9])?(?:M[0-9])?")
-HOLE = re.compile(rb"(AD[^,]*,)(.*)", re.S)
+ONCE = rb"SRX0*1Y0*1(?:I[+-]?0*\.?0*)?(?:J[+-]?0*\.?0*)?"
+ONCE_TAKEN = rb"SRX0{0,8}1Y0{0,8}1I" + DECIMAL + rb"J" + DECIMAL
+LENGTHS = rb"FSLA(?:N[0-9])?(?:G[0-9])?(X[0-9]{2}Y[0-9]{2})(?:N[0-9])?(?:G[0-9])?(?:D[0-9])?(?:M[0-9])?"
+PLAIN_FORMAT = len(b"FSLAX46Y46")
 NO_DRAWS = (b"D02", b"D03", b"D2", b"D3")
 # What a look at the words' states is for, beside centres of 0.
 SIGNS = (b"G02*", b"G2*", b"G03*", b"G3*", b"G55", b"M00*", b"M0*", b"M01*", b"M1*")
@@ -23,15 +23,15 @@ def extended(edits):
     for start, end, word, _ in pairs(edits.data):
         lead = word[:2]
         if lead in AS_TAKEN and word not in TAKEN:
-            match = BY_VALUE.fullmatch(word)
+            match = re.fullmatch(BY_VALUE, word)
             wanted = 1 if lead == b"SF" else 0
-            if match and all(Fraction(value.decode()) == wanted for value in (match[2], match[3], match[5]) if value):
+            if match and all(is_equal(value, wanted) for value in (match[2], match[3], match[5]) if value):
                 edits.put(start, end, AS_TAKEN[lead], IDENTITY)
-        elif lead == b"SR" and ONCE.fullmatch(word) and not ONCE_TAKEN.fullmatch(word):
+        elif lead == b"SR" and re.fullmatch(ONCE, word) and not re.fullmatch(ONCE_TAKEN, word):
             edits.put(start, end, b"SRX1Y1I0J0", IDENTITY)
-        elif lead == b"FS":
-            match = LENGTHS.fullmatch(word)
-            if match and word != b"FSLA" + match[1]:
+        elif lead == b"FS" and len(word) > PLAIN_FORMAT:
+            match = re.fullmatch(LENGTHS, word)
+            if match:
                 edits.put(start, end, b"FSLA" + match[1], FORMAT)
         elif lead == b"AD":
             whole = without_holes(word)
@@ -39,16 +39,20 @@ def extended(edits):
                 edits.put(start, end, whole, IDENTITY)
 
 
+def is_equal(decimal, whole):
+    from fractions import Fraction
+    return Fraction(decimal.decode()) == whole
+
+
 def without_holes(word):
     """An aperture's word without a hole of size 0."""
-    match = HOLE.fullmatch(word)
-    if not match:
+    head, comma, sizes = word.partition(b",")
+    parts = sizes.split(b"X")
+    if len(parts) == 1:
         return word
-    name = re.sub(rb"ADD[0-9]+", b"", match[1][:-1])
-    parts = match[2].split(b"X")
-    most = SIZES.get(name, len(parts))
-    if len(parts) > most and all(re.fullmatch(DECIMAL, part) and Fraction(part.decode()) == 0 for part in parts[most:]) and len(parts) <= most + 2:
-        return match[1] + b"X".join(parts[:most])
+    most = SIZES.get(re.sub(rb"ADD[0-9]+", b"", head), len(parts))
+    if most < len(parts) <= most + 2 and all(re.fullmatch(DECIMAL, part) and is_equal(part, 0) for part in parts[most:]):
+        return head + comma + b"X".join(parts[:most])
     return word
 
 

@@ -138,7 +138,7 @@ def rewrite(edits):
     data = edits.data
     whole = data.rstrip()
     ending = next((len(whole) - len(end) for end in ENDS if whole.endswith(end)), None)
-    if ending is None or data.count(b"*") <= MOST_EDGES or has(data, ORDERED_SIGNS) and ORDERED.search(data):
+    if ending is None or has(data, ORDERED_SIGNS) and ORDERED.search(data):
         return
     from .chords import cut         # few files have long contours
     for region in regions(data):

@@ -69,7 +69,7 @@ def unplated_hole(data):
     unplated, tool, kind, is_body = set(plating.unplated()), None, None, False
     for number, line in enumerate(data.split(b"\n"), 1):
         line = line.strip(b" \t\r")
-        said, picked = TYPE.fullmatch(line), PICK.fullmatch(line)
+        said, picked = line[:1] == b";" and TYPE.fullmatch(line), line[:1] == b"T" and PICK.fullmatch(line)
         if not is_body:
             is_body = line in (b"%", b"M95") and bool(plating.tools)
         elif said:

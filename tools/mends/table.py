@@ -1,17 +1,13 @@
 """The table of mends: what each sees, what it writes, and why nothing of the board changes. docs/using/mends.md has the same rows."""
-from typing import NamedTuple
+from collections import namedtuple
 
 from . import Mended
 
 
-class Row(NamedTuple):
+class Row(namedtuple("Row", "kind sees writes why told")):
     """`sees`, `writes` and `why` are the guide's words; `told` ends the sentence that names a mend."""
 
-    kind: str
-    sees: str
-    writes: str
-    why: str
-    told: str
+    __slots__ = ()
 
 
 # Drill files.

@@ -22,6 +22,10 @@ class Stop(Exception):
         self.status = status
 
 
+class BadCopper(Exception):
+    """Shapes that do not belong to a report."""
+
+
 def fault_of(path, fault):
     """What ends a PATH where something happens that nothing here foresees."""
     if isinstance(fault, Stop):

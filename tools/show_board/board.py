@@ -4,8 +4,12 @@ from functools import cached_property
 
 from .netlist import NO_NET
 from .ties import Ties
-from .touching import Touching
 from .words import millimetres
+
+
+def touching(shapes, report):
+    from .touching import Touching      # a board that agrees wants none of it, and loading takes longer than a small board
+    return Touching(shapes, [source[3:] for source in report.sources])
 
 
 class Board:
@@ -14,7 +18,7 @@ class Board:
     def __init__(self, package, report, records, shapes=None, labels=None, ties=None):
         self.package, self.manifest, self.report = package, package.manifest, report
         self.records, self.shapes, self.labels, self.ties = records, shapes, labels or {}, ties or Ties()
-        self.touching = Touching(shapes, [source[3:] for source in report.sources]) if shapes is not None else None
+        self.touching = touching(shapes, report) if shapes is not None else None
 
     @cached_property
     def pieces_of(self):

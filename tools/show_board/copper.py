@@ -7,9 +7,9 @@ import re
 from array import array
 from decimal import Decimal
 
-from .side import lines_of as corners_of
+from . import BadCopper
+from .units import INCH, MM
 
-MM, INCH = 10_000_000, 254_000_000
 TOOL = re.compile(rb"T([0-9]+)C([0-9.+-]+)")
 PICK = re.compile(rb"T([0-9]+)")
 PLACE = re.compile(rb"(?:G0[01])?(?:X([0-9.+-]+))?(?:Y([0-9.+-]+))?")
@@ -21,10 +21,6 @@ REGION, REGION_END = b"G36*\n", b"G37*\n"
 NUMBERS = bytes.maketrans(b"XYD*", b"    ")
 NOT_NORMAL = "the flattened copper is not in its normal form"
 AREA = -1
-
-
-class BadCopper(Exception):
-    """Shapes that do not belong to the report."""
 
 
 class Shapes:
@@ -175,7 +171,8 @@ class Flat:
 
     def region(self, text, at):
         end = text.find(REGION_END, at)
-        corners = end >= 0 and corners_of(text[at:end - 1], b"\n")
+        from .side import lines_of      # few boards have large regions
+        corners = end >= 0 and lines_of(text[at:end - 1], b"\n")
         if not corners:
             raise BadCopper(NOT_NORMAL)
         xs, ys, _ = corners

@@ -4,7 +4,7 @@ A second look at both packages that says only where: pieces by `flatten`'s norma
 """
 from collections import defaultdict, deque
 
-from . import copper
+from . import BadCopper, copper
 from .judged import flat_of
 from .touching import Touching
 from .words import millimetres, spoken
@@ -28,7 +28,7 @@ class Differing:
             try:
                 self.shapes = copper.shapes_of(high.package, high.report, flat_of(program, high.package))
                 self.touching = Touching(self.shapes, [source[3:] for source in high.report.sources])
-            except copper.BadCopper:
+            except BadCopper:
                 pass
 
     def commands(self, report, by_file):

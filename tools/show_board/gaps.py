@@ -2,7 +2,7 @@
 from bisect import bisect_left
 from collections import defaultdict
 
-from . import Stop, copper, gaps_between
+from . import BadCopper, Stop, copper, gaps_between
 from .board import NO_NET
 from .findings import Finding
 from .nearest import Gap
@@ -94,7 +94,7 @@ def add(program, told, shown, u):
     try:
         board = copper_of(program, told, shown.board)
         found, words = (of_bounds if told.package.between else of_board)(program, told, board, u)
-    except (Stop, copper.BadCopper) as why:
+    except (Stop, BadCopper) as why:
         shown.lacks(f"gaps are not known: {why}")
         return
     shown.findings += found

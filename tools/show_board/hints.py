@@ -3,40 +3,29 @@
 A hint says what was changed and the answer; nothing is told that was not tried, the user's files are not touched, and the board's
 status stays what it is.
 """
-from typing import NamedTuple, Optional
+from collections import namedtuple
 
-from . import Stop, bounds, codes, drillings, judged
-from .exact import Refused
-from .implied import implied
+from . import Stop, codes, drillings, judged
 from .layering import as_labelled, layerings
 from .package import beside
 from .placement import placements
-from .report import Report
 from .origins import setting
 from .ties import Ties
 
 TRIED = 4           # placements that are checked, at most
 
 
-class Hint(NamedTuple):
-    """`words` has the answer; `answer_status` and `answer_line` are the answer alone."""
+class Hint(namedtuple("Hint", "kind words answer_status answer_line explains", defaults=(False,))):
+    """`words` has the answer; `answer_status` and `answer_line` are the answer alone; `explains` says that it leaves less than half of
+    the findings."""
 
-    kind: str
-    words: str
-    answer_status: int
-    answer_line: str
-    explains: bool = False      # whether it leaves less than half of the findings
+    __slots__ = ()
 
 
-class Answer(NamedTuple):
+class Answer(namedtuple("Answer", "package status line words report ties", defaults=(Ties(),))):
     """What `check` says of a package, or both bounds where only they can be asked; `report` is then the upper one's."""
 
-    package: object
-    status: int
-    line: str
-    words: str
-    report: Optional[Report]
-    ties: Ties = Ties()
+    __slots__ = ()
 
     def missing(self):
         return len(self.report.bare)
@@ -68,14 +57,20 @@ class Trials:
 
     def answer(self, told):
         """The answer on a judged package, by bounds where it is refused for its copper."""
-        if told.report or told.status != 3 or not bounds.is_outside(told.line):
-            status, line = self.ties.answer(told)
-            return Answer(told.package, status, line, f"`check` says: {line}", told.report, self.ties)
+        if told.report or told.status != 3:
+            return self.plain(told)
+        from . import bounds, exact         # few boards want them, and loading takes longer than a small board
+        if not bounds.is_outside(told.line):
+            return self.plain(told)
         try:
             both, _, high = bounds.judge(self.program, told.package, self.ties)
-        except Refused as why:
+        except exact.Refused as why:
             return Answer(told.package, told.status, told.line, f"`check` says: {told.line}; no bounds: {why}", None)
         return Answer(told.package, both.status, both.line, f"`check` says of both bounds: {both.line}", high.report, self.ties)
+
+    def plain(self, told):
+        status, line = self.ties.answer(told)
+        return Answer(told.package, status, line, f"`check` says: {line}", told.report, self.ties)
 
     def of(self, package, files=None, told=None):
         """The answer on a copy with other files or another manifest."""
@@ -92,6 +87,7 @@ def hint(kind, words, answer):
 
 def decimals(trials, base):
     """Every reading of numbers without a point that fits, with its answer; where no hole says which fits, those that agree."""
+    from .implied import implied
     for words, files, on in implied(base.package):
         answer = trials.of(base.package, files)
         if answer.report and (on or answer.status == 0):

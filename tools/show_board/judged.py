@@ -1,25 +1,18 @@
 """What the program says of a package: `check`, and always `audit` on that report. Files that `check` refuses for a macro are flattened."""
 import re
-from typing import NamedTuple, Optional
+from collections import namedtuple
 
-from . import NOT_UNDERSTOOD, UNJUDGED, Stop, netlist
-from .copper import BadCopper
-from .package import Package
+from . import NOT_UNDERSTOOD, UNJUDGED, BadCopper, Stop, netlist
 from .report import BadReport, Report
 
 MACRO = re.compile(r"(.*): Gerber 12 Macro at command ")
 NO_FLATTEN = "this program has no command `flatten`, so its copper is not known here: what is told is the report alone"
 
 
-class Judged(NamedTuple):
+class Judged(namedtuple("Judged", "package status line report text audit")):
     """The program's answer; `report` and `text` are None where a file is refused, `audit` is what the audit says of the report."""
 
-    package: Package
-    status: int
-    line: str
-    report: Optional[Report]
-    text: Optional[bytes]
-    audit: str
+    __slots__ = ()
 
 
 def flattens(program, package, line):

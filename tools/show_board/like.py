@@ -6,7 +6,7 @@ hints, and what is told is what `check` says of the moved netlist.
 import os
 from typing import NamedTuple
 
-from . import UNDECIDED, Stop, between, bounds, copper, findings, judged, labels, mending, netlist, package, tester
+from . import UNDECIDED, BadCopper, Stop, between, bounds, copper, findings, judged, labels, mending, netlist, package, tester
 from .distances import from_line
 from .hints import Trials, best_placement
 from .nearest import gap_of_lines
@@ -171,7 +171,7 @@ def add(program, told, shown, asked, scratch):
         made, text = reference(program, asked.like, asked, scratch, shown.board)
         answer, placed = checked(program, told, text, shown.ties.allowed())
         its = differences(program, shown.board and shown.board.shapes, answer, made.netlist, text)
-    except (Stop, copper.BadCopper) as why:
+    except (Stop, BadCopper) as why:
         shown.lacks(f"not compared with {asked.like}: {why}")
         return
     sure = sum(it.sure for it in its)

@@ -1,6 +1,5 @@
 """The places of a net where the copper of two names meets, with the pieces that could be either's."""
-from collections import Counter
-from typing import NamedTuple
+from collections import Counter, namedtuple
 
 from . import cuts, grid, lines_apart
 
@@ -10,21 +9,14 @@ MOST_MEETS = 20
 SAME_PIN = 8
 
 
-class Meet(NamedTuple):
+class Meet(namedtuple("Meet", "names between touch place layer chain near far")):
     """Copper of `names[0]` and of `names[1]` meets at a place, over the pieces `between`, which could be either's.
 
     `chain` leads from a piece with a point of the one to such a piece of the other; its pieces up to `near` are the one's, those
     from `far` on the other's. `touch` are the pieces of the one and of the other at the place.
     """
 
-    names: tuple
-    between: list
-    touch: tuple
-    place: tuple
-    layer: int
-    chain: list
-    near: int
-    far: int
+    __slots__ = ()
 
 
 def rank(board, piece, spot):

@@ -1,22 +1,18 @@
 """The nearest two test points of two nets, and where the copper of two nets comes nearest: suggestions where a join is missing."""
 from bisect import bisect_left
-from collections import defaultdict
-from typing import NamedTuple
+from collections import defaultdict, namedtuple
 
 from . import lines_apart
 from .tree import Tree, nearest
 
 
-class Gap(NamedTuple):
+class Gap(namedtuple("Gap", "distance place layer below", defaults=(0,))):
     """How far apart two nets are on a layer, in u and in floating point, and the middle of the gap.
 
     Where the copper of the one ends right above that of the other, `below` is the other's layer, and a hole is missing.
     """
 
-    distance: float
-    place: tuple
-    layer: int
-    below: int = 0
+    __slots__ = ()
 
 
 class NearestPoints:

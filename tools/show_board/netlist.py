@@ -1,7 +1,7 @@
 """The test records of an IPC-D-356A netlist: line, component, pin and place. What they mean was judged by `check`."""
 import re
+from collections import namedtuple
 from functools import lru_cache
-from typing import NamedTuple, Optional
 
 UNITS = re.compile(rb"^P +UNITS +CUST +([01])[ \t\r]*$", re.M)
 U_OF = {b"0": 25_400, b"1": 10_000}
@@ -12,16 +12,10 @@ NO_NET = "N/C"
 UNPRINTABLE = re.compile("[^ -~]")
 
 
-class Record(NamedTuple):
+class Record(namedtuple("Record", "line through name component pin x y")):
     """A 317 or 327 record; x and y in u, None where its columns have no number."""
 
-    line: int
-    through: bool
-    name: str
-    component: str
-    pin: str
-    x: Optional[int]
-    y: Optional[int]
+    __slots__ = ()
 
 
 def printable(field):

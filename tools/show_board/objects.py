@@ -10,7 +10,7 @@ from typing import NamedTuple
 from .drawn import OPERATION
 from .exact import DECIMAL, Refused
 from .macros import Expression
-from .settings import SCALES
+from .units import SCALES
 from .side import DRAW, FLASH, MOVE, words_of
 from .two_sides import MODES
 

@@ -1,6 +1,5 @@
 """A board's files in a scratch folder, from a folder, a zip archive or a manifest. Nothing is written beside the user's files."""
 import os
-import shutil
 
 from manifest_files import Refused
 
@@ -191,6 +190,7 @@ def keep(package, report, folder):
     """Copies the package as it was judged, and its report, to a folder that must not be there yet."""
     if os.path.exists(folder):
         raise Stop(UNWRITABLE, f"{folder} is there already: --keep wants a new folder")
+    import shutil           # loading takes long, as above
     try:
         shutil.copytree(package.folder, folder)
         with open(os.path.join(folder, "report.txt"), "wb") as file:

@@ -5,10 +5,9 @@ on two nets there is one for each. A pad whose middle lies in a plated hole of i
 """
 from collections import defaultdict
 
-from . import grid
+from . import BadCopper, grid
 from .aims import aim
 from .blocks import objects_of_blocks
-from .copper import BadCopper
 from .objects import objects_of
 from .tree import cover
 

@@ -6,7 +6,6 @@ searched and printed without it.
 """
 import base64
 import hashlib
-import html
 import json
 import os
 import sys
@@ -14,9 +13,9 @@ import zlib
 from array import array
 from operator import sub
 
-from . import between, record_page
+from . import record_page
 from .lines import doubt
-from .words import counted
+from .words import counted, in_html
 
 HERE = os.path.dirname(os.path.abspath(__file__))
 TITLES = {"open": "Opens", "short": "Shorts", "missing": "Points without copper", "gap": "Gaps"}
@@ -158,9 +157,9 @@ def block(board, findings, wider=()):
 
 
 def row(finding, is_hinted):
-    hints = "".join(f'<p class="hint">{html.escape(hint)}</p>' for hint in finding.hints) if is_hinted else ""
+    hints = "".join(f'<p class="hint">{in_html(hint)}</p>' for hint in finding.hints) if is_hinted else ""
     return (f'<li id="{finding.id}"><a href="#{finding.id}"><b>{doubt(finding)}{finding.kind} {finding.number}</b> '
-            f"{html.escape(finding.words)}</a>{hints}</li>")
+            f"{in_html(finding.words)}</a>{hints}</li>")
 
 
 def rows(findings, is_hinted):
@@ -203,10 +202,13 @@ def audited(shown):
 
 
 def facts(shown):
-    board = shown.board
+    board, sure = shown.board, audited(shown)
+    if shown.bounds:
+        from . import between       # most boards lie between no bounds
+        sure = between.NOTE
     return (f"{counted(board.report.pieces, 'piece')} of copper in {counted(board.report.nets, 'net')}; "
             f"{counted(len(board.report.points), 'test point')} with {counted(len(board.report.names), 'name')}; "
-            f"{counted(board.manifest.layers, 'layer')}. {between.NOTE if shown.bounds else audited(shown)} "
+            f"{counted(board.manifest.layers, 'layer')}. {sure} "
             "Suggestions are where to look, and no part of the report.")
 
 
@@ -216,7 +218,7 @@ def source_hash(source):
 
 def notes(shown):
     told = [*shown.notes, *([shown.flood] if shown.flood else []), *(hint.words for hint in shown.hints)]
-    return "".join(f'<p class="advice">{html.escape(words)}</p>\n' for words in told)
+    return "".join(f'<p class="advice">{in_html(words)}</p>\n' for words in told)
 
 
 def text(shown):
@@ -224,8 +226,8 @@ def text(shown):
     lists = "".join(list_of(kind, [f for f in shown.findings if f.kind == kind]) for kind in TITLES)
     fills = {
         "POLICY": f"default-src 'none'; script-src {source_hash(code)}; style-src {source_hash(style)}; base-uri 'none'; form-action 'none'",
-        "TITLE": html.escape(shown.title), "STYLE": style, "SCRIPT": code, "STATE": "agrees" if shown.status == 0 else "differs",
-        "VERDICT": html.escape(verdict(shown)), "FACTS": html.escape(facts(shown)), "ADVICE": notes(shown),
+        "TITLE": in_html(shown.title), "STYLE": style, "SCRIPT": code, "STATE": "agrees" if shown.status == 0 else "differs",
+        "VERDICT": in_html(verdict(shown)), "FACTS": in_html(facts(shown)), "ADVICE": notes(shown),
         "FINDINGS": lists or '<p class="none">No open, no short, no point without copper.</p>', "DATA": block(shown.board, shown.findings, wider_data(shown)),
         "RECORD": record_page.section(shown.record),
     }

@@ -8,7 +8,7 @@ from fractions import Fraction as Q
 from functools import lru_cache
 
 from .netlist import U_OF, UNITS
-from .settings import SCALES
+from .units import INCH, MM, SCALES
 from .words import millimetres
 
 SAMPLE = 40             # records that vote
@@ -98,7 +98,7 @@ def all_flashes(package):
 
 def drill_unit(text):
     found = re.search(r"^\s*(METRIC|INCH)", text, re.M)
-    return {"METRIC": 10 ** 7, "INCH": 254 * 10 ** 6}[found[1]] if found else None
+    return {"METRIC": MM, "INCH": INCH}[found[1]] if found else None
 
 
 def body_lines(text):
@@ -111,8 +111,11 @@ def body_lines(text):
 
 @lru_cache(maxsize=MANY)
 def length(digits, unit):
-    """A number with a point in u."""
-    return round(Q(digits) * unit)
+    """A number with a point in u, rounded as fractions are: a half to the even one."""
+    whole, _, part = digits.partition(".")
+    over = 10 ** len(part)
+    u, rest = divmod(int(whole + part) * unit, over)
+    return u + (2 * rest > over or 2 * rest == over and u % 2)
 
 
 def hits(text):

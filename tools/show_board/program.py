@@ -1,7 +1,7 @@
 """The program, run in the scratch folder: its status, its output, and its line."""
 import os
 import subprocess
-from typing import NamedTuple
+from collections import namedtuple
 
 from . import Stop, unbuilt
 
@@ -11,12 +11,10 @@ PLACES = (os.path.join(TOOLS, "boardnet"), os.path.join(os.path.dirname(TOOLS), 
 NO_PROGRAM = 127
 
 
-class Answer(NamedTuple):
+class Answer(namedtuple("Answer", "status out line")):
     """What a command of the program answered; `line` is its line without `boardnet: `."""
 
-    status: int
-    out: bytes
-    line: str
+    __slots__ = ()
 
 
 def found():

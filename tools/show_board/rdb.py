@@ -1,8 +1,6 @@
 """The findings as a marker database of KLayout (*.lyrdb): lengths are micrometres."""
-from xml.sax.saxutils import escape
-
 from .lines import doubt
-from .words import for_xml
+from .words import escaped, for_xml
 
 KINDS = {"open": "Parts of a name that no copper joins", "short": "Names that copper joins", "missing": "Test points without copper",
          "gap": "Nets that are too close", "wider": "Copper that the upper of two bounds has and the lower one has not"}
@@ -43,9 +41,9 @@ def quoted(words):
 
 
 def item(kind, name, marked):
-    told = "".join(f"<value>{escape(value)}</value>" for value in marked)
+    told = "".join(f"<value>{escaped(value)}</value>" for value in marked)
     return (f"  <item><tags/><category>{kind}</category><cell>board</cell><visited>false</visited><multiplicity>1</multiplicity>"
-            f"<comment>{escape(name)}</comment><image/><values>{told}</values></item>")
+            f"<comment>{escaped(name)}</comment><image/><values>{told}</values></item>")
 
 
 def items_of(shown):
@@ -60,7 +58,7 @@ def text(shown):
     categories = "".join(f"<category><name>{kind}</name><description>{told}</description><categories/></category>" for kind, told in KINDS.items())
     items = items_of(shown)
     rows = ['<?xml version="1.0" encoding="utf-8"?>', "<report-database>",
-            f"  <description>{escape(shown.title)}: {escape(shown.line)}</description>", "  <original-file/>",
+            f"  <description>{escaped(shown.title)}: {escaped(shown.line)}</description>", "  <original-file/>",
             "  <generator>boardnet show</generator>", "  <top-cell>board</top-cell>", "  <tags/>",
             f"  <categories>{categories}</categories>", "  <cells><cell><name>board</name><variant/><layout-name/><references/></cell></cells>",
             "  <items>", *items, "  </items>", "</report-database>", ""]

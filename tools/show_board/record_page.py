@@ -1,11 +1,11 @@
 """A record for people: a part of the board's page, or a page of its own where no picture can be drawn."""
-import html
+from .words import in_html
 
 SIDES = (("came", "SHA-256 as it came"), ("judged", "as it was judged"), ("lower", "lower bound"), ("upper", "upper bound"))
 
 
 def cells(tag, words):
-    return "<tr>" + "".join(f"<{tag}>{html.escape(str(word))}</{tag}>" for word in words) + "</tr>"
+    return "<tr>" + "".join(f"<{tag}>{in_html(str(word))}</{tag}>" for word in words) + "</tr>"
 
 
 def files(record):
@@ -40,7 +40,7 @@ def section(record):
 
 def page(shown):
     """The record and what is told of the board, without a picture."""
-    told = "".join(f"<p>{html.escape(words)}</p>\n" for words in [shown.line, *shown.notes])
+    told = "".join(f"<p>{in_html(words)}</p>\n" for words in [shown.line, *shown.notes])
     return (f'<!DOCTYPE html>\n<html lang="en">\n<head>\n<meta charset="utf-8">\n'
-            f'<meta http-equiv="Content-Security-Policy" content="default-src \'none\'">\n<title>{html.escape(shown.title)}: boardnet</title>\n</head>\n'
-            f"<body>\n<h1>{html.escape(shown.title)}</h1>\n{told}{section(shown.record)}</body>\n</html>\n")
+            f'<meta http-equiv="Content-Security-Policy" content="default-src \'none\'">\n<title>{in_html(shown.title)}: boardnet</title>\n</head>\n'
+            f"<body>\n<h1>{in_html(shown.title)}</h1>\n{told}{section(shown.record)}</body>\n</html>\n")

@@ -1,20 +1,16 @@
 """The command: its words, one board or a batch, what is written where, and the status."""
-import argparse
 import os
 import signal
 import sys
-import tempfile
 
-from . import UNWRITABLE, Stop, fault_of, lines, seldom, unbuilt, written
+from . import UNWRITABLE, Stop, fault_of, lines, options, seldom, unbuilt, written
 from .program import TOOLS, Program, found
 from .progress import Progress
+from .scratch import Scratch
 from .shown import show
 
 INTERRUPTED = 130
 ONE_BOARD = ("rdb", "page", "svg", "keep", "ipc", "record", "verify")
-WITH_VALUES = ("--page", "--svg", "--at", "--json", "--junit", "--rdb", "--keep", "--netlist", "--ipc", "--like", "--gaps", "--record", "--verify")
-OFTEN = ("--tie",)
-OPTIONS = ("-q", "--all", *WITH_VALUES, *OFTEN, "--labels", "--yes", "--no-drills")
 
 
 class Interrupted(BaseException):
@@ -30,29 +26,20 @@ def section():
 
 def words(given):
     """The caller's words; a wrong one ends with status 2."""
-    parser = argparse.ArgumentParser(prog="boardnet show", add_help=False, usage="boardnet show PATH.. [OPTION ..]; boardnet show --help prints all")
-    parser.add_argument("paths", metavar="PATH", nargs="*")
-    for name in (*OPTIONS, "--help", "-h"):
-        if name in OFTEN:
-            parser.add_argument(name, action="append", default=[])
-        elif name in WITH_VALUES:
-            parser.add_argument(name)
-        else:
-            parser.add_argument(name, action="store_true")
-    asked = parser.parse_args(given)
+    asked = options.asked(given)
     if asked.help or asked.h:
         print(section(), end="")
         sys.exit(0)
     if not asked.paths:
-        parser.error("it wants a folder, a zip archive or a manifest")
+        options.wrong("it wants a folder, a zip archive or a manifest")
     for name in ONE_BOARD:
         if len(asked.paths) > 1 and getattr(asked, name):
-            parser.error(f"--{name} is for one PATH")
+            options.wrong(f"--{name} is for one PATH")
     if asked.gaps is not None:
         from . import spacing
-        asked.gaps = spacing.asked_distance(asked.gaps) or parser.error("--gaps wants millimetres, over 0 and at most 10, with at most seven decimals")
+        asked.gaps = spacing.asked_distance(asked.gaps) or options.wrong("--gaps wants millimetres, over 0 and at most 10, with at most seven decimals")
     if asked.at and not asked.svg:
-        parser.error("--at says which finding --svg draws")
+        options.wrong("--at says which finding --svg draws")
     return asked
 
 
@@ -128,7 +115,7 @@ def boards(asked, program):
     """Each PATH in turn, in a scratch folder of its own."""
     all_shown = []
     for path in asked.paths:
-        with tempfile.TemporaryDirectory(prefix="boardnet-") as scratch:
+        with Scratch() as scratch:
             all_shown.append(show(path, asked, program, scratch))
     return all_shown
 

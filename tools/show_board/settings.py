@@ -4,8 +4,8 @@ from fractions import Fraction as Q
 
 from .exact import Refused, decimal
 from .side import millimetres
+from .units import SCALES
 
-SCALES = {"MOMM": 10 ** 7, "MOIN": 254 * 10 ** 6, "G71": 10 ** 7, "G70": 254 * 10 ** 6}
 STEPS = re.compile(r"SRX(\d{1,9})Y(\d{1,9})I([^J]+)J(.+)")
 
 

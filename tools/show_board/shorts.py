@@ -1,6 +1,4 @@
 """The shorts of a report in words: which names one net joins, and where."""
-import shlex
-
 from . import cuts, words
 from .board import NO_NET
 from .meets import Net
@@ -36,6 +34,7 @@ def sides(board, branches, said):
 
 def tie_hints(board, joined, meets):
     """Which tie would declare what meets in one footprint, once for each two names."""
+    import shlex            # few shorts have such a place
     told = {}
     for meet in meets:
         found = joined.footprint(meet)

@@ -1,7 +1,7 @@
 """One board, from its files to its findings."""
 import os
 
-from . import FAULT, UNDECIDED, UNJUDGED, beside, copper, fault_of, findings, judged, mending, netlist, own_names, package, report, ties, unjudged
+from . import FAULT, UNDECIDED, UNJUDGED, BadCopper, beside, fault_of, judged, mending, netlist, own_names, package, report, ties, unjudged
 from .board import Board
 
 NO_PLACES = "this program writes reports of version 1, which do not say where copper is from: what is told is the report and the netlist alone"
@@ -53,9 +53,10 @@ def shapes_of(program, told):
     """The shapes of the pieces, or None and why they are not known."""
     if told.report.sources is None:
         return None, NO_PLACES
+    from . import copper        # a board that agrees has no copper looked at
     try:
         return copper.shapes_of(told.package, told.report, judged.flat_of(program, told.package)), ""
-    except copper.BadCopper as why:
+    except BadCopper as why:
         return None, str(why)
 
 
@@ -93,7 +94,9 @@ def look(program, told, shown, wants_picture):
         named = labels_of(program, told)
     program.progress.begin("looking for the places")
     shown.board = Board(told.package, told.report, records, shapes, named, shown.ties)
-    shown.findings, shown.flood = findings.all_findings(shown.board), findings.flood(told.report)
+    if shown.status or not told.report.agrees:
+        from . import findings
+        shown.findings, shown.flood = findings.all_findings(shown.board), findings.flood(told.report)
     shown.notes += [*unjudged.unnamed_notes(shown.board), *ties.lost(shown.ties, told.report), *([why] if why else [])]
     nothing = unjudged.why_nothing(told.report)
     if nothing and shown.status == 0:
@@ -148,8 +151,9 @@ def outside(program, told, shown, asked):
     """What copies of the files say: bounds of copper outside the profile, and hints."""
     if told.status != 3 and shown.status != 1:
         return
-    from . import bounds, hints         # most boards want neither, and loading takes longer than a small board
+    from . import hints         # most boards want neither, and loading takes longer than a small board
     if told.status == 3:
+        from . import bounds
         shown.bounds = bounds.bounded(program, told, shown.ties)
         if shown.bounds:
             from . import proved
@@ -168,7 +172,7 @@ def outside(program, told, shown, asked):
 
 def look_between(program, files, shown, asked):
     """Fills in the findings of a board between bounds, over the lower one."""
-    from . import between
+    from . import between, findings
     answer, low, high = files.between
     wants_picture = asked.page or asked.svg or asked.rdb
     shapes, why = shapes_of(program, low) if answer.findings or wants_picture or beside.wants_copper(asked) else (None, "")
@@ -182,5 +186,5 @@ def look_between(program, files, shown, asked):
         from . import unlike
         try:
             shown.wider = between.wider(shown.board, *unlike.above(program, high, files.sides))
-        except copper.BadCopper:
+        except BadCopper:
             pass        # then nothing is outlined

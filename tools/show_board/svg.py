@@ -1,11 +1,9 @@
 """A picture for a mail or a ticket: the whole board with its findings, or the place of one finding. Lengths are micrometres."""
-from xml.sax.saxutils import escape
-
 from . import NOT_UNDERSTOOD, Stop
 from .grid import meet as boxes_meet
 from .rdb import micrometres
 from .tree import apart, cover
-from .words import for_xml
+from .words import escaped, for_xml
 
 # Room round a finding, the least side of what is shown, both in u, and the width of the picture in pixels.
 ROOM, LEAST, WIDTH = 10_000_000, 60_000_000, 1000
@@ -152,7 +150,7 @@ class Picture:
             x, y = point(place).split(" ")
             is_right = place[0] + size * len(told) * 6 // 10 > self.box[2]
             anchor = ' text-anchor="end"' if is_right else ""
-            yield f'<text x="{x}" y="{y}"{anchor} font-size="{micrometres(size)}">{escape(told)}</text>'
+            yield f'<text x="{x}" y="{y}"{anchor} font-size="{micrometres(size)}">{escaped(told)}</text>'
 
     def rows(self):
         left, low, right, high = self.box
@@ -160,7 +158,7 @@ class Picture:
         told = self.finding.text() if self.finding else f"{self.shown.title}: {self.shown.line}"
         yield (f'<svg xmlns="http://www.w3.org/2000/svg" width="{WIDTH}" height="{height}" role="img" '
                f'viewBox="{point((left, high))} {micrometres(right - left)} {micrometres(high - low)}">')
-        yield f"<title>{escape(self.finding.id if self.finding else self.shown.title)}</title>\n<desc>{escape(told)}</desc>\n<style>{STYLE}</style>"
+        yield f"<title>{escaped(self.finding.id if self.finding else self.shown.title)}</title>\n<desc>{escaped(told)}</desc>\n<style>{STYLE}</style>"
         yield STRIPES.format(micrometres(10 * self.pixel), micrometres(4 * self.pixel))
         yield f'<rect x="{micrometres(left)}" y="{micrometres(-high)}" width="100%" height="100%" fill="#ffffff"/>'
         yield from self.copper()

@@ -1,7 +1,7 @@
 """The netlist for a tester: made of a judged board, or of the lower one of two bounds, and given out where `check` confirms it."""
 from typing import NamedTuple, Optional
 
-from . import Stop, between, copper, judged, padlist
+from . import BadCopper, Stop, between, copper, judged, padlist
 from .ipc import Netlist
 from .package import beside
 
@@ -58,7 +58,7 @@ def made(program, told, title, board=None, known=None, is_told=True):
     try:
         board, base = copper_of(program, told, board, known), told.package if told.package.between else None
         its = Netlist(padlist.Padlist(board, padlist.origins(board, base)), title)
-    except (Stop, copper.BadCopper) as why:
+    except (Stop, BadCopper) as why:
         return Tester(None, [f"no netlist for a tester: {why}"], None)
     text = its.text()
     try:

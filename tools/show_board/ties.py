@@ -4,7 +4,7 @@ A short whose names are all tied together is such a tie and no finding. A tie th
 is not changed: its report has each tie as a short, and `audit` confirms that report.
 """
 import re
-from typing import NamedTuple
+from collections import namedtuple
 
 from . import NOT_UNDERSTOOD, Stop
 from .netlist import NO_NET
@@ -15,11 +15,10 @@ from .words import counted
 COMMENT = re.compile(r"\A\s*#.*|\s#(\s.*)?\Z")
 
 
-class Tie(NamedTuple):
+class Tie(namedtuple("Tie", "names source")):
     """Two names, and where they are declared."""
 
-    names: tuple
-    source: str
+    __slots__ = ()
 
     def text(self):
         return "=".join(self.names)

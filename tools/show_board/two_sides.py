@@ -10,7 +10,8 @@ from .defined import Definitions
 from .drawn import OPERATION, STRAIGHT, Operations
 from .exact import Refused
 from .regions import Regions
-from .settings import SCALES, Settings
+from .settings import Settings
+from .units import SCALES
 from .side import MOVE, Side, words_of
 
 IN_REGIONS = ("TF", "TA", "TO", "TD", "AD", "AM", "LPD")      # what may stand there and says nothing of the contours

@@ -1,7 +1,7 @@
 """Of the upper of two bounds the copper of the commands that are written otherwise below. Only these are flattened and read: all others
 make the same copper in both, but for a fifth of a nanometre at pens off the grid."""
-from . import between
-from .copper import BadCopper, Shapes, add_flat
+from . import BadCopper, between
+from .copper import Shapes, add_flat
 from .judged import flat_of
 
 DRAWN = "D01*"

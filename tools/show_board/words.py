@@ -9,6 +9,16 @@ def for_xml(text):
     return re.sub(NOT_XML, "\ufffd", text)
 
 
+def escaped(text):
+    """A text as XML has it outside marks."""
+    return text.replace("&", "&amp;").replace("<", "&lt;").replace(">", "&gt;")
+
+
+def in_html(text):
+    """A text as HTML has it, also in quotes. The library's own words load a table of all names of signs first."""
+    return escaped(text).replace('"', "&quot;").replace("'", "&#x27;")
+
+
 def millimetres(u):
     """Exact, with three decimals or as many more as it takes."""
     sign, u = "-" if u < 0 else "", abs(u)

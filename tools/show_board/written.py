@@ -1,9 +1,8 @@
 """Files that are written whole or not at all, and the standard output."""
 import os
 import sys
-import tempfile
 
-from . import UNWRITABLE, Stop
+from . import UNWRITABLE, Stop, scratch
 
 
 def write(path, text):
@@ -26,18 +25,12 @@ def write(path, text):
 
 def replace(path, data):
     path = os.path.realpath(path)
-    number, new = tempfile.mkstemp(dir=os.path.dirname(path), prefix=".boardnet-")
+    new = os.path.join(os.path.dirname(path), f".{scratch.name()}")
+    file = open(new, "xb")
     try:
-        with os.fdopen(number, "wb") as file:
+        with file:
             file.write(data)
-        os.chmod(new, 0o666 & ~umask())
         os.replace(new, path)
     except BaseException:
         os.remove(new)
         raise
-
-
-def umask():
-    mask = os.umask(0)
-    os.umask(mask)
-    return mask

@@ -335,8 +335,9 @@ class Contours(common.Case):
     def test_file(self):
         """The first part stays in its words, the others follow at the end with the net name of the contour."""
         from mends import long_contours
-        most, long_contours.MOST_EDGES = long_contours.MOST_EDGES, 8
-        self.addCleanup(setattr, long_contours, "MOST_EDGES", most)
+        for module in (copper_file, long_contours):
+            self.addCleanup(setattr, module, "MOST_EDGES", module.MOST_EDGES)
+            module.MOST_EDGES = 8
         comb = [(0, 0), (0, 9), (2, 9), (2, 2), (4, 2), (4, 9), (6, 9), (6, 2), (8, 2), (8, 9), (10, 9), (10, 0), (0, 0)]
         text = (HEAD + "%TO.N,GND*%\nG36*\nX0Y0D02*\n" + "".join(f"X{1000 * x}Y{1000 * y}D01*\n" for x, y in comb[1:]) + "G37*\n%TO.N,SIG*%\n" + PADS + END).encode()
         data, mends = copper_file.mended(text)

@@ -268,6 +268,6 @@ class Answers(made.Case):
     def test_installed_words(self):
         with open(os.path.join(common.TOOLS, "help.txt")) as file:
             page = file.read().split("\n= show ")[1].split("\n= ")[0]
-        from show_board import run
-        for name in run.OPTIONS:
+        from show_board import options
+        for name in {*options.FLAGS, *options.WITH_VALUES, *options.OFTEN} - {"--help", "-h"}:
             self.assertIn(f"\n  {name} ", page, name)

@@ -1,0 +1,4 @@
+"""The units of files, in u: a millimetre and an inch, and the words for them."""
+MM, INCH = 10_000_000, 254_000_000
+# Of copper files.
+SCALES = {"MOMM": MM, "MOIN": INCH, "G71": MM, "G70": INCH}
