@@ -1,4 +1,4 @@
-"""Outlines of macros that are turned by no quarter turn and not convex: within them an area, round them one with draws along its edges, as the crate
+"""Outlines of macros that are turned by no quarter turn and that `slants` does not take: within them an area, round them one with draws along its edges, as the crate
 `turned_outlines` takes them.
 
 The corners are turned and rounded as that crate does. At each turn of the cone of the angle all are at most the draws' radius from where they come
@@ -20,8 +20,8 @@ SCALE = 3 * ONE * ONE // 10 ** 10       # squares of ways are divided by so much
 
 
 def placed_outline(corners, degrees):
-    """An outline about the origin of a macro, turned: as `placed` has it without corners that stand twice; where that is neither convex nor
-    meets itself ("turned outline", whole corners, angle)."""
+    """An outline about the origin of a macro, turned: as `placed` has it without corners that stand twice; where `slants` does not take it and
+    it does not meet itself ("turned outline", whole corners, angle)."""
     found = placed("outline", once(corners), degrees)
     return found[0] == "outline" and outline_of(corners, degrees) or found
 

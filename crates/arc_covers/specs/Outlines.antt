@@ -13,14 +13,14 @@ use Rattle.arc_covers.specs.Eighths.{frame_about}
 abbrev pub CapsulesStand : List Spot → Spot → ℕ → List Spot → List Figure → Type 0
 CapsulesStand contour about angle corners figures = (r : ℕ) × (figures ≡ capsules_of corners (pos r)) × OutlineAbove contour about angle corners r
 
--- a polygon, and those along it
+-- a polygon, and such capsules along it
 pub record OutlineStands (contour : List Spot) (about : Spot) (angle : ℕ) (figures : List Figure) : Type 0 where
   pub corners : List Spot
   pub capsules : List Figure
   pub are : figures ≡ filled corners ∷ capsules
   pub stand : CapsulesStand contour about angle corners capsules
 
--- a contour that is taken below the figure, with the nearest spots for its corners
+-- a contour that is taken below the figure, with the nearest spots for its corners and `slack` for r, in the square of a metre about its spot
 abbrev pub OutlineLies : List Spot → Spot → ℕ → List Spot → Type 0
 OutlineLies contour about angle points = IsContour points × OutlineBelow (frame_about about) contour about angle (turned_corners contour about angle) (slack contour about) points
 

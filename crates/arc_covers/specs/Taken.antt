@@ -60,7 +60,7 @@ abbrev pub RegionTaken : Side → Contour → List Figure → Type 0
 RegionTaken Below area figures = ContourFor Below (LiesBelow area.start area.parts.items) figures
 RegionTaken Above area figures = RegionAbove area.start area.parts.items figures
 
--- one contour that is taken, by `slants` or as the figure has any outline, or below none; above the polygon and the capsules of an outline too
+-- one contour that is taken, by `slants`, or by `turned_outlines` for any outline, or below none; above the polygon and the capsules of an outline too
 abbrev pub TurnedTaken : Side → List Spot → Spot → ℕ → List Figure → Type 0
 TurnedTaken Below contour about angle figures = ContourFor Below (λ points. IsTurnedTaken Below contour about angle points ⊎ OutlineLies contour about angle points) figures
 TurnedTaken Above contour about angle figures = OneContour (IsTurnedTaken Above contour about angle) figures ⊎ OutlineStands contour about angle figures

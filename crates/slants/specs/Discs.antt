@@ -49,7 +49,7 @@ room_of o q s far d = (square (pos far) -ℤ dot_of o q q -ℤ dot_of o s s) *�
 abbrev pub HasRoom : Motions → Spot → Spot → ℕ → Type 0
 HasRoom m q s far = (pos 0 ≤ℤ room_of m.from q s far (meet_of m.first m.first)) × (pos 0 ≤ℤ room_of m.from q s far (meet_of m.first m.last)) × (pos 0 ≤ℤ room_of m.from q s far (meet_of m.last m.last))
 
--- the angle is below a right one, all spots are within a metre, and the disc's centre stays at most so far from the spot
+-- the angle is below a right one, all spots are within a metre, and the disc's centre stays at most so far, up to two metres, from the spot
 pub record StaysNear (a : TurnedDisc) (s : Spot) (far : ℕ) : Type 0 where
   pub acute : a.angle < RIGHT_ANGLE
   pub short : far ≤ TWO_METRES

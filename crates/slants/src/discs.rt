@@ -20,7 +20,7 @@ pub struct TurnedDisc {
     pub radius: u64,
     /// What it is turned about, in u.
     pub about: Spot,
-    /// How far, in 10^-7 degrees: from 1 to less than 90 degrees.
+    /// How far, in 10^-7 degrees: from 1 to 899,999,999.
     pub angle: u32,
 }
 

@@ -8,6 +8,6 @@ pub struct TurnedFigure {
     pub contour: Vec<Spot>,
     /// What it is turned about, in u.
     pub about: Spot,
-    /// How far, in 10^-7 degrees: from 1 to less than 90 degrees.
+    /// How far, in 10^-7 degrees: from 1 to 899,999,999.
     pub angle: u32,
 }

@@ -37,7 +37,7 @@ turned_spot d o s = record {
   y = nearest (pos d.n *ℤ o.y +ℤ (pos d.x *ℤ (s.y -ℤ o.y) +ℤ pos d.y *ℤ (s.x -ℤ o.x))) (pos d.n);
 }
 
--- that spot within a metre, else s
+-- that spot where it is within a metre, else s
 abbrev pub kept : Spot → Spot → Spot
 kept q s = if is_placed q then q else s
 
@@ -49,7 +49,7 @@ turned_corners figure about angle = map (turned_corner (direction_by (half_way a
 
 -- ---- how far off they may be
 
--- the furthest that a spot of the list is from o, across or up, and m
+-- the greatest of m and how far spots of the list are from o, across or up
 abbrev pub far_by : Spot → ℕ → List Spot → ℕ
 far_by o m [] = m
 far_by o m (s ∷ rest) = far_by o (max m (max (unsigned_abs (s.x -ℤ o.x)) (unsigned_abs (s.y -ℤ o.y)))) rest

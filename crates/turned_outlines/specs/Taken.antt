@@ -20,17 +20,17 @@ EachOfBoth P [] (b ∷ ys) = ⊥
 EachOfBoth P (a ∷ xs) [] = ⊥
 EachOfBoth P (a ∷ xs) (b ∷ ys) = P a b × EachOfBoth P xs ys
 
--- The corners stand for those of the figure: both contours are closed, and at each turn of the cone each corner of the figure stays at most r from its own (`slants`)
+-- The corners stand for those of the figure: both contours are closed, as many, and by the test of `slants` each corner of the figure stays at most r from its own at each turn of the cone
 pub record StandFor (figure : List Spot) (about : Spot) (angle : ℕ) (corners : List Spot) (r : ℕ) : Type 0 where
   pub figure_closed : IsClosed figure
   pub corners_closed : IsClosed corners
   pub near : EachOfBoth (λ a b. DiscAbove (corner_of a about angle) b r) figure corners
 
--- So do they where the polygon and capsules of radius r along it are taken above the turned figure
+-- Where they do, the polygon and capsules of radius r along it are taken above the turned figure
 abbrev pub OutlineAbove : List Spot → Spot → ℕ → List Spot → ℕ → Type 0
 OutlineAbove figure about angle corners r = StandFor figure about angle corners r
 
--- And where an area is taken below it, which shares no point with any of these capsules, and has its first corner inside the polygon by even and odd. All lie in the frame
+-- And an area below it, where it shares no point with any of these capsules, and its first corner is inside the polygon by even and odd. Area and capsules lie in the frame
 pub record OutlineBelow (frame : Frame) (figure : List Spot) (about : Spot) (angle : ℕ) (corners : List Spot) (r : ℕ) (points : List Spot) : Type 0 where
   pub stand : StandFor figure about angle corners r
   pub framed : IsInside (area_box points) frame
