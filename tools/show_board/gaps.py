@@ -2,7 +2,7 @@
 from bisect import bisect_left
 from collections import defaultdict
 
-from . import BadCopper, Stop, copper, gaps_between
+from . import BadCopper, Stop, gaps_between
 from .board import NO_NET
 from .findings import Finding
 from .nearest import Gap
