@@ -23,7 +23,7 @@ fn is_bent(command: &Command) -> bool
     matches!(command, Command::Refused(GerberKind::Arc))
 }
 
-// What stands behind `G2` or `G3`, or the text itself where no operation follows at once: a longer code then begins it.
+// What stands behind `G2` or `G3`: nothing, or an operation at once. Else the text itself, since a longer code begins it.
 fn behind_short(text: &[u8]) -> &[u8]
     requires { 2 ≤ length text.now }
     ensures { result.now ≡ spec.behind_short text.now }

@@ -36,8 +36,8 @@ pub fn turned_is_between()
     ensures { TurnedIsBetween }
 {}
 
-/// A way that is at most 1 off the cosine and the sine of half an angle, so many times as long, is in the angle's cone, for an
-/// angle below a right one.
+/// A way up or level that is at most 1 off the whole numbers that stand for cosine and sine of half an angle is in the angle's
+/// cone, for an angle below a right one.
 pub fn near_is_between()
     ensures { NearIsBetween }
 {}

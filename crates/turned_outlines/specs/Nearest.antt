@@ -54,6 +54,6 @@ abbrev pub far_by : Spot → ℕ → List Spot → ℕ
 far_by o m [] = m
 far_by o m (s ∷ rest) = far_by o (max m (max (unsigned_abs (s.x -ℤ o.x)) (unsigned_abs (s.y -ℤ o.y)))) rest
 
--- a ten millionth of that, and 2 u: more than the turns of the cone and the grid make
+-- a ten millionth of that, and 2 u, for the turns of the cone and for the grid
 abbrev pub slack : List Spot → Spot → ℕ
 slack figure about = 2 + far_by about 0 figure / FINE

@@ -11,7 +11,7 @@ use std::alloc::Global;
 /// Ways are in parts of so much.
 pub const ONE: u128 = 1_000_000_000_000_000_000;
 
-/// A half turn in radians, rounded down.
+/// A half turn in radians, in parts of `ONE`, rounded down.
 pub const PI: u128 = 3_141_592_653_589_793_238;
 
 /// So many halves of 10^-7 degrees, halved twenty times, are a half turn.
@@ -20,7 +20,7 @@ pub const PARTS: u128 = 3_600_000_000 * 1_048_576;
 /// Squares of ways are divided by so much: directions are below a metre.
 pub const SCALE: u128 = 3 * ONE * ONE / METRE as u128;
 
-/// So much of the furthest corner's distance is room for the turns of a cone.
+/// One part in so many of the furthest corner's distance is room for the turns of a cone.
 pub const FINE: u64 = 10_000_000;
 
 /// The cosine and the sine of a turn, times `n`.
@@ -241,7 +241,8 @@ fn turned_corner(d: Direction, o: Spot, s: Spot) -> Spot
     spot_at(nearest(across, d.n), nearest(up, d.n), s)
 }
 
-/// The nearest spots to the corners, turned about the spot by about the angle.
+/// The nearest spots to the corners, turned about the spot by about the angle, which is in 10^-7 degrees. One that would be over a
+/// metre off 0 stays as it was. `NoMemory` where memory is wanted for the spots.
 pub fn turned_corners(
     alloc: Global,
     contour: &[Spot],
@@ -277,7 +278,7 @@ fn larger(a: u64, b: u64) -> u64
     if a < b { b } else { a }
 }
 
-/// How far off the nearest spots may be, in u.
+/// How far off the nearest spots are let be, in u: the checks ask whether they are.
 pub fn slack(contour: &[Spot], about: Spot) -> u64
     ensures { result ≡ spec.slack contour.now about }
 {
