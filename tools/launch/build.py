@@ -20,7 +20,6 @@ sys.dont_write_bytecode = True
 sys.path.insert(0, os.path.dirname(os.path.abspath(__file__)))
 import children  # noqa: E402
 import kept  # noqa: E402
-import order  # noqa: E402
 from progress import Progress  # noqa: E402
 from proof import Failed, Proof  # noqa: E402
 from trial import Trial  # noqa: E402
@@ -39,10 +38,10 @@ def say(text):
 
 
 def places():
-    """How many jobs can run at a time: so many that the processors are busy, as far as free memory goes."""
+    """How many jobs can run at a time: one a processor, as far as free memory goes."""
     with open("/proc/meminfo", encoding="ascii") as file:
         free = next((int(line.split()[1]) << 10 for line in file if line.startswith("MemAvailable:")), 0)
-    return max(1, min(order.places(len(os.sched_getaffinity(0))), free // MEMORY_OF_A_CHECK))
+    return max(1, min(len(os.sched_getaffinity(0)), free // MEMORY_OF_A_CHECK))
 
 
 def line_of_rt():
@@ -74,11 +73,11 @@ class Build:
         self.proof = self.trial = self.progress = None
 
     def begin(self):
-        os.makedirs(os.path.dirname(self.log), exist_ok=True)
         with open(self.log, "wb"):
             pass
-        self.proof = Proof(self.top, self.log, say)
-        self.proof.read()
+        self.proof.read(self.made.toolchain)
+        if not self.proof.left:
+            return
         self.places = places()
         self.trial = Trial()
         if self.places > 1:
@@ -103,8 +102,13 @@ class Build:
             time.sleep(LOOK)
 
     def run(self):
-        """Whether the program is of the sources that were asked for: they may change meanwhile, and what was proved is a copy."""
+        """Whether the program is of the sources that were asked for: they may change meanwhile, and what was proved is a copy. It is
+        not where another call was waited for, which may have built it."""
         try:
+            os.makedirs(os.path.dirname(self.log), exist_ok=True)
+            self.proof = Proof(self.top, self.log, say)
+            if self.proof.room.has_waited:
+                return False
             self.begin()
             self.work()
             is_same = kept.sum_of_sources(self.proof.sources) == self.made.sources

@@ -57,7 +57,7 @@ class Child:
         return status
 
     def end(self):
-        """A terminal tells rt to end too, a lone signal does not; rt's own commands end with it."""
+        """A terminal tells the command to end too, a lone signal does not; what it started itself may outlive it."""
         if self.running.poll() is None:
             self.running.terminate()
             try:

@@ -5,26 +5,22 @@ import re
 MOST_JOBS = 4
 
 
-def places(processors):
-    """How many jobs keep so many processors busy: a check does a quarter of its work alone, while its other jobs wait."""
-    return processors * 7 // 4
-
-
-def name_of(line):
-    """The crate that a line of a crates.txt is about, if it is about one."""
-    found = re.match(r"(\w+)[^:#]*:", line)
-    return found and found.group(1)
-
-
-def uses(text):
-    """The crates of a crates.txt in its order, each with those of them that it stands on."""
+def named(text):
+    """The crates of a crates.txt in its order, each with the names on its line, of the toolchain's libraries too."""
     found = {}
     for line in text.splitlines():
-        if name_of(line):
-            found[name_of(line)] = [it for it in line.partition(":")[2].split() if it in found]
+        head = re.match(r"(\w+)[^:#]*:", line)
+        if head:
+            found[head.group(1)] = line[head.end():].partition("#")[0].split()
     return found
 
 
+def uses(names):
+    """Of each crate those that it stands on; they come before it."""
+    found = {}
+    for name, of in names.items():
+        found[name] = [it for it in of if it in found]
+    return found
 def below(using):
     """What each crate stands on, all the way down."""
     found = {}
@@ -50,15 +46,16 @@ def chains(under, work):
 def chosen(ready, chain, running, places):
     """The crates to begin now, each with its jobs: those of the longest chains first.
 
-    `running` has the jobs of those that run. Jobs that are free are shared out among those that wait, some to each. What the end waits
-    for, the longest chain of all that wait or run, has half of the places, also where others took them before.
+    `running` has the jobs of those that run. One job each takes the least of the processors in all, so there are more only where fewer
+    crates wait than jobs are free. What the end waits for, the longest chain of all that wait or run, has half of the places, also where
+    others took them before.
     """
     begun, free, waiting = {}, places - sum(running.values()), sorted(ready, key=lambda it: -chain[it])
     for at, name in enumerate(waiting):
         is_first = all(chain[name] >= chain[it] for it in [*running, *begun])
         if free < 1 and not is_first:
             break
-        jobs = max(1, min(free, places // 4), free // (len(waiting) - at))
+        jobs = max(1, free // (len(waiting) - at))
         if is_first:
             jobs = max(jobs, (places + 1) // 2)
         begun[name] = min(MOST_JOBS, jobs)

@@ -48,12 +48,10 @@ class Minutes(common.Case):
     def test_first_call(self):
         using = {"low": [], "wide": [], "middle": ["low"], "boardnet": ["low", "middle"]}
         proofs = {"low": 2.0, "wide": 1.0, "middle": 1.0, "boardnet": 3.0}
-        # One processor does all in turn. Two and four are busy while wide runs beside low, which then goes on with the jobs that it
-        # began with; those above have all.
-        two, three, four = (minutes.gain(jobs) for jobs in (2, 3, 4))
-        share = 4 / (four + three)
-        beside = 1 / (three * share)
-        for processors, wanted in ((1, 7.0), (2, (two + 1) / 2 + (2 - two) / two + 4 / three), (4, 6 / four + beside * (1 - share))):
+        # One processor does all in turn. More are shared by low and wide, and low goes on with the jobs that it began with; those
+        # above have all.
+        two, four = (minutes.gain(jobs) for jobs in (2, 4))
+        for processors, wanted in ((1, 7.0), (2, 2 + 4 / two), (4, 2 / two + 4 / four)):
             self.assertAlmostEqual(minutes.first_call(proofs, using, processors), wanted)
         self.assertEqual(minutes.longest_chain(proofs, using), ["low", "middle", "boardnet"])
 
