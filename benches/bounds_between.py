@@ -125,13 +125,18 @@ class Layer:
                 yield from (f"%AMP{k}*", f"{self.outline(size)},{turn}*%", f"%ADD{k}P{k}*%")
             elif k % 4 == 0:
                 middle = self.rng.choice(("0,0", f"{left},-{right}"))
-                corners = self.rng.randrange(3, 13)
-                yield from (f"%AMP{k}*", f"21,1,{w},{h},0,0,{turn}*", f"1,1,{w},{middle},{turn}*", f"5,1,{corners},0,0,{right},{turn}*")
-                yield from (f"20,1,{h},0,0,{w},0,{turn}*%", f"%ADD{k}P{k}*%")
+                yield from (f"%AMP{k}*", f"21,1,{w},{h},0,0,{turn}*", f"1,1,{w},{middle},{turn}*", f"5,1,{self.rng.randrange(3, 13)},0,0,{self.across(right)},{turn}*")
+                yield from (f"20,1,{h},0,0,{w},0,{turn}*%", f"%ADD{k}P{k},{random.Random(w).randrange(1, 10 ** 3) / 10 ** 4:.4f}*%")
             elif k % 4 == 1:
                 yield f"%ADD{k}RotRect,{w}X{h}X{turn}*%"
             else:
                 yield f"%ADD{k}Outline4P,-{left}X-{h}X{right}X-{h}X{w}X{h}X-{w}X{h}X{turn}*%"
+
+    def across(self, size):
+        """The diameter of a polygon: this, at times an odd number of u, or as Eagle writes it a product of a parameter of four decimals."""
+        rng = random.Random(size)
+        odd = f"{self.step() * (2 * rng.randrange(50, 10 ** 5) + 1) / self.scale:.7f}"
+        return rng.choice((size, odd, "1.08239X$1", "$1x0.5412", f"{rng.uniform(.1, 3):.3f}X$1"))
 
     def outline(self, size):
         """An outline of some kind, either way round."""

@@ -10,17 +10,19 @@ from .degrees import first_of, goes_once, headings, lean, meet
 from .spots import edges
 
 MOST_DIAMETER = 500_000_000         # u
+PARTS = 10_000                      # of a u, in which diameters are counted
 
 
 def figure_of(n, centre, diameter, degrees):
-    """("regular", n, diameter, angle, whole centre) where `between` reads the polygon and takes bounds of it, else None: off the origin by quarter turns alone."""
-    angle = degrees % 360 * DEGREE
-    if diameter % 2 or diameter > MOST_DIAMETER or angle.denominator != 1 or abs(degrees) > 1000 or not is_near(centre, angle):
+    """("regular", n, diameter in parts, angle, whole centre) where `between` may read the polygon and takes bounds of it, else None: off the
+    origin by quarter turns alone."""
+    angle, parts = degrees % 360 * DEGREE, diameter * PARTS
+    if parts.denominator != 1 or diameter > MOST_DIAMETER or angle.denominator != 1 or abs(degrees) > 1000 or not is_near(centre, angle):
         return None
     x, y = map(int, centre)
     for _ in range(int(angle // RIGHT_ANGLE)):
         x, y = -y, x
-    found = int(n), int(diameter), int(angle), (x, y)
+    found = int(n), int(parts), int(angle), (x, y)
     return ("regular", *found) if regular_bounds(*found) else None
 
 
@@ -41,14 +43,14 @@ def direction(n, angle, steps, spot):
 
 def lies_round(n, diameter, angle, found):
     """All corners of the polygon are on the left of each edge, at each turn of their cones."""
-    corners = [direction(n, angle, 2 * k, (-(-diameter // 2), 0)) for k in range(n)]
+    corners = [direction(n, angle, 2 * k, (-(-diameter // (2 * PARTS)), 0)) for k in range(n)]
     return goes_once(found) and all(w + u * p + v * q >= 0 for (p, q), rest in corners for heading in headings(*cone_of(rest))
                                     for b, c in edges(found) for w, u, v in (lean(b, c, heading),))
 
 
 def lies_within(n, diameter, angle, found):
     """What was found, turned back, is on the left of each edge of the polygon, at each turn of their cones."""
-    inner = diameter * (way_of(4 * RIGHT_ANGLE // n)[0] - 1) // (2 * RADIUS)
+    inner = diameter * (way_of(4 * RIGHT_ANGLE // n)[0] - 1) // (2 * PARTS * RADIUS)
     for k in range(n):
         (b, rest), (c, _) = (direction(n, angle, 2 * k + 1, (inner, up)) for up in (0, 1))
         (x, y), (p, q) = cone_of(rest)
@@ -62,7 +64,7 @@ def lies_within(n, diameter, angle, found):
 def near(n, diameter, angle, by):
     """Whole corners near those of the polygon, so much further out."""
     for k in range(n):
-        (p, q), rest = direction(n, angle, 2 * k, (Q(diameter, 2) + by, 0))
+        (p, q), rest = direction(n, angle, 2 * k, (Q(diameter, 2 * PARTS) + by, 0))
         x, y, whole = meet(*2 * (way_of(rest),))
         yield round((p * x - q * y) / whole), round((p * y + q * x) / whole)
 

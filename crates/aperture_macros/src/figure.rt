@@ -1,5 +1,5 @@
 //! Primitives with their parameters: whether they are lawful, and what they flash.
-ghost use Rattle.std.specs.Prelude.{◌≡◌, ◌≢◌, ◌^◌, ◌<◌, ◌≤◌, false, true, IfOk, None, Ok, Some, length, map};
+ghost use Rattle.std.specs.Prelude.{◌≡◌, ◌≢◌, ◌*◌, ◌^◌, ◌<◌, ◌≤◌, false, true, IfOk, None, Ok, Some, length, map};
 ghost use Rattle.planar.specs.Plane.{IsPlaced};
 ghost use Rattle.contact.specs.declared.TheConstants.{MOST_DIAMETER};
 ghost use Rattle.area_contact.specs.Contour.{IsClosed};
@@ -19,6 +19,7 @@ use crate::outline::{Outline, bounded};
 use crate::placing::Placing;
 use crate::primitive::{Copper, Form, Primitive, Rotation, Turning};
 use crate::telling::{is_moved, told, told_rest, told_round};
+use crate::values::PARTS;
 use board_shapes::{Shape, rectangle};
 use contact::Capsule;
 use lengths::decimal::{Decimal, Unit};
@@ -29,7 +30,7 @@ impl<'a> Primitive<'a> {
     /// Whether the primitive is lawful with the parameters of an aperture definition, `$1` first, in
     /// their unit. It takes no memory.
     ///
-    /// First come the lengths in the order written, each term in turn with its `OffGrid` and its
+    /// First come the lengths in the order written, each term or factor in turn with its `OffGrid` and its
     /// `OutOfRange`, and then the length itself. Then comes `BadMacro`, where an outline's last point
     /// is not its first, or of a vector line along no axis `Slanted`, where copper is `Exact`, and else
     /// `OutOfRange`, where it is wider than `MOST_DIAMETER`. Then, where it is turned by degrees, the rotation, as a
@@ -301,7 +302,7 @@ fn stroke(p: Spot, q: Spot, w: u64) -> Result<Option<Shape>, FigureFault>
 // What tells a polygon.
 fn marks(alloc: Global, by: Placing, p: Spot, d: u64, n: u32) -> Result<Option<Shape>, FigureFault>
     requires placed { IsPlaced p }
-    requires small { d ≤ MOST_DIAMETER }
+    requires small { d ≤ MOST_DIAMETER * PARTS }
     ensures { Makes result (spec.area_at (map (spec.set_down by.rotation by.at) (spec.polygon_spots p d n))) }
 {
     let spots = mark_spots(by, p, d, n);
@@ -315,17 +316,18 @@ fn marks(alloc: Global, by: Placing, p: Spot, d: u64, n: u32) -> Result<Option<S
 }
 
 // Its spots, each set down.
-fn mark_spots(by: Placing, p: Spot, d: u64, n: u32) -> [Spot; 4]
+fn mark_spots(by: Placing, p: Spot, d: u64, n: u32) -> [Spot; 5]
     requires placed { IsPlaced p }
-    requires small { d ≤ MOST_DIAMETER }
+    requires small { d ≤ MOST_DIAMETER * PARTS }
     ensures value { result ≡ map (spec.set_down by.rotation by.at) (spec.polygon_spots p d n) }
     ensures closed { IsClosed result }
-    ensures four { length result ≡ 4 }
+    ensures five { length result ≡ 5 }
 {
     let middle = by.moved(p);
-    let across = by.moved(right_of(p, d));
+    let across = by.moved(right_of(p, d / PARTS + 1));
     let count = by.moved(right_of(p, n as u64));
-    [middle, across, count, middle]
+    let parts = by.moved(right_of(p, d % PARTS));
+    [middle, across, count, parts, middle]
 }
 
 // So far to the right of a spot.

@@ -23,7 +23,6 @@ use Rattle.arc_layer.specs.State.{commands_of}
 use Rattle.arc_layer.specs.Words.{Saying}
 use Rattle.arc_layer.specs.declared.draws.Bend.{Bend}
 use Rattle.slants.specs.declared.cones.TheConstants.{RIGHT_ANGLE}
-use Rattle.slants.specs.declared.polygons.TheConstants.{PARTS}
 
 -- Behind any history, the open contour has as many bends of edges as edges, which are its points less one.
 abbrev pub EachEdgeHasABend : Type 0
@@ -50,8 +49,8 @@ quarters_of ThreeQuarters = 3
 
 -- A polygon that is told is that polygon about its turned middle, its first corner in the direction of the quarter turns and of what is left.
 abbrev pub PolygonsAreUndone : Type 0
-PolygonsAreUndone = (rotation : Rotation) (at p : Spot) (d n rest : ℕ) → 1 ≤ d → n < 2 ^ 32 → rest < RIGHT_ANGLE → flashed (told at (told_rest (Polygon n) rest) (map (set_down rotation at) (polygon_spots p d n)))
-    ≡ regular (record { centre = set_down rotation at p; corners = n; diameter = d * PARTS; angle = quarters_of rotation * RIGHT_ANGLE + rest })
+PolygonsAreUndone = (rotation : Rotation) (at p : Spot) (d n rest : ℕ) → n < 2 ^ 32 → rest < RIGHT_ANGLE → flashed (told at (told_rest (Polygon n) rest) (map (set_down rotation at) (polygon_spots p d n)))
+    ≡ regular (record { centre = set_down rotation at p; corners = n; diameter = d; angle = quarters_of rotation * RIGHT_ANGLE + rest })
 
 -- A flash of a circle with a hole is a draw once round the spot. The middle of its pen lies halfway between the hole and the outside, at a quarter of the sum of both diameters; the pen is as wide as the copper, half their difference.
 abbrev pub RingsAreUndone : Type 0

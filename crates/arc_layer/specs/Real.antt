@@ -114,15 +114,15 @@ far_from p q = unsigned_abs (q.x -ℤ p.x) + unsigned_abs (q.y -ℤ p.y)
 abbrev pub quarters_to : Spot → Spot → ℕ
 quarters_to p q = if int_lt p.x q.x then 0 else (if int_lt p.y q.y then 1 else (if int_lt q.x p.x then 2 else 3))
 
--- What a polygon's spots tell (4.5.1, code 5): its middle, the diameter and the number of corners in the direction of its quarter turns, and how far it is turned beside these, a right angle more
-abbrev pub polygon_by : Spot → Spot → Spot → ℕ → Option RegularPolygon
-polygon_by p across count rest =
+-- What a polygon's spots tell (4.5.1, code 5): its middle, the diameter in whole u and 1 u more, the number of corners and the parts of a u in the direction of its quarter turns, and how far it is turned beside these, a right angle more
+abbrev pub polygon_by : Spot → Spot → Spot → Spot → ℕ → Option RegularPolygon
+polygon_by p across count parts rest =
     if nat_lt (far_from p count) (2 ^ 32) && nat_lt rest (2 * RIGHT_ANGLE)
-    then Some (record { centre = p; corners = far_from p count; diameter = far_from p across * PARTS; angle = quarters_to p across * RIGHT_ANGLE + (rest - RIGHT_ANGLE) })
+    then Some (record { centre = p; corners = far_from p count; diameter = (far_from p across - 1) * PARTS + far_from p parts; angle = quarters_to p across * RIGHT_ANGLE + (rest - RIGHT_ANGLE) })
     else None
 
 abbrev pub polygon_told : List Spot → ℕ → Option RegularPolygon
-polygon_told (p ∷ across ∷ count ∷ again ∷ about ∷ to ∷ last ∷ []) rest = polygon_by p across count rest
+polygon_told (p ∷ across ∷ count ∷ parts ∷ again ∷ about ∷ to ∷ last ∷ []) rest = polygon_by p across count parts rest
 polygon_told other rest = None
 
 abbrev pub regular_or : List Spot → Option RegularPolygon → RealFigure

@@ -109,20 +109,21 @@ fn quarters_to(p: Spot, q: Spot) -> u32
     }
 }
 
-/// The polygon that three spots tell, and how far it is turned beside quarter turns, a right angle more.
-fn polygon_by(p: Spot, across: Spot, count: Spot, rest: u64) -> Option<RegularPolygon>
+/// The polygon that four spots tell, and how far it is turned beside quarter turns, a right angle more.
+fn polygon_by(p: Spot, across: Spot, count: Spot, parts: Spot, rest: u64) -> Option<RegularPolygon>
     requires p_placed { IsPlaced p }
     requires across_placed { IsPlaced across }
     requires count_placed { IsPlaced count }
+    requires parts_placed { IsPlaced parts }
     requires more { RIGHT_ANGLE ≤ rest }
-    ensures { result ≡ spec.polygon_by p across count rest }
+    ensures { result ≡ spec.polygon_by p across count parts rest }
 {
     let corners = far_from(p, count);
     if corners < 4_294_967_296 && rest < 2 * u64::from(RIGHT_ANGLE) {
         Some(RegularPolygon {
             centre: p,
             corners: corners as u32,
-            diameter: far_from(p, across) * PARTS as u64,
+            diameter: far_from(p, across).saturating_sub(1) * PARTS as u64 + far_from(p, parts),
             angle: quarters_to(p, across) * RIGHT_ANGLE + (rest - u64::from(RIGHT_ANGLE)) as u32,
         })
     } else {
@@ -136,10 +137,10 @@ fn polygon_in(points: &[Spot], rest: u64) -> Option<RegularPolygon>
     requires more { RIGHT_ANGLE ≤ rest }
     ensures { result ≡ spec.polygon_told points.now rest }
 {
-    let [p, across, count, _, _, _, _] = points else {
+    let [p, across, count, parts, _, _, _, _] = points else {
         return None;
     };
-    polygon_by(*p, *across, *count, rest)
+    polygon_by(*p, *across, *count, *parts, rest)
 }
 
 /// The area that tells this.

@@ -357,7 +357,7 @@ fn of_lines() -> [(&'static str, &'static str); 7] {
 }
 
 // Turned figures of macros, most as layout tools write them; all of this crate's own.
-fn of_turns() -> [(&'static str, &'static str); 13] {
+fn of_turns() -> [(&'static str, &'static str); 21] {
     [
         (
             "%AMRotRect*21,1,$1,$2,0,0,$3*%%ADD11RotRect,1.0X0.5X30.0*%D11*X0Y0D03*M02*",
@@ -390,6 +390,38 @@ fn of_turns() -> [(&'static str, &'static str); 13] {
         (
             "%AMOC8*5,1,8,0,0,$1,22.5*%%ADD11OC8,1.0*%D11*X1000000Y0D03*M02*",
             "8 corners about 10000000 0 by 100000000000 at 225000000 by 9.0",
+        ),
+        (
+            "%AMOC8*5,1,8,0,0,1.08239X$1,22.5*%%ADD11OC8,1.6764*%D11*X1000000Y0D03*M02*",
+            "8 corners about 10000000 0 by 181451859600 at 225000000 by 9.0",
+        ),
+        (
+            "%FSLAX25Y25*%%MOIN*%%AMOC8*5,1,8,0,0,1.08239X$1,22.5*%%ADD11OC8,0.055*%D11*X0Y0D03*M02*",
+            "8 corners about 0 0 by 151209883000 at 225000000 by 7.0",
+        ),
+        (
+            "%AMOC8*5,1,8,0,0,$1x1.08239,112.5*%%ADD11OC8,0.000002*%D11*X0Y0D03*M02*",
+            "8 corners about 0 0 by 216478 at 1125000000 by 9.0",
+        ),
+        (
+            "%AMOC8*5,1,8,0,0,0.0000001X$1,180*%%ADD11OC8,0.1*%D11*X0Y0D03*M02*",
+            "8 corners about 0 0 by 1000 at 1800000000 by 9.0",
+        ),
+        (
+            "%AMQ*5,1,5,0,0,0.0000003,-90*%%ADD11Q*%D11*X0Y0D03*M02*",
+            "5 corners about 0 0 by 30000 at 2700000000 by 9.0",
+        ),
+        (
+            "%AMOC8*5,1,8,0,0,1.08239X$1,22.5*%%ADD11OC8,1.6764001*%D11*X1000000Y0D03*M02*",
+            "Copper(Gerber(OffGrid)) at command 7",
+        ),
+        (
+            "%AMOC8*5,1,8,0,0,1.08239X$1,22.5*%%ADD11OC8,-1*%D11*X1000000Y0D03*M02*",
+            "Copper(Gerber(OutOfRange)) at command 7",
+        ),
+        (
+            "%AMOC8*5,1,8,0,0,1.08239X$1,22.5*%%ADD11OC8,46.2*%D11*X1000000Y0D03*M02*",
+            "Copper(Gerber(OutOfRange)) at command 7",
         ),
         (
             "%AMQ*5,1,5,0,0,0.5,-90*%%ADD11Q*%D11*X0Y0D03*M02*",

@@ -32,6 +32,8 @@ TURNED = ["%AMRotRect*", "0 Rectangle, with rotation*", "21,1,$1,$2,0,0,$3*%", "
 DART, SLOTTED = "0,0,2,0,2,2,1,1,0,2,0,0", "0,0,3,0,3,2,2,2,2,1,1,1,1,2,0,2,0,0"
 BENT = ["%AMDART*", f"4,1,5,{DART},$1*%", "%AMSLOTTED*", "1,1,0.4,-1,0*", f"4,1,8,{SLOTTED},$1*", "21,1,1,0.2,-1.2,0,$1*%", "%AMBOTH*",
         f"4,1,5,{DART},$1*", "4,1,6,-1,-1,-1,1,-.5,1,-.5,-.5,1,-.5,1,-1,-1,-1,$1+360*%", "%ADD20DART,30*%", "%ADD21SLOTTED,-100.5*%", "%ADD22BOTH,45*%"]
+# Octagons of Eagle, as wide between sides as the parameter.
+EAGLE = ["%AMOC8*", "5,1,8,0,0,1.08239X$1,22.5*", "%"]
 A, B = record("A", "J1.1", 1, 0), record("A", "J1.2", -1, 0)
 
 
@@ -228,6 +230,10 @@ class Taken(made.Case):
         ("regions with arcs, two distances", UNEVEN, [record("A", "J1.1", 1, .5), record("A", "J1.2", .8, 1.5)], "agrees"),
     ]
 
+    # Behind EAGLE: by the parameter the right side of an octagon is 5 u further, at the points or 5 u nearer.
+    EAGLE_ROWS = [(f"an octagon of {d}", [f"%ADD20OC8,{d}*%", "D20*", "X0Y0D03*"], [A, B], word)
+                  for d, word in (("2.000005", "agrees"), ("2.000004", "undecided"), ("2.000003", "differs"))]
+
     # Behind TURNED.
     TURNED_ROWS = [
         ("a turned pad", ["D20*", "X0Y0D03*"], [record("A", "J1.1", .779, .45), record("A", "J1.2", -.779, -.45)], "agrees"),
@@ -272,6 +278,9 @@ class Taken(made.Case):
 
     def test_turned_rows(self):
         self.try_rows(self.TURNED_ROWS, TURNED)
+
+    def test_eagle_rows(self):
+        self.try_rows(self.EAGLE_ROWS, EAGLE)
 
     def test_bent_rows(self):
         self.try_rows(self.BENT_ROWS, BENT)
