@@ -126,7 +126,7 @@ class Layer:
             elif k % 4 == 0:
                 middle = self.rng.choice(("0,0", f"{left},-{right}"))
                 corners = self.rng.randrange(3, 13)
-                yield from (f"%AMP{k}*", f"21,1,{w},{h},0,0,{turn}*", f"1,1,{w},{middle},{turn}*", f"5,1,{corners},0,0,{right},{turn}*")
+                yield from (f"%AMP{k}*", f"21,1,{w},{h},0,0,{turn}*", f"1,1,{w},{middle},{turn}*", f"5,1,{corners},{middle},{right},{turn}*")
                 yield from (f"20,1,{h},0,0,{w},0,{turn}*%", f"%ADD{k}P{k}*%")
             elif k % 4 == 1:
                 yield f"%ADD{k}RotRect,{w}X{h}X{turn}*%"

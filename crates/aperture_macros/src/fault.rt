@@ -11,8 +11,7 @@ pub enum MacroFault {
     #[error("an exposure that is not on")]
     ExposureOff,
     /// In `Exact` copper, the rotation is not equal to 0, 90, 180 or 270 degrees. In `Real` copper, it is no multiple of 90
-    /// degrees, of a vector line along no axis or of a polygon whose middle is not the origin, where they flash anything: others
-    /// may have any.
+    /// degrees, of a vector line along no axis that flashes anything: others may have any.
     #[error("a turn that is no quarter turn")]
     Turn,
     /// A term is no whole number of u, of a rotation no whole number of 10^-7 degrees, or a width, a height or a diameter is

@@ -14,7 +14,7 @@ ghost use Rattle.aperture_macros.specs.Sketches.{IsNear, is_disc};
 use crate::body_word::part;
 use crate::degrees::{Turn, read_turn};
 use crate::fault::{FigureFault, MacroFault};
-use crate::images::{Sketch, centre_line, circle, line, polygon, same};
+use crate::images::{Sketch, centre_line, circle, line, polygon};
 use crate::outline::{Outline, bounded};
 use crate::placing::Placing;
 use crate::primitive::{Copper, Form, Primitive, Rotation, Turning};
@@ -33,8 +33,8 @@ impl<'a> Primitive<'a> {
     /// `OutOfRange`, and then the length itself. Then comes `BadMacro`, where an outline's last point
     /// is not its first, or of a vector line along no axis `Slanted`, where copper is `Exact`, and else
     /// `OutOfRange`, where it is wider than `MOST_DIAMETER`. Then, where it is turned by degrees, the rotation, as a
-    /// length is judged with degrees for mm, and `Turn`, where a line along no axis or a polygon off
-    /// the origin is turned by no quarter turns.
+    /// length is judged with degrees for mm, and `Turn`, where a line along no axis is turned by no
+    /// quarter turns.
     pub fn judge(
         &self,
         copper: Copper,
@@ -121,7 +121,7 @@ impl<'a> Primitive<'a> {
         read_turn(part(self.form.row().count(), self.lengths), parameters)
     }
 
-    // Whether other turns than quarter turns would slant its stroke, or move its polygon off the grid.
+    // Whether other turns than quarter turns would slant its stroke.
     #[tactic(auto, unfolding(crate::specs::Flashes::needs_quarters))]
     fn needs_quarters(&self, parameters: &[Decimal], unit: Unit) -> bool
         ensures { result ≡ flashes.needs_quarters self.now.form self.now.lengths.now parameters.now unit }
@@ -131,7 +131,7 @@ impl<'a> Primitive<'a> {
             Form::Circle => false,
             Form::Outline(_) => false,
             Form::CentreLine => false,
-            Form::Polygon(n) => is_slanted(polygon(n, self.lengths, parameters, unit)),
+            Form::Polygon(_) => false,
         }
     }
 
@@ -243,7 +243,7 @@ fn turned_round(
     }
 }
 
-// Whether another turn than quarter turns would slant it, or move it off the grid: a stroke, or a polygon off the origin.
+// Whether another turn than quarter turns would slant it: a stroke.
 fn is_slanted(sketch: Result<Option<Sketch>, MacroFault>) -> bool
     ensures { result ≡ flashes.is_slanted sketch }
 {
@@ -251,7 +251,7 @@ fn is_slanted(sketch: Result<Option<Sketch>, MacroFault>) -> bool
         Ok(Some(Sketch::Stroke(_, _, _))) => true,
         Ok(Some(Sketch::Disc(_, _))) => false,
         Ok(Some(Sketch::Rectangle(_, _))) => false,
-        Ok(Some(Sketch::Regular(p, _, _))) => !same(p, Spot { x: 0, y: 0 }),
+        Ok(Some(Sketch::Regular(_, _, _))) => false,
         Ok(None) => false,
         Err(_) => false,
     }

@@ -16,10 +16,11 @@ use Rattle.lengths.specs.declared.rows.NoMemory.{NoMemory}
 use Rattle.arcs.specs.Copper.{InChain}
 use Rattle.arcs.specs.Laws.{TakenIsBetween}
 use Rattle.slants.specs.Laws as slants
-use Rattle.slants.specs.Laws.{DiscsAreBetween, PolygonIsBetween}
+use Rattle.slants.specs.Laws.{DiscsAreBetween}
+use Rattle.turned_polygons.specs.Laws.{TurnedPolygonIsBetween}
 use Rattle.slants.specs.declared.Slant.{Slant}
 use Rattle.slants.specs.declared.discs.TurnedDisc.{TurnedDisc as Disc}
-use Rattle.slants.specs.declared.polygons.RegularPolygon.{RegularPolygon}
+use Rattle.turned_polygons.specs.declared.TurnedPolygon.{TurnedPolygon}
 use Rattle.fine_figures.specs.Laws.{FineIsBetween}
 use Rattle.fine_figures.specs.declared.FineFigure.{FineFigure}
 use Rattle.arc_covers.specs.Bounds.{BoundRegion, BoundTurned, DiscFor, FigureFor, IsBound, IsDiscBound, IsFineBound, IsLineBound, IsOn, IsPolygonBound, ContourFor, PiecesStandFor, StandFor, capsules_from, capsules_of, figures_of}
@@ -182,7 +183,7 @@ pub layers_refused : (side : Side) (real : Placed RealShape) (pieces : List (Pla
 layers_refused side real pieces b on is off told = (λ yes. absurd cc, λ t. let yes = told.1 (of_pieces (IsOn real.top real.bottom) pieces t.layers) in absurd cc)
 
 -- what is taken stands
-pub stands : (side : Side) (real : Placed RealShape) (pieces : List PlainPiece) → TakenIsBetween → slants.TakenIsBetween → DiscsAreBetween → PolygonIsBetween → FineIsBetween → ((side : Side) (area : Contour) (figures : List Figure) → RegionTaken side area figures → BoundRegion side area figures)
+pub stands : (side : Side) (real : Placed RealShape) (pieces : List PlainPiece) → TakenIsBetween → slants.TakenIsBetween → DiscsAreBetween → TurnedPolygonIsBetween → FineIsBetween → ((side : Side) (area : Contour) (figures : List Figure) → RegionTaken side area figures → BoundRegion side area figures)
     → ((side : Side) (contour : List Spot) (about : Spot) (angle : ℕ) (figures : List Figure) → TurnedTaken side contour about angle figures → BoundTurned side contour about angle figures) → PiecesAreTaken side real pieces → PiecesStandFor side real pieces
 stands side real pieces law lines discs polygons fines regions turned t = record { figures = by side real.shape t.figures; layers = t.layers }
   where
@@ -204,7 +205,7 @@ stands side real pieces law lines discs polygons fines regions turned t = record
     one_disc Below disc figures (inr (s, r, same, h)) = inr (s, r, same, disc_bound Below disc s r h)
     one_disc Above disc figures (s, r, same, h) = (s, r, same, disc_bound Above disc s r h)
 
-    polygon_bound : (side : Side) (g : RegularPolygon) (points : List Spot) → IsPolygonTaken side g points → IsPolygonBound side g points
+    polygon_bound : (side : Side) (g : TurnedPolygon) (points : List Spot) → IsPolygonTaken side g points → IsPolygonBound side g points
     polygon_bound Below g points taken = λ p inside. (polygons g points p).0 taken inside
     polygon_bound Above g points taken = λ p inside. (polygons g points p).1 taken inside
 

@@ -12,8 +12,8 @@ use Rattle.real_shapes.specs.declared.RealShape.TheVariants.{Plain, ArcDraw, Sla
 use Rattle.slants.specs.Cones.{PossiblyTurned, SurelyTurned}
 use Rattle.slants.specs.Copper.{InSlant}
 use Rattle.slants.specs.Discs.{PossiblyInDisc, SurelyInDisc, disc_about}
-use Rattle.slants.specs.Polygons.{PossiblyInPolygon, SurelyInPolygon}
-use Rattle.slants.specs.declared.polygons.RegularPolygon.{RegularPolygon}
+use Rattle.turned_polygons.specs.Copper as polygons
+use Rattle.turned_polygons.specs.declared.TurnedPolygon.{TurnedPolygon}
 use Rattle.arc_regions.specs.Copper.{PossiblyIn, SurelyIn}
 use Rattle.arc_regions.specs.declared.Region.{Region as Contour}
 use Rattle.contact.specs.Solid.{SharePoint}
@@ -48,10 +48,10 @@ abbrev pub IsDiscBound : Side → Disc → Spot → ℕ → Type 0
 IsDiscBound Below disc s r = (p : Point) → InFigure (disc_about s r) p → SurelyInDisc disc p
 IsDiscBound Above disc s r = (p : Point) → PossiblyInDisc disc p → InFigure (disc_about s r) p
 
--- what a contour bounds lies in the polygon at all turns of its cones, or holds it at each
-abbrev pub IsPolygonBound : Side → RegularPolygon → List Spot → Type 0
-IsPolygonBound Below g points = (p : Point) → InFigure (filled points) p → SurelyInPolygon g p
-IsPolygonBound Above g points = (p : Point) → PossiblyInPolygon g p → InFigure (filled points) p
+-- what a contour bounds lies in the polygon at all turns of its cones and of its middle's, or holds it at each
+abbrev pub IsPolygonBound : Side → TurnedPolygon → List Spot → Type 0
+IsPolygonBound Below g points = (p : Point) → InFigure (filled points) p → polygons.SurelyIn g p
+IsPolygonBound Above g points = (p : Point) → polygons.PossiblyIn g p → InFigure (filled points) p
 
 -- a figure lies in the fine one, or holds it
 abbrev pub IsFineBound : Side → FineFigure → Figure → Type 0

@@ -11,7 +11,7 @@ use Rattle.real_shapes.specs.declared.RealShape.TheVariants.{Plain, ArcDraw, Sla
 use Rattle.slants.specs.Cones.{IsTurnedCopper}
 use Rattle.slants.specs.Copper.{InSlant}
 use Rattle.slants.specs.Discs.{IsDiscCopper}
-use Rattle.slants.specs.Polygons.{IsPolygonCopper}
+use Rattle.turned_polygons.specs.Copper.{IsTurnedPolygonCopper}
 use Rattle.arc_regions.specs.Copper as regions
 
 -- the points are those of the figure, the slanted line or the fine figure, or a copper of the arc draw, the region, the turned figure or disc, or the polygon
@@ -22,7 +22,7 @@ IsCopperOf (Slanted line) holds = (p : Point) → InSlant line p ↔ holds p
 IsCopperOf (Region area) holds = regions.IsCopper area.start area.parts.items holds
 IsCopperOf (Turned t) holds = IsTurnedCopper t.contour.items t.about t.angle holds
 IsCopperOf (TurnedDisc disc) holds = IsDiscCopper disc holds
-IsCopperOf (Polygon g) holds = IsPolygonCopper g holds
+IsCopperOf (Polygon g) holds = IsTurnedPolygonCopper g holds
 IsCopperOf (Fine fine) holds = (p : Point) → InFine fine p ↔ holds p
 
 -- the layers of the piece

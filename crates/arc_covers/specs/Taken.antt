@@ -10,11 +10,11 @@ use Rattle.real_shapes.specs.declared.RealShape.{RealShape}
 use Rattle.real_shapes.specs.declared.RealShape.TheVariants.{Plain, ArcDraw, Slanted, Region, Turned, TurnedDisc, Polygon, Fine}
 use Rattle.slants.specs.Cones.{FigureAbove, FigureBelow}
 use Rattle.slants.specs.Discs.{DiscAbove, DiscBelow}
-use Rattle.slants.specs.Polygons.{PolygonAbove, PolygonBelow}
+use Rattle.turned_polygons.specs.Taken.{TurnedPolygonAbove, TurnedPolygonBelow}
 use Rattle.slants.specs.Taken as slants
 use Rattle.slants.specs.declared.Slant.{Slant}
 use Rattle.slants.specs.declared.discs.TurnedDisc.{TurnedDisc as Disc}
-use Rattle.slants.specs.declared.polygons.RegularPolygon.{RegularPolygon}
+use Rattle.turned_polygons.specs.declared.TurnedPolygon.{TurnedPolygon}
 use Rattle.arc_regions.specs.declared.Region.{Region as Contour}
 use Rattle.fine_figures.specs.Taken as fine_figures
 use Rattle.fine_figures.specs.declared.FineFigure.{FineFigure}
@@ -45,10 +45,10 @@ abbrev pub IsDiscTaken : Side → Disc → Spot → ℕ → Type 0
 IsDiscTaken Below disc s r = DiscBelow disc s r
 IsDiscTaken Above disc s r = DiscAbove disc s r
 
--- and for the regular polygon
-abbrev pub IsPolygonTaken : Side → RegularPolygon → List Spot → Type 0
-IsPolygonTaken Below g points = PolygonBelow g points
-IsPolygonTaken Above g points = PolygonAbove g points
+-- those of `turned_polygons` the contour for the polygon
+abbrev pub IsPolygonTaken : Side → TurnedPolygon → List Spot → Type 0
+IsPolygonTaken Below g points = TurnedPolygonBelow g points
+IsPolygonTaken Above g points = TurnedPolygonAbove g points
 
 -- the checks of `fine_figures` take the figure
 abbrev pub IsFineTaken : Side → FineFigure → Figure → Type 0

@@ -10,10 +10,9 @@ use Rattle.aperture_macros.specs.declared.primitive.Rotation.TheVariants.{Half, 
 use Rattle.apertures.specs.Telling.{Fine, Frame, Ring, frame_told, ring_told}
 use Rattle.arc_layer.specs.Fine.{fine_figure}
 use Rattle.arc_layer.specs.Laws.{PolygonsAreUndone, quarters_of}
-use Rattle.arc_layer.specs.Real.{bent_or, disc_or, far_from, fine_or, flashed, frame_or, quarters_to, regular, ring_draw, told_area}
+use Rattle.arc_layer.specs.Real.{bent_or, disc_or, far_from, fine_or, flashed, frame_or, quarters_to, regular, ring_draw, told_area, turned_with, polygon_by}
 use Rattle.slants.specs.declared.cones.TheConstants.{RIGHT_ANGLE}
-use Rattle.slants.specs.declared.polygons.RegularPolygon.{RegularPolygon}
-use Rattle.slants.specs.declared.polygons.TheConstants.{PARTS}
+use Rattle.turned_polygons.specs.declared.TurnedPolygon.{TurnedPolygon}
 use Rattle.arc_layer.proofs.Fines.{no_fine}
 use Rattle.arc_layer.proofs.Rings.{no_frame, no_ring}
 use Rattle.aperture_macros.proofs.Told.{told_length}
@@ -21,8 +20,8 @@ use Rattle.arc_layer.proofs.Undone.{no_round}
 
 -- ---- what three spots tell
 
-told_polygon : Spot → Spot → Spot → ℕ → RegularPolygon
-told_polygon q across count rest = record { centre = q; corners = far_from q count; diameter = far_from q across * PARTS; angle = quarters_to q across * RIGHT_ANGLE + rest }
+told_polygon : Spot → Spot → Spot → Spot → ℕ → TurnedPolygon
+told_polygon at q across count rest = turned_with (polygon_by q across count rest) at rest
 
 module _ (r rest : ℕ) (more : r ≡ RIGHT_ANGLE + rest) (below : rest < RIGHT_ANGLE) where
   some : (r == 0) ≡ false
@@ -46,13 +45,13 @@ module _ (r rest : ℕ) (more : r ≡ RIGHT_ANGLE + rest) (below : rest < RIGHT_
   less = omega (arith, more)
 
   area : (at q across count : Spot) → far_from q count < 2 ^ 32 →
-      told_area (told at r (q ∷ across ∷ count ∷ q ∷ [])) (Some (record { contour = q ∷ across ∷ count ∷ q ∷ []; about = at; rest = r })) ≡ regular (told_polygon q across count rest)
+      told_area (told at r (q ∷ across ∷ count ∷ q ∷ [])) (Some (record { contour = q ∷ across ∷ count ∷ q ∷ []; about = at; rest = r })) ≡ regular (told_polygon at q across count rest)
   unfolding told told_polygon
   area at q across count few =
       let fits : nat_lt (far_from q count) (2 ^ 32) ≡ true = le-leb (suc (far_from q count)) (2 ^ 32) (omega (arith, few)) in
       rw (some, over, fits, under, less) refl
 
-  found : ToldIsFound → (at q across count : Spot) → far_from q count < 2 ^ 32 → flashed (told at r (q ∷ across ∷ count ∷ q ∷ [])) ≡ regular (told_polygon q across count rest)
+  found : ToldIsFound → (at q across count : Spot) → far_from q count < 2 ^ 32 → flashed (told at r (q ∷ across ∷ count ∷ q ∷ [])) ≡ regular (told_polygon at q across count rest)
   found law at q across count few =
       let contour : List Spot = q ∷ across ∷ count ∷ q ∷ [] in
       let points = told at r contour in

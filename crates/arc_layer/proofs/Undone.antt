@@ -15,7 +15,7 @@ use Rattle.arc_layer.specs.Laws.{DiscsAreUndone, TurnedAreContours, TurnsAreUndo
 use Rattle.arc_layer.specs.Fine.{fine_figure}
 use Rattle.arc_layer.specs.Real.{bent_or, disc_or, fine_or, frame_or, plain, ring_draw, told_area, turned, turned_disc, RealFigure, polygon_told, regular_or}
 use Rattle.slants.specs.declared.cones.TheConstants.{RIGHT_ANGLE}
-use Rattle.slants.specs.declared.polygons.RegularPolygon.{RegularPolygon}
+use Rattle.turned_polygons.specs.declared.TurnedPolygon.{TurnedPolygon}
 use Rattle.arc_layer.proofs.Fines.{no_fine}
 use Rattle.arc_layer.proofs.Rings.{no_frame, no_ring}
 use Rattle.arc_layer.proofs.Tails.{IsTold, is_told}
@@ -78,7 +78,7 @@ lawful_so points t is told some below =
 pub lawful : TurnedAreContours
 lawful points contour about rest is h = past_fine (fine_told points) h
   where
-    inside : (t : Telling) (none less : Bool) (o : Option RegularPolygon) → IsTold points t → (t.rest == 0) ≡ none → nat_lt t.rest RIGHT_ANGLE ≡ less
+    inside : (t : Telling) (none less : Bool) (o : Option TurnedPolygon) → IsTold points t → (t.rest == 0) ≡ none → nat_lt t.rest RIGHT_ANGLE ≡ less
         → cond none (plain (filled t.contour)) (cond less (turned t.contour t.about t.rest) (regular_or points o)) ≡ turned contour about rest → IsLawful contour about rest
     inside t true less o told e f k = absurd cc
     inside t false true o told e f k =

@@ -18,7 +18,7 @@ use Rattle.gerber_layer.specs.CommandEffects.{edges_in}
 use Rattle.gerber_layer.specs.Settings.{contour_before}
 use Rattle.arc_layer.specs.Marks.{contour, edges_before, flash, mark_behind}
 use Rattle.arc_layer.specs.Fine.{fine_sides, fine_stroke}
-use Rattle.arc_layer.specs.Real.{bent, fine, flashed, frame_region, plain, regular, turned, turned_disc, with_mark}
+use Rattle.arc_layer.specs.Real.{bent, fine, flashed, frame_region, plain, regular, turned, turned_disc, with_mark, turned_with}
 use Rattle.arc_layer.specs.State.{commands_of}
 use Rattle.arc_layer.specs.Words.{Saying}
 use Rattle.arc_layer.specs.declared.draws.Bend.{Bend}
@@ -48,10 +48,10 @@ quarters_of Quarter = 1
 quarters_of Half = 2
 quarters_of ThreeQuarters = 3
 
--- A polygon that is told is that polygon about its turned middle, its first corner in the direction of the quarter turns and of what is left.
+-- A polygon that is told is that polygon about its middle after the quarter turns, its first corner in the direction of these and of what is left. By this its middle is turned about the flash.
 abbrev pub PolygonsAreUndone : Type 0
 PolygonsAreUndone = (rotation : Rotation) (at p : Spot) (d n rest : ℕ) → 1 ≤ d → n < 2 ^ 32 → rest < RIGHT_ANGLE → flashed (told at (told_rest (Polygon n) rest) (map (set_down rotation at) (polygon_spots p d n)))
-    ≡ regular (record { centre = set_down rotation at p; corners = n; diameter = d * PARTS; angle = quarters_of rotation * RIGHT_ANGLE + rest })
+    ≡ regular (turned_with (record { centre = set_down rotation at p; corners = n; diameter = d * PARTS; angle = quarters_of rotation * RIGHT_ANGLE + rest }) at rest)
 
 -- A flash of a circle with a hole is a draw once round the spot. The middle of its pen lies halfway between the hole and the outside, at a quarter of the sum of both diameters; the pen is as wide as the copper, half their difference.
 abbrev pub RingsAreUndone : Type 0

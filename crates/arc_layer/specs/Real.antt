@@ -32,6 +32,7 @@ use Rattle.arc_layer.specs.declared.kind.RealKind.TheVariants.{Copper}
 use Rattle.slants.specs.declared.cones.TheConstants.{RIGHT_ANGLE}
 use Rattle.slants.specs.declared.polygons.RegularPolygon.{RegularPolygon}
 use Rattle.slants.specs.declared.polygons.TheConstants.{PARTS}
+use Rattle.turned_polygons.specs.declared.TurnedPolygon.{TurnedPolygon}
 use Rattle.real_shapes.specs.declared.RealShape.{RealShape}
 use Rattle.real_shapes.specs.declared.RealShape.TheVariants as shape
 
@@ -43,7 +44,7 @@ pub data RealFigure : Type 0 where
   curved : Spot → List Part → RealFigure
   turned : List Spot → Spot → ℕ → RealFigure
   turned_disc : TurnedDisc → RealFigure
-  regular : RegularPolygon → RealFigure
+  regular : TurnedPolygon → RealFigure
   fine : FineFigure → RealFigure
 
 -- one on a span of layers
@@ -114,18 +115,21 @@ far_from p q = unsigned_abs (q.x -ℤ p.x) + unsigned_abs (q.y -ℤ p.y)
 abbrev pub quarters_to : Spot → Spot → ℕ
 quarters_to p q = if int_lt p.x q.x then 0 else (if int_lt p.y q.y then 1 else (if int_lt q.x p.x then 2 else 3))
 
--- What a polygon's spots tell (4.5.1, code 5): its middle, the diameter and the number of corners in the direction of its quarter turns, and how far it is turned beside these, a right angle more
-abbrev pub polygon_by : Spot → Spot → Spot → ℕ → Option RegularPolygon
-polygon_by p across count rest =
-    if nat_lt (far_from p count) (2 ^ 32) && nat_lt rest (2 * RIGHT_ANGLE)
-    then Some (record { centre = p; corners = far_from p count; diameter = far_from p across * PARTS; angle = quarters_to p across * RIGHT_ANGLE + (rest - RIGHT_ANGLE) })
-    else None
+-- What a polygon's spots tell (4.5.1, code 5): its middle, the diameter and the number of corners in the direction of its quarter turns, and how far it is turned beside these
+abbrev pub polygon_by : Spot → Spot → Spot → ℕ → RegularPolygon
+polygon_by p across count rest = record { centre = p; corners = far_from p count; diameter = far_from p across * PARTS; angle = quarters_to p across * RIGHT_ANGLE + rest }
 
-abbrev pub polygon_told : List Spot → ℕ → Option RegularPolygon
-polygon_told (p ∷ across ∷ count ∷ again ∷ about ∷ to ∷ last ∷ []) rest = polygon_by p across count rest
+-- its middle is turned with it; where nothing is left to turn, it is where it is
+abbrev pub turned_with : RegularPolygon → Spot → ℕ → TurnedPolygon
+turned_with g about rest = record { polygon = g; about = if rest == 0 then g.centre else about; angle = rest }
+
+-- the turn is told with a right angle more
+abbrev pub polygon_told : List Spot → ℕ → Option TurnedPolygon
+polygon_told (p ∷ across ∷ count ∷ again ∷ about ∷ to ∷ last ∷ []) rest =
+    if nat_lt (far_from p count) (2 ^ 32) && nat_lt rest (2 * RIGHT_ANGLE) then Some (turned_with (polygon_by p across count (rest - RIGHT_ANGLE)) about (rest - RIGHT_ANGLE)) else None
 polygon_told other rest = None
 
-abbrev pub regular_or : List Spot → Option RegularPolygon → RealFigure
+abbrev pub regular_or : List Spot → Option TurnedPolygon → RealFigure
 regular_or points (Some g) = regular g
 regular_or points None = plain (filled points)
 

@@ -8,7 +8,7 @@ ghost use Rattle.board_shapes.specs.Figures.{filled};
 ghost use Rattle.file_reading.specs.declared.fault.FileFault.TheVariants as fault;
 ghost use Rattle.planar.specs.Plane.{IsPlaced};
 ghost use Rattle.slants.specs.declared.cones.TheConstants.{RIGHT_ANGLE};
-ghost use Rattle.std.specs.Prelude.{◌≡◌, ◌≤◌, ◌*◌, ◌-◌, ◌-ℤ◌, unsigned_abs, All, length, option_map, take, IfErr, IfOk, Some};
+ghost use Rattle.std.specs.Prelude.{◌≡◌, ◌≤◌, ◌<◌, ◌^◌, ◌*◌, ◌-◌, ◌-ℤ◌, unsigned_abs, All, length, option_map, take, IfErr, IfOk, Some};
 
 use crate::centres::same_spot;
 use crate::fine::fine_in;
@@ -21,6 +21,7 @@ use planar::Spot;
 use real_shapes::RealShape;
 use slants::{PARTS, RIGHT_ANGLE, RegularPolygon, TurnedDisc, TurnedFigure, is_closed};
 use std::alloc::Global;
+use turned_polygons::TurnedPolygon;
 
 /// What the spots behind a contour say: what it is turned about, and how far in 10^-7 degrees.
 #[derive(Clone, Copy)]
@@ -109,37 +110,50 @@ fn quarters_to(p: Spot, q: Spot) -> u32
     }
 }
 
-/// The polygon that three spots tell, and how far it is turned beside quarter turns, a right angle more.
-fn polygon_by(p: Spot, across: Spot, count: Spot, rest: u64) -> Option<RegularPolygon>
+/// The polygon that three spots tell, and how far it is turned beside quarter turns.
+fn polygon_by(p: Spot, across: Spot, count: Spot, rest: u32) -> RegularPolygon
     requires p_placed { IsPlaced p }
     requires across_placed { IsPlaced across }
     requires count_placed { IsPlaced count }
-    requires more { RIGHT_ANGLE ≤ rest }
+    requires few { spec.far_from p count < 2 ^ 32 }
+    requires below { rest < RIGHT_ANGLE }
     ensures { result ≡ spec.polygon_by p across count rest }
 {
-    let corners = far_from(p, count);
-    if corners < 4_294_967_296 && rest < 2 * u64::from(RIGHT_ANGLE) {
-        Some(RegularPolygon {
-            centre: p,
-            corners: corners as u32,
-            diameter: far_from(p, across) * PARTS as u64,
-            angle: quarters_to(p, across) * RIGHT_ANGLE + (rest - u64::from(RIGHT_ANGLE)) as u32,
-        })
-    } else {
-        None
+    RegularPolygon {
+        centre: p,
+        corners: far_from(p, count) as u32,
+        diameter: far_from(p, across) * PARTS as u64,
+        angle: quarters_to(p, across) * RIGHT_ANGLE + rest,
     }
 }
 
-/// The polygon that the spots of an area tell.
-fn polygon_in(points: &[Spot], rest: u64) -> Option<RegularPolygon>
+/// The polygon, whose middle is turned with it.
+fn turned_with(polygon: RegularPolygon, about: Spot, rest: u32) -> TurnedPolygon
+    ensures { result ≡ spec.turned_with polygon about rest }
+{
+    TurnedPolygon {
+        polygon,
+        about: if rest == 0 { polygon.centre } else { about },
+        angle: rest,
+    }
+}
+
+/// The polygon that the spots of an area tell, whose turn is told with a right angle more.
+fn polygon_in(points: &[Spot], rest: u64) -> Option<TurnedPolygon>
     requires placed { All IsPlaced points.now }
     requires more { RIGHT_ANGLE ≤ rest }
     ensures { result ≡ spec.polygon_told points.now rest }
 {
-    let [p, across, count, _, _, _, _] = points else {
+    let [p, across, count, _, about, _, _] = points else {
         return None;
     };
-    polygon_by(*p, *across, *count, rest)
+    let few = far_from(*p, *count) < 4_294_967_296;
+    if few && rest < 2 * u64::from(RIGHT_ANGLE) {
+        let left = (rest - u64::from(RIGHT_ANGLE)) as u32;
+        Some(turned_with(polygon_by(*p, *across, *count, left), *about, left))
+    } else {
+        None
+    }
 }
 
 /// The area that tells this.

@@ -73,13 +73,21 @@ fn shown(alloc: Global, piece: &RealPiece) -> Result<String, AllocError> {
                 disc.angle, about.x, about.y, centre.x, centre.y, disc.radius
             )?;
         },
-        RealShape::Polygon(g) => {
+        RealShape::Polygon(turned) => {
+            let (g, about) = (turned.polygon, turned.about);
             let (c, n) = (g.centre, g.corners);
             write!(
                 line,
                 "{n} corners about {} {} by {} at {}",
                 c.x, c.y, g.diameter, g.angle
             )?;
+            if c.x != about.x || c.y != about.y {
+                write!(
+                    line,
+                    ", turned {} about {} {}",
+                    turned.angle, about.x, about.y
+                )?;
+            }
         },
         RealShape::Fine(FineFigure::Round(f)) => {
             let (a, b, r) = (f.a, f.b, f.r);
@@ -357,7 +365,7 @@ fn of_lines() -> [(&'static str, &'static str); 7] {
 }
 
 // Turned figures of macros, most as layout tools write them; all of this crate's own.
-fn of_turns() -> [(&'static str, &'static str); 13] {
+fn of_turns() -> [(&'static str, &'static str); 14] {
     [
         (
             "%AMRotRect*21,1,$1,$2,0,0,$3*%%ADD11RotRect,1.0X0.5X30.0*%D11*X0Y0D03*M02*",
@@ -401,7 +409,11 @@ fn of_turns() -> [(&'static str, &'static str); 13] {
         ),
         (
             "%AMQ*5,1,5,1,0,0.5,45*%%ADD11Q*%D11*X0Y0D03*M02*",
-            "Copper(Turn) at command 7",
+            "5 corners about 10000000 0 by 50000000000 at 450000000, turned 450000000 about 0 0 by 9.0",
+        ),
+        (
+            "%AMQ*5,1,3,1,0,0.5,-240*%%ADD11Q*%D11*X1000000Y0D03*M02*",
+            "3 corners about 10000000 10000000 by 50000000000 at 1200000000, turned 300000000 about 10000000 0 by 9.0",
         ),
         (
             "%AMV*1,1,1.0,1,0,-240*%%ADD11V*%D11*X1000000Y0D03*M02*",

@@ -54,7 +54,7 @@ real_edges (slanted line) = 0
 real_edges (curved start parts) = counted (length parts)
 real_edges (turned contour about rest) = counted (length contour - 1)
 real_edges (turned_disc disc) = 0
-real_edges (regular g) = g.corners
+real_edges (regular g) = g.polygon.corners
 real_edges (fine f) = 0
 
 abbrev pub edges_in : List PlainReal → ℕ

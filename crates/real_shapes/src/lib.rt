@@ -7,7 +7,8 @@ use arc_regions::Region;
 use arcs::Arc;
 use board_shapes::{Placed, Shape};
 use fine_figures::FineFigure;
-use slants::{RegularPolygon, Slant, TurnedDisc, TurnedFigure};
+use slants::{Slant, TurnedDisc, TurnedFigure};
+use turned_polygons::TurnedPolygon;
 
 /// A figure of ours, an arc draw with a round pen, a rectangle about a slanted line, a region whose
 /// contour has arcs, a figure or a disc turned by degrees, a regular polygon in any direction, or a figure on
@@ -20,7 +21,7 @@ pub enum RealShape {
     Region(Region),
     Turned(TurnedFigure),
     TurnedDisc(TurnedDisc),
-    Polygon(RegularPolygon),
+    Polygon(TurnedPolygon),
     Fine(FineFigure),
 }
 

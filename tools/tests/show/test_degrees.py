@@ -182,6 +182,20 @@ class TestPolygons(unittest.TestCase):
                 self.assertTrue(all(cross_least(pointed(a), pointed(b), v) >= 0 for a, b in edges(outer) for v in corners))
                 self.assertLess(max(abs(p - q) for a, b in zip(inner, outer) for p, q in zip(a, b)), 60)
 
+    def test_polygons_off_the_origin(self):
+        rng = random.Random(68)
+        for n in 4 * list(range(3, 13)):
+            far = rng.choice((10 ** 3, 10 ** 5, 10 ** 7, 5 * 10 ** 8))
+            d, angle, centre = 2 * rng.randrange(500, 10 ** 7), rng.randrange(1, 4 * RIGHT), (rng.randint(-far, far), rng.randint(1, far))
+            quarters, turn = divmod(angle, RIGHT)
+            at = turned(tuple(map(exact, centre)), cos_sin(Q(turn, 10 ** 7)))
+            corners = [(plus(p, at[0]), plus(q, at[1])) for p, q in regular(n, 0, 0, Q(d), Q(angle, 10 ** 7))]
+            ([(_, inner)], [(_, outer)]) = regular_bounds(n, d, angle, centre, turn)
+            with self.subTest(f"{n} {d} {angle} {centre}"):
+                self.assertTrue(all(cross_least(a, b, pointed(w)) >= 0 for a, b in edges(corners) for w in inner))
+                self.assertTrue(all(cross_least(pointed(a), pointed(b), v) >= 0 for a, b in edges(outer) for v in corners))
+                self.assertLess(max(abs(p - q) for a, b in zip(inner, outer) for p, q in zip(a, b)), 60 + far // 10 ** 6)
+
 
 class TestFigures(unittest.TestCase):
     """Rows: a body, parameters, and of each figure its kind and how many pieces of both sides it has; None where `between` reads some otherwise."""
@@ -218,7 +232,9 @@ class TestFigures(unittest.TestCase):
         ("an octagon by parameters", ["5,1,8,0,0,$1,22.5"], [2], ["regular"], [(1, 1)]),
         ("a product off the grid, of Eagle", ["5,1,8,0,0,1.08239X$1,22.5"], [Q("1.6764")], ["convex"], None),
         ("a polygon of seven corners", ["5,1,7,0,0,1,30"], [], ["regular"], [(1, 1)]),
-        ("a polygon off the origin", ["5,1,8,1,0,1,30"], [], ["convex"], None),
+        ("a polygon off the origin", ["5,1,8,1,0,1,30"], [], ["regular"], [(1, 1)]),
+        ("by odd tenths of a nanometre", ["5,1,8,1.0000001,0.0000003,1,-400.5"], [], ["regular"], [(1, 1)]),
+        ("off the grid", ["5,1,8,1.00000001,0,1,30"], [], ["convex"], None),
         ("a polygon off the origin, by quarter turns", ["5,1,3,1,0,1,-90"], [], ["regular"], [(1, 1)]),
     ]
 
