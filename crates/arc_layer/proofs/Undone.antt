@@ -75,6 +75,12 @@ lawful_so points t is told some below =
     let long = told.long in
     (shorter points t.contour (length points - 3) is told.contour told.closed (omega (arith, long)) (omega arith), told.about is.placed, some, below)
 
+some_left : (r : ℕ) → (r == 0) ≡ false → 1 ≤ r
+some_left r e = grind (arith, e)
+
+few_left : (r : ℕ) → nat_lt r RIGHT_ANGLE ≡ true → r < RIGHT_ANGLE
+few_left r e = grind (arith, e)
+
 pub lawful : TurnedAreContours
 lawful points contour about rest is h = past_fine (fine_told points) h
   where
@@ -86,7 +92,7 @@ lawful points contour about rest is h = past_fine (fine_told points) h
         let two : t.about ≡ about = cc in
         let three : t.rest ≡ rest = cc in
         subst (λ (c : List Spot). IsLawful c about rest) one (subst (λ (s : Spot). IsLawful t.contour s rest) two (subst (λ (r : ℕ). IsLawful t.contour t.about r) three
-        (lawful_so points t is told (grind (arith, e)) (grind (arith, f)))))
+        (lawful_so points t is told (some_left t.rest e) (few_left t.rest f))))
     inside t false false (Some g) told e f k = absurd cc
     inside t false false None told e f k = absurd cc
 
