@@ -2,7 +2,7 @@ use super::*;
 
 /// The spot that the middle is turned about, by how much, where a contour is, two numbers of its corners, and whether it is taken
 /// below and above the octagon in a circle of 1,000 u, whose edges are across the axes.
-type Row = ((i64, i64), u32, (i64, i64), (i64, i64), (bool, bool));
+type Row = ((i64, i64), u32, (i32, i32), (u16, u16), (bool, bool));
 
 fn rows() -> [Row; 16] {
     let goes = (8660, 5000);
@@ -67,23 +67,27 @@ fn rows() -> [Row; 16] {
     ]
 }
 
+/// A spot that lies so from another.
+fn spot(at: (i32, i32), x: i32, y: i32) -> Spot {
+    Spot {
+        x: at.0 as i64 + x as i64,
+        y: at.1 as i64 + y as i64,
+    }
+}
+
 /// An octagon about the spot, mirrored by both axes through it and by the line between these.
-fn octagon(at: (i64, i64), size: (i64, i64)) -> [Spot; 9] {
-    let (x, y) = size;
-    let spot = |p: i64, q: i64| Spot {
-        x: at.0 + p,
-        y: at.1 + q,
-    };
+fn octagon(at: (i32, i32), size: (u16, u16)) -> [Spot; 9] {
+    let (x, y) = (size.0 as i32, size.1 as i32);
     [
-        spot(x, y),
-        spot(y, x),
-        spot(-y, x),
-        spot(-x, y),
-        spot(-x, -y),
-        spot(-y, -x),
-        spot(y, -x),
-        spot(x, -y),
-        spot(x, y),
+        spot(at, x, y),
+        spot(at, y, x),
+        spot(at, -y, x),
+        spot(at, -x, y),
+        spot(at, -x, -y),
+        spot(at, -y, -x),
+        spot(at, y, -x),
+        spot(at, x, -y),
+        spot(at, x, y),
     ]
 }
 
