@@ -5,7 +5,7 @@ use arc_regions::laws::{taken_holds, taken_lies};
 use board_shapes::laws::tables_are_unique;
 use covers::Copper;
 use covers::laws::verdicts_decide;
-use fine_figures::laws::fine_is_between;
+use fine_figures::laws::{fine_is_between, holed_is_between};
 use slants::laws::{discs_are_between, polygon_is_between, turned_is_between};
 use turned_outlines::laws::{outline_holds, outline_lies};
 
@@ -19,6 +19,7 @@ pub fn taken_are_bounds()
     discs_are_between();
     polygon_is_between();
     fine_is_between();
+    holed_is_between();
     taken_holds();
     taken_lies();
     outline_holds();

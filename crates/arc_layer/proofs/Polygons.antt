@@ -7,14 +7,14 @@ use Rattle.aperture_macros.specs.Laws.{ToldIsFound}
 use Rattle.aperture_macros.specs.Telling.{RoundTelling, Telling, round_told, told, told_in}
 use Rattle.aperture_macros.specs.declared.primitive.Rotation.{Rotation}
 use Rattle.aperture_macros.specs.declared.primitive.Rotation.TheVariants.{Half, Quarter, ThreeQuarters, Unturned}
-use Rattle.apertures.specs.Telling.{Fine, Frame, Ring, frame_told, ring_told}
-use Rattle.arc_layer.specs.Fine.{fine_figure}
+use Rattle.apertures.specs.Telling.{Fine, Frame, Pierced, Ring, frame_told, ring_told}
+use Rattle.arc_layer.specs.Fine.{fine_figure, holed_figure}
 use Rattle.arc_layer.specs.Laws.{PolygonsAreUndone, quarters_of}
-use Rattle.arc_layer.specs.Real.{bent_or, disc_or, far_from, fine_or, flashed, frame_or, quarters_to, regular, ring_draw, told_area}
+use Rattle.arc_layer.specs.Real.{bent_or, disc_or, far_from, fine_or, flashed, frame_or, holed_or, quarters_to, regular, ring_draw, told_area, unpierced}
 use Rattle.slants.specs.declared.cones.TheConstants.{RIGHT_ANGLE}
 use Rattle.slants.specs.declared.polygons.RegularPolygon.{RegularPolygon}
 use Rattle.slants.specs.declared.polygons.TheConstants.{PARTS}
-use Rattle.arc_layer.proofs.Fines.{no_fine}
+use Rattle.arc_layer.proofs.Fines.{no_fine, no_pierced}
 use Rattle.arc_layer.proofs.Rings.{no_frame, no_ring}
 use Rattle.aperture_macros.proofs.Told.{told_length}
 use Rattle.arc_layer.proofs.Undone.{no_round}
@@ -58,6 +58,7 @@ module _ (r rest : ℕ) (more : r ≡ RIGHT_ANGLE + rest) (below : rest < RIGHT_
       let points = told at r contour in
       let long : 4 ≤ length contour = omega arith in
       let seven : 7 ≤ length points = omega (arith, told_length at r contour long) in
+      ap (λ (h : Option Pierced). holed_or (option_map holed_figure h) (unpierced points)) (no_pierced points seven) ∙
       ap (λ (fine : Option Fine). fine_or (option_map fine_figure fine) (bent_or (option_map ring_draw (ring_told points)) (frame_or (frame_told points) (disc_or points (round_told points) (told_area points (told_in points)))))) (no_fine points seven) ∙
       ap (λ (ring : Option Ring). bent_or (option_map ring_draw ring) (frame_or (frame_told points) (disc_or points (round_told points) (told_area points (told_in points))))) (no_ring points seven) ∙
       ap (λ (f : Option Frame). frame_or f (disc_or points (round_told points) (told_area points (told_in points)))) (no_frame points seven) ∙

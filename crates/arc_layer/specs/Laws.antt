@@ -9,8 +9,10 @@ use Rattle.aperture_macros.specs.declared.primitive.Form.TheVariants.{Polygon}
 use Rattle.aperture_macros.specs.declared.primitive.Rotation.{Rotation}
 use Rattle.aperture_macros.specs.declared.primitive.Rotation.TheVariants.{Half, Quarter, ThreeQuarters, Unturned}
 use Rattle.apertures.specs.Flash.{IsLawful, flash_of}
-use Rattle.apertures.specs.declared.aperture.Aperture.TheVariants.{FineCircle, FineObround, FineRectangle, Frame, Ring}
+use Rattle.apertures.specs.declared.aperture.Aperture.TheVariants.{FineCircle, FineObround, FineRectangle, Frame, Holed, Ring}
+use Rattle.apertures.specs.declared.aperture.HoledForm.{HoledForm}
 use Rattle.board_shapes.specs.Figures.{Figure, filled}
+use Rattle.fine_figures.specs.declared.FineFigure.{FineFigure}
 use Rattle.fine_figures.specs.declared.FineFigure.TheVariants.{Round, Rectangle}
 use Rattle.board_shapes.specs.Rectangles.{lower, upper}
 use Rattle.regions.specs.Contours.{close_of}
@@ -18,7 +20,7 @@ use Rattle.gerber_layer.specs.CommandEffects.{edges_in}
 use Rattle.gerber_layer.specs.Settings.{contour_before}
 use Rattle.arc_layer.specs.Marks.{contour, edges_before, flash, mark_behind}
 use Rattle.arc_layer.specs.Fine.{fine_sides, fine_stroke}
-use Rattle.arc_layer.specs.Real.{bent, fine, flashed, frame_region, plain, regular, turned, turned_disc, with_mark}
+use Rattle.arc_layer.specs.Real.{bent, fine, flashed, frame_region, holed, plain, regular, turned, turned_disc, with_mark}
 use Rattle.arc_layer.specs.State.{commands_of}
 use Rattle.arc_layer.specs.Words.{Saying}
 use Rattle.arc_layer.specs.declared.draws.Bend.{Bend}
@@ -85,6 +87,14 @@ FineObroundsAreUndone = (x y : ℤ) (at : Spot) (figure : Figure) → IsLawful (
 abbrev pub FineCirclesAreUndone : Type 0
 FineCirclesAreUndone = (d : ℤ) (at : Spot) (figure : Figure) → IsLawful (FineCircle d) → flash_of (FineCircle d) at ≡ Ok (Some figure)
     → with_mark (Some flash) figure ≡ fine (Round (fine_stroke at (unsigned_abs d) (unsigned_abs d)))
+
+-- One with a hole is such a figure, without what is nearer to the spot than half the hole's diameter.
+abbrev pub outline_of : HoledForm → Spot → FineFigure
+outline_of form at = if form.round then Round (fine_stroke at (unsigned_abs form.x) (unsigned_abs form.y)) else Rectangle (fine_sides at (unsigned_abs form.x) (unsigned_abs form.y))
+
+abbrev pub HoledAreUndone : Type 0
+HoledAreUndone = (form : HoledForm) (at : Spot) (figure : Figure) → IsLawful (Holed form) → flash_of (Holed form) at ≡ Ok (Some figure)
+    → with_mark (Some flash) figure ≡ holed (record { outline = outline_of form at; centre = at; hole = unsigned_abs form.hole })
 
 -- What a contour of a flash has before its turn is a contour, turned about a spot within one metre by some angle below a right one.
 abbrev pub TurnedAreContours : Type 0

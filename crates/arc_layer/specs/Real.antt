@@ -1,4 +1,4 @@
--- Real copper: the pieces of a copper file in which draws may be arcs, circles and rectangles may have round holes, sizes may be odd, and macros may have slanted lines, turned figures and regular polygons.
+-- Real copper: the pieces of a copper file in which draws may be arcs, standard apertures may have round holes, sizes may be odd, and macros may have slanted lines, turned figures and regular polygons.
 use Rattle.std.specs.Prelude.{◌≡◌, ℕ, ◌+◌, ◌-◌, ◌*◌, ◌^◌, ◌<◌, ◌≤◌, ◌-ℤ◌, Bool, false, ◌&&◌, ◌||◌, not, ◌==◌, nat_lt, int_lt, if◌then◌else◌, List, [], ◌∷◌, drop, map, Option, Some, None, option_map, unsigned_abs, Result, Ok, Err}
 use Rattle.std.specs.Ordering.{int_eq}
 use Rattle.planar.specs.declared.Spot.{Spot}
@@ -9,6 +9,7 @@ use Rattle.board_shapes.specs.declared.placed.Placed.{Placed}
 use Rattle.arcs.specs.declared.Arc.{Arc}
 use Rattle.fine_figures.specs.declared.FineFigure.{FineFigure}
 use Rattle.fine_figures.specs.declared.FineFigure.TheVariants.{Round}
+use Rattle.fine_figures.specs.declared.HoledFigure.{HoledFigure}
 use Rattle.slants.specs.declared.Slant.{Slant}
 use Rattle.slants.specs.declared.discs.TurnedDisc.{TurnedDisc}
 use Rattle.arc_regions.specs.declared.Part.{Part}
@@ -25,7 +26,7 @@ use Rattle.apertures.specs.Telling.{Frame, Ring, frame_told, ring_told}
 use Rattle.aperture_macros.specs.Telling.{RoundTelling, Telling, round_told, told_in}
 use Rattle.arc_layer.specs.Marks.{AreMarks, IsBendRefused, PlainMark, arc, by_pen, contour, flash}
 use Rattle.arc_layer.specs.Centres.{moved, same_spot}
-use Rattle.arc_layer.specs.Fine.{fine_draw, fine_in}
+use Rattle.arc_layer.specs.Fine.{fine_draw, fine_in, holed_in}
 use Rattle.arc_layer.specs.declared.draws.Bend.{Bend}
 use Rattle.arc_layer.specs.declared.kind.RealKind.{RealKind}
 use Rattle.arc_layer.specs.declared.kind.RealKind.TheVariants.{Copper}
@@ -35,7 +36,7 @@ use Rattle.slants.specs.declared.polygons.TheConstants.{PARTS}
 use Rattle.real_shapes.specs.declared.RealShape.{RealShape}
 use Rattle.real_shapes.specs.declared.RealShape.TheVariants as shape
 
--- a figure, an arc draw, the rectangle of a slanted line, a region whose contour has arcs, a contour that is turned about a spot, counterclockwise, by so many parts of 10^-7 degrees, a disc that is, a regular polygon, or a figure in half u
+-- a figure, an arc draw, the rectangle of a slanted line, a region whose contour has arcs, a contour that is turned about a spot, counterclockwise, by so many parts of 10^-7 degrees, a disc that is, a regular polygon, or a figure in half u, with a round hole or without
 pub data RealFigure : Type 0 where
   plain : Figure → RealFigure
   bent : Arc → RealFigure
@@ -45,6 +46,7 @@ pub data RealFigure : Type 0 where
   turned_disc : TurnedDisc → RealFigure
   regular : RegularPolygon → RealFigure
   fine : FineFigure → RealFigure
+  holed : HoledFigure → RealFigure
 
 -- one on a span of layers
 pub record PlainReal : Type 0 where
@@ -63,6 +65,7 @@ real_figure (shape.Turned t) = turned t.contour.items t.about t.angle
 real_figure (shape.TurnedDisc disc) = turned_disc disc
 real_figure (shape.Polygon g) = regular g
 real_figure (shape.Fine f) = fine f
+real_figure (shape.Holed h) = holed h
 
 abbrev pub plain_real : Placed RealShape → PlainReal
 plain_real p = record { figure = real_figure p.shape; top = p.top; bottom = p.bottom; origin = p.origin }
@@ -174,8 +177,16 @@ abbrev pub fine_or : Option FineFigure → RealFigure → RealFigure
 fine_or (Some f) area = fine f
 fine_or None area = area
 
+abbrev pub holed_or : Option HoledFigure → RealFigure → RealFigure
+holed_or (Some h) area = holed h
+holed_or None area = area
+
+-- what is told otherwise than with a hole of any sizes
+abbrev pub unpierced : List Spot → RealFigure
+unpierced points = fine_or (fine_in points) (bent_or (ring_in points) (frame_or (frame_told points) (disc_or points (round_told points) (told_area points (told_in points)))))
+
 abbrev pub flashed : List Spot → RealFigure
-flashed points = fine_or (fine_in points) (bent_or (ring_in points) (frame_or (frame_told points) (disc_or points (round_told points) (told_area points (told_in points)))))
+flashed points = holed_or (holed_in points) (unpierced points)
 
 -- A draw with a bend is its arc, one with a fine pen alone its stroke in half u, and an area behind the bends of its contour the region that they bound. A stroke along no axis that a flash makes is the vector line of a macro (Gerber Layer Format Specification,
 -- 4.5.1, code 20): other primitives make none, and obrounds run along an axis. An area that a flash makes is what it tells. Each other figure is what it is.

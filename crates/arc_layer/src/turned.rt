@@ -1,4 +1,4 @@
-//! Areas of flashes that tell more than they show: fine apertures, circles and rectangles with a hole, and areas and discs of macros that are turned by degrees.
+//! Areas of flashes that tell more than they show: fine apertures, those with a hole, and areas and discs of macros that are turned by degrees.
 ghost use Rattle.aperture_macros.specs.Telling as telling;
 ghost use Rattle.apertures.specs.Telling.{frame_told};
 ghost use Rattle.arc_layer.specs.Real as spec;
@@ -11,7 +11,7 @@ ghost use Rattle.slants.specs.declared.cones.TheConstants.{RIGHT_ANGLE};
 ghost use Rattle.std.specs.Prelude.{◌≡◌, ◌≤◌, ◌*◌, ◌-◌, ◌-ℤ◌, unsigned_abs, All, length, option_map, take, IfErr, IfOk, Some};
 
 use crate::centres::same_spot;
-use crate::fine::fine_in;
+use crate::fine::{fine_in, holed_in};
 use crate::kind::RealFault;
 use arc_regions::{Bend, Part, Region};
 use arcs::Arc;
@@ -319,6 +319,16 @@ fn region_of(alloc: Global, frame: Frame) -> Result<RealShape, RealFault>
 /// region, or the disc or the area before its turn, where it tells one.
 pub fn flashed(alloc: Global, area: Area) -> Result<RealShape, RealFault>
     ensures value { IfOk result (λ made. real_figure made ≡ spec.flashed area.points.items) }
+    ensures fault { IfErr result (λ why. why ≡ fault.NoMemory) }
+{
+    if let Some(holed) = holed_in(&area.points) {
+        return Ok(RealShape::Holed(holed));
+    }
+    unpierced(alloc, area)
+}
+
+fn unpierced(alloc: Global, area: Area) -> Result<RealShape, RealFault>
+    ensures value { IfOk result (λ made. real_figure made ≡ spec.unpierced area.points.items) }
     ensures fault { IfErr result (λ why. why ≡ fault.NoMemory) }
 {
     if let Some(fine) = fine_in(&area.points) {

@@ -37,6 +37,7 @@ fn edges_of(shape: &RealShape) -> u32
         RealShape::TurnedDisc(_) => 0,
         RealShape::Polygon(polygon) => polygon.corners,
         RealShape::Fine(_) => 0,
+        RealShape::Holed(_) => 0,
     }
 }
 

@@ -6,12 +6,12 @@
 use arc_regions::Region;
 use arcs::Arc;
 use board_shapes::{Placed, Shape};
-use fine_figures::FineFigure;
+use fine_figures::{FineFigure, HoledFigure};
 use slants::{RegularPolygon, Slant, TurnedDisc, TurnedFigure};
 
 /// A figure of ours, an arc draw with a round pen, a rectangle about a slanted line, a region whose
 /// contour has arcs, a figure or a disc turned by degrees, a regular polygon in any direction, or a figure on
-/// the grid of half a u.
+/// the grid of half a u, with a round hole or without.
 #[derive(Drop)]
 pub enum RealShape {
     Plain(Shape),
@@ -22,6 +22,7 @@ pub enum RealShape {
     TurnedDisc(TurnedDisc),
     Polygon(RegularPolygon),
     Fine(FineFigure),
+    Holed(HoledFigure),
 }
 
 /// Such a shape on a span of layers, with what made it.
