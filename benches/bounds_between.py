@@ -73,7 +73,7 @@ class Layer:
     def pen(self):
         """A circle, at times one of an odd size."""
         odd = self.rng.random() < .2
-        self.lines.append(f"D{self.rng.choice((70, 73)) if odd else self.rng.randint(10, 29)}*")
+        self.lines.append(f"D{self.rng.choice((80, 83)) if odd else self.rng.randint(10, 29)}*")
         self.made["draws with pens of odd sizes"] += odd
 
     def draw(self):
@@ -126,12 +126,18 @@ class Layer:
             elif k % 4 == 0:
                 middle = self.rng.choice(("0,0", f"{left},-{right}"))
                 corners = self.rng.randrange(3, 13)
-                yield from (f"%AMP{k}*", f"21,1,{w},{h},0,0,{turn}*", f"1,1,{w},{middle},{turn}*", f"5,1,{corners},0,0,{right},{turn}*")
-                yield from (f"20,1,{h},0,0,{w},0,{turn}*%", f"%ADD{k}P{k}*%")
+                yield from (f"%AMP{k}*", f"21,1,{w},{h},0,0,{turn}*", f"1,1,{w},{middle},{turn}*", f"5,1,{corners},{middle},{self.across(right)},{turn}*")
+                yield from (f"20,1,{h},0,0,{w},0,{turn}*%", f"%ADD{k}P{k},{random.Random(w).randrange(1, 10 ** 3) / 10 ** 4:.4f}*%")
             elif k % 4 == 1:
                 yield f"%ADD{k}RotRect,{w}X{h}X{turn}*%"
             else:
                 yield f"%ADD{k}Outline4P,-{left}X-{h}X{right}X-{h}X{w}X{h}X-{w}X{h}X{turn}*%"
+
+    def across(self, size):
+        """The diameter of a polygon: this, at times an odd number of u, or as Eagle writes it a product of a parameter of four decimals."""
+        rng = random.Random(size)
+        odd = f"{self.step() * (2 * rng.randrange(50, 10 ** 5) + 1) / self.scale:.7f}"
+        return rng.choice((size, odd, "1.08239X$1", "$1x0.5412", f"{rng.uniform(.1, 3):.3f}X$1"))
 
     def outline(self, size):
         """An outline of some kind, either way round."""
@@ -169,28 +175,29 @@ class Layer:
         self.made["flashes of turned pads"] += 1
 
     def holes(self):
-        """Circles and rectangles with a round hole; the sum of a circle's diameters is a multiple of 4 u."""
-        for k in range(61, 69):
-            hole, more, across = (4 * self.length(10 ** self.rng.randint(3, 7)) for _ in "dxy")
-            sides = f"R,{(hole + more) / self.scale:.7f}X{(hole + across) / self.scale:.7f}" if k % 2 else f"C,{(hole + more) / self.scale:.7f}"
-            yield f"%ADD{k}{sides}X{hole / self.scale:.7f}*%"
+        """Circles, rectangles and obrounds with a round hole; of the first eight the sum of a circle's diameters is a multiple of 4 u, and sizes are even."""
+        for k in range(61, 73):
+            hole, more, across = ((4 if k < 69 else 1) * self.length(10 ** self.rng.randint(3, 7)) for _ in "dxy")
+            name = "CR"[k % 2] if k < 69 else "CRO"[k % 3]
+            sizes = (hole + more, hole) if name == "C" else (hole + more, hole + across, hole)
+            yield f"%ADD{k}{name},{'X'.join(f'{size / self.scale:.7f}' for size in sizes)}*%"
 
     def holed(self):
-        self.pick(61, 68)
+        self.pick(61, 72)
         self.go(self.place(), 3)
         self.made["flashes with a hole"] += 1
 
     def odds(self):
         """Circles, rectangles and obrounds of which at least one size is an odd number of u; no obround is 2 u wide, of which `between` takes
         no bounds with copper below."""
-        for k, name in enumerate("CROCRO", 70):
+        for k, name in enumerate("CROCRO", 80):
             steps = [factor * (int(10 ** self.rng.uniform(0, 6)) // self.step()) + 1 for factor in (2, 1)]
             self.rng.shuffle(steps)
             sizes = [next(it for it in steps if it % 2)] if name == "C" else [4 if name == "O" and it == 2 else it for it in steps]
             yield f"%ADD{k}{name},{'X'.join(f'{it * self.step() / self.scale:.7f}' for it in sizes)}*%"
 
     def odd(self):
-        self.pick(70, 75)
+        self.pick(80, 85)
         self.go(self.place(), 3)
         self.made["flashes of odd sizes"] += 1
 

@@ -10,6 +10,7 @@ from .insets import eighth_chain, eighth_radius
 from .macros import figures, rectangle, regular, rows, without
 from .outlines import convex_bounds
 from .regions import rounded_contour
+from .slots import slot_draws
 from .spots import cross
 
 OBROUND, RECTANGLE, CIRCLE = "O", "R", "C"
@@ -96,14 +97,13 @@ def standard(name, lengths, hole):
         raise Refused("a size under 0")
     low, high, is_read = even_sizes(name, lengths)
     if hole and name == OBROUND:
-        return holed_shape(obround(*lengths), hole)
+        return pierced_obround(lengths, (low, high), hole)
     if name == CIRCLE and is_ring(*lengths, hole):
         return ring_shape(int(lengths[0]), int(hole))
     if name == RECTANGLE and is_frame(*lengths, hole):
         return frame_shape(*map(int, (*lengths, hole)))
     if hole:
-        lower, upper = holed(name, low, hole), solid(name, high)
-        return Shape(lower, upper, "a shape with a hole" if upper and not lower else None)
+        return pierced(name, lengths, (low, high), hole)
     if low != high and 0 in low:
         return Shape([], solid(name, high), "a size under 0.2 nm", rows=[(0, 1)] if is_read and min(lengths) else None)
     return Pen(name, lengths[0] / 2 if name == CIRCLE else None, (low, high), is_read)
@@ -172,6 +172,29 @@ def clear_frame(x, y, r):
     around = [(round(far * cos(pi * k / 32)), round(far * sin(pi * k / 32))) for k in range(1, 64, 2)]
     edge = around[0][0]
     return [(x - 1, 1), (x - 1, y - 1), (1 - x, y - 1), (1 - x, 1 - y), (x - 1, 1 - y), (x - 1, -1), (edge, -1), *around[::-1], (edge, 1)]
+
+
+def is_pierced(lengths, hole):
+    """Whether a shape has a round hole as `between` reads it where that is no draw and no region: all sizes are whole."""
+    return all(v.denominator == 1 for v in (*lengths, hole)) and 0 < hole < min(lengths) and hole <= MOST_WIDE
+
+
+def pierced(name, lengths, sizes, hole):
+    """A circle or rectangle with another round hole: above without it, below clear of it by 1 u where `between` reads it."""
+    is_read = is_pierced(lengths, hole)
+    lower, upper = holed(name, sizes[0], even_up(hole) + 2 if is_read else hole), solid(name, sizes[1])
+    return Shape(lower, upper, "a shape with a hole" if upper and not lower else None, rows=[(len(lower), len(upper))] if is_read else None)
+
+
+def pierced_obround(lengths, sizes, hole):
+    """An obround with a round hole; `between` takes draws below, and above the shape without it."""
+    shape = holed_shape(obround(*lengths), hole)
+    if is_pierced(lengths, hole) and min(lengths) <= MOST_WIDE:
+        lower, upper = slot_draws(*sizes[0], int(hole)), solid(OBROUND, sizes[1])
+        shape.plainer = Shape(*shape.both, shape.lost)
+        shape.smaller = framed(lower, upper)
+        shape.rows = shape.smaller.rows
+    return shape
 
 
 def holed_shape(figures, hole):

@@ -128,7 +128,7 @@ COUNTS = {1: (5, 6), 2: (8,), 20: (8,), 21: (7,), 22: (7,), 5: (7,)}
 
 def figures(body, parameters, scale):
     """The real shapes of a macro's body, turned, in u: ("disc", centre, radius), ("line", start, end, width), ("turned", corners, angle)
-    ("turned disc", centre, radius, angle), ("turned outline", corners, angle) and ("regular", corners, diameter, angle, centre) of whole numbers,
+    ("turned disc", centre, radius, angle), ("turned outline", corners, angle) and ("regular", corners, diameter in parts, angle, centre, turn) of whole numbers,
     ("convex", corners) or ("outline", corners)."""
     variables = {k + 1: value for k, value in enumerate(parameters)}
     for word in body:

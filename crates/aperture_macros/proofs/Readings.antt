@@ -15,7 +15,7 @@ use Rattle.aperture_macros.specs.declared.primitive.Form.TheVariants.{Circle, Ou
 use Rattle.aperture_macros.specs.declared.primitive.Rotation.TheVariants.{Unturned}
 use Rattle.aperture_macros.specs.declared.primitive.Turning.{Turning}
 use Rattle.aperture_macros.specs.declared.primitive.Turning.TheVariants.{Quarters, Degrees}
-use Rattle.aperture_macros.specs.BodyWord.{PlainPrimitive, are_expressions, commas, count, fits, form_at, form_in, form_of, has_rotation, is_number, outline_of, part, past, polygon_of, primitive_at, regular_from, regular_of, rotation_text, row, some_form, turned_at, turning_at}
+use Rattle.aperture_macros.specs.BodyWord.{PlainPrimitive, are_lengths, commas, fits, form_at, form_in, form_of, has_rotation, is_number, outline_of, part, past, polygon_of, primitive_at, regular_from, regular_of, rotation_text, row, some_form, turned_at, turning_at}
 use Rattle.aperture_macros.specs.Sized.{IsSized}
 use Rattle.aperture_macros.proofs.Strokes.{then_ok}
 
@@ -88,7 +88,7 @@ record IsTurned (copper : Copper) (form : Form) (exposure : Fraction) (written :
 turned_is : (copper : Copper) (form : Form) (exposure : Fraction) (written : Bool) (lengths rotation : List ℕ) (p : PlainPrimitive) → turned_at copper form exposure written lengths rotation ≡ Ok p → IsTurned copper form exposure written rotation p
 unfolding turned_at
 turned_is copper form exposure written lengths rotation p h =
-    let a = passed (not (are_expressions (count form) lengths)) BadMacro _ p h in
+    let a = passed (not (are_lengths form lengths)) BadMacro _ p h in
     let t = then_ok (turning_at copper exposure written rotation) (λ turning. Ok (record { form = form; rotation = turning; lengths = lengths })) p a.1 in
     let made : ◌≡◌ {A = Result PlainPrimitive MacroFault} (Ok (record { form = form; rotation = t.0; lengths = lengths })) (Ok p) = t.2 in
     let same : ◌≡◌ {A = PlainPrimitive} (record { form = form; rotation = t.0; lengths = lengths }) p = cc in

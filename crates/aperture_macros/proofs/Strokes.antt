@@ -29,7 +29,7 @@ use Rattle.aperture_macros.specs.declared.primitive.Turning.TheVariants.{Quarter
 use Rattle.aperture_macros.specs.Flashes.{figure_turned, tell, told_figure, turn_behind, turn_judged}
 use Rattle.aperture_macros.specs.Telling.{is_moved, told, told_rest, told_round as told_as_round}
 use Rattle.aperture_macros.specs.Laws.{FlashesDiscsAlone, IsSlanted, StrokesAreSlantedLines}
-use Rattle.aperture_macros.specs.Values.{diameter_at, point_at, size_at}
+use Rattle.aperture_macros.specs.Values.{across_at, diameter_at, point_at, size_at}
 
 pub then_ok : {A B : Type 0} (r : Result A MacroFault) (f : A → Result B MacroFault) (y : B) → (r >>= f) ≡ Ok y → (x : A) × (r ≡ Ok x) × (f x ≡ Ok y)
 then_ok (Ok x) f y h = (x, refl, h)
@@ -81,8 +81,8 @@ centre_flat text given unit s h =
 polygon_flat : (n : ℕ) (text : List ℕ) (given : List Fraction) (unit : Measure) (s : Option Sketch) → polygon_at n text given unit ≡ Ok s → IsFlat s
 unfolding polygon_at IsFlat
 polygon_flat n text given unit s h =
-    let p = then_ok (point_at text given unit) (λ p. diameter_at (part 2 text) given unit >>= λ d. Ok (cond (d == 0) None (Some (Regular p d n)))) s h in
-    let d = then_ok (diameter_at (part 2 text) given unit) (λ d. Ok (cond (d == 0) None (Some (Regular p.0 d n)))) s p.2 in
+    let p = then_ok (point_at text given unit) (λ p. across_at (part 2 text) given unit >>= λ d. Ok (cond (d == 0) None (Some (Regular p d n)))) s h in
+    let d = then_ok (across_at (part 2 text) given unit) (λ d. Ok (cond (d == 0) None (Some (Regular p.0 d n)))) s p.2 in
     by d.0 p.0 (d.0 == 0) d.2
   where
     by : (d : ℕ) (p : Spot) (b : Bool) → ◌≡◌ {A = Result (Option Sketch) MacroFault} (Ok (cond b None (Some (Regular p d n)))) (Ok s) → IsFlat s

@@ -15,7 +15,7 @@ use Rattle.aperture_macros.specs.declared.primitive.Rotation.TheVariants.{Unturn
 use Rattle.aperture_macros.specs.declared.primitive.Row.{Row}
 use Rattle.aperture_macros.specs.declared.fault.MacroFault.{MacroFault}
 use Rattle.aperture_macros.specs.declared.fault.MacroFault.TheVariants.{BadMacro, ExposureOff, Turn}
-use Rattle.aperture_macros.specs.Expression.{is_expression}
+use Rattle.aperture_macros.specs.Expression.{is_expression, is_product}
 
 -- and then, unless there is a fault
 infixl 10 ◌>>=◌
@@ -111,6 +111,15 @@ unfoldable pub are_expressions : ℕ → List ℕ → Bool
 are_expressions zero text = true
 are_expressions (suc n) text = is_expression (before_first is_comma text) && are_expressions n (after_first is_comma text)
 
+-- the diameter of a polygon may be a product
+abbrev pub is_across : List ℕ → Bool
+is_across text = is_product text || is_expression text
+
+-- the lengths of a form are expressions, or such a diameter
+unfoldable pub are_lengths : Form → List ℕ → Bool
+are_lengths (Polygon n) text = are_expressions 2 text && is_across (part 2 text)
+are_lengths other text = are_expressions (count other) text
+
 -- the rotation behind the lengths, 0 where there is none
 abbrev pub rotation_text : Form → ℕ → List ℕ → List ℕ
 rotation_text form n lengths = if has_rotation form n then part (count form) lengths else codes "0"
@@ -139,7 +148,7 @@ turning_at Real exposure written rotation =
 -- the lengths are written as they must be, and then the rotation
 unfoldable pub turned_at : Copper → Form → Fraction → Bool → List ℕ → List ℕ → Result PlainPrimitive MacroFault
 turned_at copper form exposure written lengths rotation =
-    if not (are_expressions (count form) lengths) then Err BadMacro
+    if not (are_lengths form lengths) then Err BadMacro
     else (turning_at copper exposure written rotation >>= λ turning. Ok (record { form = form; rotation = turning; lengths = lengths }))
 
 -- a word of n commas as a primitive of this form; its exposure is a decimal

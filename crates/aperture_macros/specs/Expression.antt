@@ -51,6 +51,31 @@ variable_number (b ∷ digits) = if b == 36 then parameter_number digits else No
 abbrev pub is_term : List ℕ → Bool
 is_term text = is_some (variable_number (unsigned text)) || is_decimal text
 
+-- `x` or `X`, which multiplies
+abbrev pub is_times : ℕ → Bool
+is_times b = b == 120 || b == 88
+
+abbrev pub is_untimed : ℕ → Bool
+is_untimed b = not (is_times b)
+
+-- what stands before the first of these, and what stands behind it
+abbrev pub factor_len : List ℕ → ℕ
+factor_len text = prefix_len is_untimed text
+
+abbrev pub first_factor : List ℕ → List ℕ
+first_factor text = take (factor_len text) text
+
+abbrev pub second_factor : List ℕ → List ℕ
+second_factor text = drop (factor_len text + 1) text
+
+-- a term without a sign
+abbrev pub is_factor : List ℕ → Bool
+is_factor text = sign_len text == 0 && is_term text
+
+-- two such, one times the other
+unfoldable pub is_product : List ℕ → Bool
+is_product text = is_factor (first_factor text) && is_factor (second_factor text)
+
 -- at most n terms, each but the first with a sign before it
 unfoldable pub is_sum : ℕ → List ℕ → Bool
 is_sum zero text = is_empty text

@@ -1,39 +1,37 @@
 -- What primitives flash as they are turned: by quarter turns, or in real copper by degrees.
-use Rattle.std.specs.Prelude.{◌≡◌, ◌≢◌, ℕ, Bool, true, false, ◌&&◌, not, nat_lt, if◌then◌else◌, List, pos, Option, Some, None, Result, Ok, Err}
+use Rattle.std.specs.Prelude.{◌≡◌, ◌≢◌, ℕ, Bool, true, false, ◌&&◌, nat_lt, if◌then◌else◌, List, pos, Option, Some, None, Result, Ok, Err}
 use Rattle.planar.specs.declared.Spot.{Spot}
 use Rattle.board_shapes.specs.Figures.{Figure, Stroke, filled, round}
 use Rattle.lengths.specs.Decimal.{Fraction}
 use Rattle.lengths.specs.declared.decimal.Unit.{Unit as Measure}
 use Rattle.aperture_macros.specs.declared.degrees.Turn.{Turn}
 use Rattle.aperture_macros.specs.declared.primitive.Form.{Form}
-use Rattle.aperture_macros.specs.declared.primitive.Form.TheVariants.{Polygon, VectorLine}
+use Rattle.aperture_macros.specs.declared.primitive.Form.TheVariants.{VectorLine}
 use Rattle.aperture_macros.specs.declared.primitive.Copper.{Copper}
 use Rattle.aperture_macros.specs.declared.primitive.Copper.TheVariants.{Real}
 use Rattle.aperture_macros.specs.declared.primitive.Turning.{Turning}
 use Rattle.aperture_macros.specs.declared.primitive.Turning.TheVariants.{Quarters, Degrees}
 use Rattle.aperture_macros.specs.declared.images.Sketch.{Sketch}
-use Rattle.aperture_macros.specs.declared.images.Sketch.TheVariants.{Regular, Stroke as Line}
+use Rattle.aperture_macros.specs.declared.images.Sketch.TheVariants.{Stroke as Line}
 use Rattle.aperture_macros.specs.declared.fault.MacroFault.{MacroFault}
 use Rattle.aperture_macros.specs.declared.fault.MacroFault.TheVariants.{Turn as Turned}
 use Rattle.aperture_macros.specs.BodyWord.{◌>>=◌, PlainPrimitive, count, part}
 use Rattle.aperture_macros.specs.Degrees.{turn_at}
-use Rattle.aperture_macros.specs.Images.{area_at, figure_by, judged_by, line_at, polygon_at, same_spot}
+use Rattle.aperture_macros.specs.Images.{area_at, figure_by, judged_by, line_at}
 use Rattle.aperture_macros.specs.Telling.{is_moved, told, told_rest, told_round}
 
 -- the turn that the expression behind the lengths says
 abbrev pub turn_behind : Form → List ℕ → List Fraction → Result Turn MacroFault
 turn_behind form text parameters = turn_at (part (count form) text) parameters
 
--- a figure about the origin that other turns than quarter turns would slant or move off the grid: a stroke, or a polygon off the origin
+-- a figure that other turns than quarter turns would slant: a stroke
 abbrev pub is_slanted : Result (Option Sketch) MacroFault → Bool
 is_slanted (Ok (Some (Line p q w))) = true
-is_slanted (Ok (Some (Regular p d n))) = not (same_spot p (record { x = pos 0; y = pos 0 }))
 is_slanted other = false
 
 -- the primitive flashes such a one
 unfoldable pub needs_quarters : Form → List ℕ → List Fraction → Measure → Bool
 needs_quarters VectorLine text parameters unit = is_slanted (line_at Real text parameters unit)
-needs_quarters (Polygon n) text parameters unit = is_slanted (polygon_at n text parameters unit)
 needs_quarters other text parameters unit = false
 
 -- what is judged of how a primitive is turned: such a one is turned by quarter turns alone

@@ -1,5 +1,5 @@
 -- The figures of primitives: about the origin of the macro, and where they are flashed.
-use Rattle.std.specs.Prelude.{ℕ, zero, suc, ◌+◌, Bool, true, ◌&&◌, ◌||◌, ◌==◌, nat_lt, if◌then◌else◌, List, [], ◌∷◌, ◌++◌, map, ◌+ℤ◌, neg_ℤ, int_lt, pos, Option, Some, None, Result, Ok, Err}
+use Rattle.std.specs.Prelude.{ℕ, zero, suc, ◌+◌, ◌/◌, ◌%◌, Bool, true, ◌&&◌, ◌||◌, ◌==◌, nat_lt, if◌then◌else◌, List, [], ◌∷◌, ◌++◌, map, ◌+ℤ◌, neg_ℤ, int_lt, pos, Option, Some, None, Result, Ok, Err}
 use Rattle.std.specs.List.{list_all}
 use Rattle.std.specs.Ordering.{int_eq}
 use Rattle.planar.specs.Plane.{is_placed}
@@ -21,7 +21,8 @@ use Rattle.aperture_macros.specs.declared.images.Sketch.TheVariants.{Disc, Recta
 use Rattle.aperture_macros.specs.declared.fault.MacroFault.{MacroFault}
 use Rattle.aperture_macros.specs.declared.fault.MacroFault.TheVariants.{BadMacro, OutOfRange, Slanted}
 use Rattle.aperture_macros.specs.BodyWord.{◌>>=◌, part, past}
-use Rattle.aperture_macros.specs.Values.{diameter_at, point_at, size_at}
+use Rattle.aperture_macros.specs.Values.{across_at, diameter_at, point_at, size_at}
+use Rattle.aperture_macros.specs.declared.values.TheConstants.{PARTS}
 
 -- the spots are one
 abbrev pub same_spot : Spot → Spot → Bool
@@ -77,7 +78,7 @@ centre_at text parameters unit =
 -- `x,y,d`: a polygon (code 5) has its corners on a circle about its point; none with diameter 0
 unfoldable pub polygon_at : ℕ → List ℕ → List Fraction → Measure → Result (Option Sketch) MacroFault
 polygon_at n text parameters unit =
-    point_at text parameters unit >>= λ p. diameter_at (part 2 text) parameters unit >>= λ d. Ok (if d == 0 then None else Some (Regular p d n))
+    point_at text parameters unit >>= λ p. across_at (part 2 text) parameters unit >>= λ d. Ok (if d == 0 then None else Some (Regular p d n))
 
 -- some points, and n further ones of the text behind them
 unfoldable pub points_from : List Spot → ℕ → List ℕ → List Fraction → Measure → Result (List Spot) MacroFault
@@ -133,9 +134,9 @@ area_at points = if list_all is_placed points then Ok (Some (filled points)) els
 abbrev pub right_of : Spot → ℕ → Spot
 right_of p far = record { x = p.x +ℤ pos far; y = p.y }
 
--- what tells a polygon: its middle, the diameter and the number of corners to the right of it, and the middle again
+-- What tells a polygon: its middle; to the right of it the diameter in whole u and 1 u more, so it is never the middle, the number of corners, and the parts of a u; and the middle again.
 abbrev pub polygon_spots : Spot → ℕ → ℕ → List Spot
-polygon_spots p d n = p ∷ right_of p d ∷ right_of p n ∷ p ∷ []
+polygon_spots p d n = p ∷ right_of p (d / PARTS + 1) ∷ right_of p n ∷ right_of p (d % PARTS) ∷ p ∷ []
 
 -- a figure about the origin, turned and set down at a spot
 unfoldable pub sketch_at : Rotation → Spot → Option Sketch → Result (Option Figure) MacroFault

@@ -1,9 +1,10 @@
 -- Figures about the origin are near it.
-use Rattle.std.specs.Prelude.{Bool, true, false, ◌≤◌, Option, Some, None}
+use Rattle.std.specs.Prelude.{Bool, true, false, ◌*◌, ◌≤◌, Option, Some, None}
 use Rattle.contact.specs.declared.TheConstants.{MOST_DIAMETER}
 use Rattle.board_shapes.specs.Rectangles.{IsReachable}
 use Rattle.planar.specs.Plane.{IsPlaced}
 use Rattle.aperture_macros.specs.declared.images.Sketch.{Sketch}
+use Rattle.aperture_macros.specs.declared.values.TheConstants.{PARTS}
 use Rattle.aperture_macros.specs.declared.images.Sketch.TheVariants.{Disc, Rectangle, Regular, Stroke}
 
 -- a disc, a stroke or a polygon of a lawful diameter, or a rectangle, whose points are
@@ -11,7 +12,7 @@ abbrev pub IsNear : Option Sketch → Type 0
 IsNear None = Unit {0}
 IsNear (Some (Disc p d)) = IsReachable p × (d ≤ MOST_DIAMETER)
 IsNear (Some (Rectangle low high)) = IsReachable low × IsReachable high
-IsNear (Some (Regular p d n)) = IsPlaced p × (d ≤ MOST_DIAMETER)
+IsNear (Some (Regular p d n)) = IsPlaced p × (d ≤ MOST_DIAMETER * PARTS)
 IsNear (Some (Stroke p q w)) = IsReachable p × IsReachable q × (w ≤ MOST_DIAMETER)
 
 -- a disc, or none

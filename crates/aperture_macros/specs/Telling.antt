@@ -1,4 +1,4 @@
--- How real copper tells a figure that is turned: by its contour, by four spots for a disc or a stroke, or by four for a polygon (`Images`), and behind them three spots, which say about where it is turned, and how far.
+-- How real copper tells a figure that is turned: by its contour, by four spots for a disc or a stroke, or by five for a polygon (`Images`), and behind them three spots, which say about where it is turned, and how far.
 use Rattle.std.specs.Prelude.{ℕ, ◌+◌, ◌/◌, ◌%◌, ◌-◌, Bool, ◌&&◌, not, nat_le, nat_lt, if◌then◌else◌, pos, ◌+ℤ◌, ◌-ℤ◌, ◌*ℤ◌, unsigned_abs, List, [], ◌∷◌, ◌++◌, length, take, drop, Option, Some, None}
 use Rattle.planar.specs.declared.Spot.{Spot}
 use Rattle.board_shapes.specs.Figures.{Stroke}

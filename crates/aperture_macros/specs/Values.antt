@@ -1,15 +1,17 @@
 -- What the lengths of a primitive are, in u.
-use Rattle.std.specs.Prelude.{ℕ, zero, suc, ◌-◌, ◌%◌, Bool, ◌==◌, nat_lt, not, if◌then◌else◌, List, ℤ, pos, ◌+ℤ◌, neg_ℤ, unsigned_abs, int_lt, slice_get, Option, Some, None, Result, Ok, Err}
+use Rattle.std.specs.Prelude.{ℕ, zero, suc, ◌-◌, ◌*◌, ◌/◌, ◌%◌, Bool, ◌==◌, nat_lt, not, if◌then◌else◌, List, ℤ, pos, ◌+ℤ◌, neg_ℤ, unsigned_abs, int_lt, slice_get, Option, Some, None, Result, Ok, Err}
 use Rattle.contact.specs.declared.TheConstants.{MOST_DIAMETER}
 use Rattle.planar.specs.declared.Spot.{Spot}
 use Rattle.planar.specs.declared.TheConstants.{METRE}
 use Rattle.lengths.specs.Decimal.{Fraction, chosen, fraction, has_minus, is_decimal, unsigned}
 use Rattle.lengths.specs.Grid.{position_of}
 use Rattle.lengths.specs.declared.decimal.Unit.{Unit as Measure}
+use Rattle.lengths.specs.declared.decimal.Unit.TheVariants.{Mm}
 use Rattle.lengths.specs.declared.decimal.GridFault.{GridFault}
 use Rattle.aperture_macros.specs.declared.fault.MacroFault.{MacroFault}
 use Rattle.aperture_macros.specs.declared.fault.MacroFault.TheVariants.{BadMacro, OffGrid, OutOfRange}
-use Rattle.aperture_macros.specs.Expression.{is_empty, variable_number, first_term, further_terms}
+use Rattle.aperture_macros.specs.Expression.{is_empty, is_product, variable_number, first_factor, first_term, further_terms, second_factor}
+use Rattle.aperture_macros.specs.declared.values.TheConstants.{PARTS, PARTS_OF_PRODUCT}
 use Rattle.aperture_macros.specs.BodyWord.{◌>>=◌, part}
 
 -- how a position that is none is refused
@@ -62,6 +64,32 @@ size_at text parameters unit = coordinate_at text parameters unit >>= as_size
 -- a diameter is at most MOST_DIAMETER
 unfoldable pub diameter_at : List ℕ → List Fraction → Measure → Result ℕ MacroFault
 diameter_at text parameters unit = size_at text parameters unit >>= λ d. if nat_lt MOST_DIAMETER d then Err OutOfRange else Ok d
+
+-- what is not below 0
+abbrev pub as_natural : ℤ → Result ℕ MacroFault
+as_natural u = if int_lt u (pos 0) then Err OutOfRange else Ok (unsigned_abs u)
+
+-- a factor: of a length in a unit, or of a number as in mm, which is in parts of 10^-7 then
+unfoldable pub factor_at : List ℕ → List Fraction → Measure → Result ℕ MacroFault
+factor_at text parameters unit = term_at text parameters unit >>= as_natural
+
+-- a number times a length, in parts of which a u has PARTS
+abbrev pub product_of : ℕ → ℕ → Result ℕ MacroFault
+product_of n u = if n * u % PARTS_OF_PRODUCT == 0 then Ok (n * u / PARTS_OF_PRODUCT) else Err OffGrid
+
+unfoldable pub product_at : List ℕ → List Fraction → Measure → Result ℕ MacroFault
+product_at text parameters unit =
+    factor_at (first_factor text) parameters Mm >>= λ n. factor_at (second_factor text) parameters unit >>= λ u. product_of n u
+
+-- a whole number of u in such parts
+unfoldable pub whole_at : List ℕ → List Fraction → Measure → Result ℕ MacroFault
+whole_at text parameters unit = coordinate_at text parameters unit >>= λ u. as_natural u >>= λ n. Ok (n * PARTS)
+
+-- the diameter of a polygon, in such parts
+unfoldable pub across_at : List ℕ → List Fraction → Measure → Result ℕ MacroFault
+across_at text parameters unit =
+    (if is_product text then product_at text parameters unit else whole_at text parameters unit) >>= λ d.
+    if nat_lt (MOST_DIAMETER * PARTS) d then Err OutOfRange else Ok d
 
 -- the point that the first two parts of a text are
 unfoldable pub point_at : List ℕ → List Fraction → Measure → Result Spot MacroFault

@@ -4,7 +4,7 @@ ghost use Rattle.aperture_macros.specs.BodyWord as spec;
 ghost use Rattle.aperture_macros.specs.Seen.{seen_body, seen_one};
 ghost use Rattle.aperture_macros.specs.Sized.{IsSized};
 
-use crate::expression::is_expression;
+use crate::expression::{is_expression, is_product};
 use crate::fault::MacroFault;
 use crate::primitive::{Copper, Form, Primitive, Rotation, Turning};
 use lengths::decimal::{Decimal, read_decimal};
@@ -13,7 +13,7 @@ use texts::{after_byte, before_byte, begins, is_word};
 /// Reads a word in the body of a macro (Gerber Layer Format Specification, 4.5.1), and takes no
 /// memory: a primitive, or `None` for a comment, which begins with `0`. The forms are `1,e,d,x,y`,
 /// `1,e,d,x,y,r`, `4,e,n,` with n + 1 points and `r`, `20,e,w,x,y,x,y,r` and `21,e,w,h,x,y,r`, and in `Real` copper
-/// `5,e,n,x,y,d,r`.
+/// `5,e,n,x,y,d,r`, where d may be a product.
 ///
 /// `BadMacro` where it is none of these; then `ExposureOff` where the exposure is not equal to 1;
 /// then, where copper is `Exact`, `Turn` where the rotation is not equal to 0, 90, 180 or 270. In `Real` copper the
@@ -196,7 +196,7 @@ fn turned<'a>(
     requires { IsSized form }
     ensures { seen_one result ≡ spec.turned_at copper form exposure.now written lengths.now rotation.now }
 {
-    if !are_expressions(form.row().count(), lengths) {
+    if !are_lengths(form, lengths) {
         return Err(MacroFault::BadMacro);
     }
     let rotation = turning(copper, exposure, written, rotation)?;
@@ -247,6 +247,28 @@ fn exact_turning(exposure: &Decimal, rotation: &[u8]) -> Result<Turning, MacroFa
     }
     let rotation = rotation_of(&degrees)?;
     Ok(Turning::Quarters(rotation))
+}
+
+// Whether the lengths of a form are written as they may be.
+#[tactic(auto, unfolding(crate::specs::BodyWord::are_lengths))]
+fn are_lengths(form: Form, text: &[u8]) -> bool
+    requires { IsSized form }
+    ensures { result ≡ spec.are_lengths form text.now }
+{
+    match form {
+        Form::Polygon(_) => are_expressions(2, text) && is_across(part(2, text)),
+        Form::Circle => are_expressions(form.row().count(), text),
+        Form::Outline(_) => are_expressions(form.row().count(), text),
+        Form::VectorLine => are_expressions(form.row().count(), text),
+        Form::CentreLine => are_expressions(form.row().count(), text),
+    }
+}
+
+// Whether the diameter of a polygon is: a product, or an expression.
+fn is_across(text: &[u8]) -> bool
+    ensures { result ≡ spec.is_across text.now }
+{
+    is_product(text) || is_expression(text)
 }
 
 // Whether the first n parts of a text are expressions.

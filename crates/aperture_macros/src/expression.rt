@@ -91,6 +91,50 @@ fn is_term(text: &[u8]) -> bool
     variable_number(unsigned(text)).is_some() || read_decimal(text).is_some()
 }
 
+// What is no `x` or `X`.
+struct Untimed;
+
+impl ByteClass for Untimed {
+    ghost member = { spec.is_untimed };
+
+    fn has(byte: u8) -> bool {
+        !(byte == b'x' || byte == b'X')
+    }
+}
+
+/// What stands before the first `x` or `X`.
+pub fn first_factor(text: &[u8]) -> &[u8]
+    ensures { result.now ≡ spec.first_factor text.now }
+{
+    &text[..run_len::<Untimed>(text)]
+}
+
+/// What stands behind it, or nothing where there is none.
+pub fn second_factor(text: &[u8]) -> &[u8]
+    ensures { result.now ≡ spec.second_factor text.now }
+{
+    let at = run_len::<Untimed>(text);
+    if at < text.len() {
+        &text[at + 1..]
+    } else {
+        &text[at..]
+    }
+}
+
+fn is_factor(text: &[u8]) -> bool
+    ensures { result ≡ spec.is_factor text.now }
+{
+    sign_len(text) == 0 && is_term(text)
+}
+
+/// Whether a text is a product: two terms without a sign, with `x` or `X` between them.
+#[tactic(auto, unfolding(crate::specs::Expression::is_product))]
+pub fn is_product(text: &[u8]) -> bool
+    ensures { result ≡ spec.is_product text.now }
+{
+    is_factor(first_factor(text)) && is_factor(second_factor(text))
+}
+
 /// Whether a text is an expression: an optional sign and 1 to 64 terms joined by `+` or `-`, each an
 /// unsigned decimal or `$` with a number from 1 to 999.
 #[tactic(auto, unfolding(crate::specs::Expression::is_expression))]

@@ -1,5 +1,5 @@
 //! Primitives with their parameters: whether they are lawful, and what they flash.
-ghost use Rattle.std.specs.Prelude.{◌≡◌, ◌≢◌, ◌^◌, ◌<◌, ◌≤◌, false, true, IfOk, None, Ok, Some, length, map};
+ghost use Rattle.std.specs.Prelude.{◌≡◌, ◌≢◌, ◌*◌, ◌^◌, ◌<◌, ◌≤◌, false, true, IfOk, None, Ok, Some, length, map};
 ghost use Rattle.planar.specs.Plane.{IsPlaced};
 ghost use Rattle.contact.specs.declared.TheConstants.{MOST_DIAMETER};
 ghost use Rattle.area_contact.specs.Contour.{IsClosed};
@@ -14,11 +14,12 @@ ghost use Rattle.aperture_macros.specs.Sketches.{IsNear, is_disc};
 use crate::body_word::part;
 use crate::degrees::{Turn, read_turn};
 use crate::fault::{FigureFault, MacroFault};
-use crate::images::{Sketch, centre_line, circle, line, polygon, same};
+use crate::images::{Sketch, centre_line, circle, line, polygon};
 use crate::outline::{Outline, bounded};
 use crate::placing::Placing;
 use crate::primitive::{Copper, Form, Primitive, Rotation, Turning};
 use crate::telling::{is_moved, told, told_rest, told_round};
+use crate::values::PARTS;
 use board_shapes::{Shape, rectangle};
 use contact::Capsule;
 use lengths::decimal::{Decimal, Unit};
@@ -29,12 +30,12 @@ impl<'a> Primitive<'a> {
     /// Whether the primitive is lawful with the parameters of an aperture definition, `$1` first, in
     /// their unit. It takes no memory.
     ///
-    /// First come the lengths in the order written, each term in turn with its `OffGrid` and its
+    /// First come the lengths in the order written, each term or factor in turn with its `OffGrid` and its
     /// `OutOfRange`, and then the length itself. Then comes `BadMacro`, where an outline's last point
     /// is not its first, or of a vector line along no axis `Slanted`, where copper is `Exact`, and else
     /// `OutOfRange`, where it is wider than `MOST_DIAMETER`. Then, where it is turned by degrees, the rotation, as a
-    /// length is judged with degrees for mm, and `Turn`, where a line along no axis or a polygon off
-    /// the origin is turned by no quarter turns.
+    /// length is judged with degrees for mm, and `Turn`, where a line along no axis is turned by no
+    /// quarter turns.
     pub fn judge(
         &self,
         copper: Copper,
@@ -121,7 +122,7 @@ impl<'a> Primitive<'a> {
         read_turn(part(self.form.row().count(), self.lengths), parameters)
     }
 
-    // Whether other turns than quarter turns would slant its stroke, or move its polygon off the grid.
+    // Whether other turns than quarter turns would slant its stroke.
     #[tactic(auto, unfolding(crate::specs::Flashes::needs_quarters))]
     fn needs_quarters(&self, parameters: &[Decimal], unit: Unit) -> bool
         ensures { result ≡ flashes.needs_quarters self.now.form self.now.lengths.now parameters.now unit }
@@ -131,7 +132,7 @@ impl<'a> Primitive<'a> {
             Form::Circle => false,
             Form::Outline(_) => false,
             Form::CentreLine => false,
-            Form::Polygon(n) => is_slanted(polygon(n, self.lengths, parameters, unit)),
+            Form::Polygon(_) => false,
         }
     }
 
@@ -243,7 +244,7 @@ fn turned_round(
     }
 }
 
-// Whether another turn than quarter turns would slant it, or move it off the grid: a stroke, or a polygon off the origin.
+// Whether another turn than quarter turns would slant it: a stroke.
 fn is_slanted(sketch: Result<Option<Sketch>, MacroFault>) -> bool
     ensures { result ≡ flashes.is_slanted sketch }
 {
@@ -251,7 +252,7 @@ fn is_slanted(sketch: Result<Option<Sketch>, MacroFault>) -> bool
         Ok(Some(Sketch::Stroke(_, _, _))) => true,
         Ok(Some(Sketch::Disc(_, _))) => false,
         Ok(Some(Sketch::Rectangle(_, _))) => false,
-        Ok(Some(Sketch::Regular(p, _, _))) => !same(p, Spot { x: 0, y: 0 }),
+        Ok(Some(Sketch::Regular(_, _, _))) => false,
         Ok(None) => false,
         Err(_) => false,
     }
@@ -301,7 +302,7 @@ fn stroke(p: Spot, q: Spot, w: u64) -> Result<Option<Shape>, FigureFault>
 // What tells a polygon.
 fn marks(alloc: Global, by: Placing, p: Spot, d: u64, n: u32) -> Result<Option<Shape>, FigureFault>
     requires placed { IsPlaced p }
-    requires small { d ≤ MOST_DIAMETER }
+    requires small { d ≤ MOST_DIAMETER * PARTS }
     ensures { Makes result (spec.area_at (map (spec.set_down by.rotation by.at) (spec.polygon_spots p d n))) }
 {
     let spots = mark_spots(by, p, d, n);
@@ -315,17 +316,18 @@ fn marks(alloc: Global, by: Placing, p: Spot, d: u64, n: u32) -> Result<Option<S
 }
 
 // Its spots, each set down.
-fn mark_spots(by: Placing, p: Spot, d: u64, n: u32) -> [Spot; 4]
+fn mark_spots(by: Placing, p: Spot, d: u64, n: u32) -> [Spot; 5]
     requires placed { IsPlaced p }
-    requires small { d ≤ MOST_DIAMETER }
+    requires small { d ≤ MOST_DIAMETER * PARTS }
     ensures value { result ≡ map (spec.set_down by.rotation by.at) (spec.polygon_spots p d n) }
     ensures closed { IsClosed result }
-    ensures four { length result ≡ 4 }
+    ensures five { length result ≡ 5 }
 {
     let middle = by.moved(p);
-    let across = by.moved(right_of(p, d));
+    let across = by.moved(right_of(p, d / PARTS + 1));
     let count = by.moved(right_of(p, n as u64));
-    [middle, across, count, middle]
+    let parts = by.moved(right_of(p, d % PARTS));
+    [middle, across, count, parts, middle]
 }
 
 // So far to the right of a spot.

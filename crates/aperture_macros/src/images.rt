@@ -8,7 +8,7 @@ ghost use Rattle.aperture_macros.specs.Sketches.{IsNear, is_disc};
 use crate::body_word::{part, past};
 use crate::fault::MacroFault;
 use crate::primitive::Copper;
-use crate::values::{diameter, point, size};
+use crate::values::{across, diameter, point, size};
 use board_shapes::corners_around;
 use contact::MOST_DIAMETER;
 use lengths::decimal::{Decimal, Unit};
@@ -16,7 +16,8 @@ use planar::Spot;
 
 /// A figure about the origin, in u: a disc by its centre and its diameter, a rectangle by its lower left
 /// and its upper right corner, the stroke of a slanted line by its ends and its width, at most `MOST_DIAMETER`, or a
-/// regular polygon by its middle, the diameter of the circle through its corners, and their number.
+/// regular polygon by its middle, the diameter of the circle through its corners, in parts of which a u has `PARTS`, and
+/// their number.
 #[derive(Clone, Copy)]
 pub enum Sketch {
     Disc(Spot, u64),
@@ -136,7 +137,7 @@ pub fn polygon(
     ensures near { IfOk result IsNear }
 {
     let p = point(text, parameters, unit)?;
-    let d = diameter(part(2, text), parameters, unit)?;
+    let d = across(part(2, text), parameters, unit)?;
     Ok(if d == 0 {
         None
     } else {

@@ -1,16 +1,24 @@
 //! What lengths are, in u.
-ghost use Rattle.std.specs.Prelude.{◌≡◌, ◌≤◌, pos, IfOk};
+ghost use Rattle.std.specs.Prelude.{◌≡◌, ◌≤◌, ◌*◌, pos, IfOk};
 ghost use Rattle.planar.specs.Plane.{IsPlaced, IsReached};
 ghost use Rattle.contact.specs.declared.TheConstants.{MOST_DIAMETER};
 ghost use Rattle.lengths.specs.Grid.{position_of};
 ghost use Rattle.aperture_macros.specs.Values as spec;
 
 use crate::body_word::part;
-use crate::expression::{MOST_TERMS, first_term, further_terms, variable_number};
+use crate::expression::{
+    MOST_TERMS, first_factor, first_term, further_terms, is_product, second_factor, variable_number,
+};
 use crate::fault::MacroFault;
 use contact::MOST_DIAMETER;
 use lengths::decimal::{Decimal, Unit, has_minus, read_decimal, unsigned};
 use planar::{METRE, Spot};
+
+/// Diameters of polygons are whole in parts of so much of a u, as those of `slants` are.
+pub const PARTS: u64 = 10_000;
+
+// How many parts of 10^-7 times 1 u are such a part.
+const PARTS_OF_PRODUCT: u64 = 10_000_000 / PARTS;
 
 // The position that a decimal is, which stands for itself or for a parameter.
 fn position(decimal: &Decimal, unit: Unit) -> Result<i64, MacroFault>
@@ -116,6 +124,72 @@ pub fn diameter(text: &[u8], parameters: &[Decimal], unit: Unit) -> Result<u64, 
         return Err(MacroFault::OutOfRange);
     }
     Ok(d)
+}
+
+// What is not below 0.
+fn natural(u: i64) -> Result<u64, MacroFault>
+    requires { IsReached u }
+    ensures value { result ≡ spec.as_natural u }
+    ensures small { IfOk result (λ n. n ≤ METRE) }
+{
+    if u < 0 {
+        Err(MacroFault::OutOfRange)
+    } else {
+        Ok(u.unsigned_abs())
+    }
+}
+
+// A factor: a length, or a number as in mm, in parts of 10^-7.
+#[tactic(auto, unfolding(crate::specs::Values::factor_at))]
+fn factor(text: &[u8], parameters: &[Decimal], unit: Unit) -> Result<u64, MacroFault>
+    ensures value { result ≡ spec.factor_at text.now parameters.now unit }
+    ensures small { IfOk result (λ n. n ≤ METRE) }
+{
+    let u = term(text, parameters, unit)?;
+    natural(u)
+}
+
+// A number times a length, in parts of which a u has `PARTS`.
+#[tactic(auto, unfolding(crate::specs::Values::product_at))]
+fn product(text: &[u8], parameters: &[Decimal], unit: Unit) -> Result<u128, MacroFault>
+    ensures value { result ≡ spec.product_at text.now parameters.now unit }
+{
+    let number = factor(first_factor(text), parameters, Unit::Mm)?;
+    let length = factor(second_factor(text), parameters, unit)?;
+    let product = u128::from(number) * u128::from(length);
+    if product % u128::from(PARTS_OF_PRODUCT) == 0 {
+        Ok(product / u128::from(PARTS_OF_PRODUCT))
+    } else {
+        Err(MacroFault::OffGrid)
+    }
+}
+
+// A whole number of u, in such parts.
+#[tactic(auto, unfolding(crate::specs::Values::whole_at))]
+fn whole(text: &[u8], parameters: &[Decimal], unit: Unit) -> Result<u128, MacroFault>
+    ensures value { result ≡ spec.whole_at text.now parameters.now unit }
+{
+    let u = coordinate(text, parameters, unit)?;
+    let n = natural(u)?;
+    Ok(u128::from(n) * u128::from(PARTS))
+}
+
+/// The diameter of a polygon, which may be a product, in parts of which a u has `PARTS`: at most `MOST_DIAMETER`; or its
+/// fault.
+#[tactic(auto, unfolding(crate::specs::Values::across_at))]
+pub fn across(text: &[u8], parameters: &[Decimal], unit: Unit) -> Result<u64, MacroFault>
+    ensures value { result ≡ spec.across_at text.now parameters.now unit }
+    ensures small { IfOk result (λ d. d ≤ MOST_DIAMETER * PARTS) }
+{
+    let d = if is_product(text) {
+        product(text, parameters, unit)?
+    } else {
+        whole(text, parameters, unit)?
+    };
+    if d > u128::from(MOST_DIAMETER * PARTS) {
+        return Err(MacroFault::OutOfRange);
+    }
+    Ok(d as u64)
 }
 
 /// The point, in u, that the first two parts of a text are; or the first fault of the two.

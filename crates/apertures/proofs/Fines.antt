@@ -77,7 +77,7 @@ within (pos n) h = by (int_lt (pos 0) (pos n)) (nat_lt n METRE) refl refl h
     by false b low high k = absurd cc
 within (negsuc n) h = absurd cc
 
-size_lawful : (text : List ℕ) (unit : Measure) (u : ℤ) → fine_size_at text unit ≡ Ok u → IsFineSize u
+pub size_lawful : (text : List ℕ) (unit : Measure) (u : ℤ) → fine_size_at text unit ≡ Ok u → IsFineSize u
 unfolding fine_size_at
 size_lawful text unit u h =
     let b = bind_ok (whole_at text unit) not_beyond u h in
@@ -87,10 +87,10 @@ size_lawful text unit u h =
     by v true is k = let same : v ≡ u = cc in subst IsFineSize same (within v is)
     by v false is k = cc
 
-AreFine : ℤ × ℤ → Type 0
+unfoldable pub AreFine : ℤ × ℤ → Type 0
 AreFine s = IsFineSize s.0 × IsFineSize s.1
 
-sides_lawful : (text : List ℕ) (unit : Measure) (s : ℤ × ℤ) → fine_sides_in text unit ≡ Ok s → AreFine s
+pub sides_lawful : (text : List ℕ) (unit : Measure) (s : ℤ × ℤ) → fine_sides_in text unit ≡ Ok s → AreFine s
 unfolding fine_sides_in AreFine
 sides_lawful text unit s h =
     let x = bind_ok (fine_size_at (before_first is_x text) unit) (λ x. fine_size_at (after_first is_x text) unit >>= λ y. Ok (x, y)) s h in

@@ -13,9 +13,12 @@ use Rattle.apertures.specs.declared.aperture.Aperture.{Aperture}
 use Rattle.apertures.specs.declared.fault.ApertureFault.{ApertureFault}
 use Rattle.apertures.specs.declared.fault.ApertureFault.TheVariants.{BadText, Hole}
 use Rattle.apertures.specs.Definition.{◌>>=◌, aperture_at, as_fault, diameter_at, is_x, last_behind, name_text, not_wide, not_zero, number_digits, numbered_at, side_at, size_at}
-use Rattle.apertures.specs.Holes.{ends_number, frame_behind, frame_in, frame_of, has_further, holed_at, holed_in, is_circle, is_rectangle, parameters, ring_in, ring_of}
+use Rattle.apertures.specs.Fine.{fine_sides_in, fine_size_at}
+use Rattle.apertures.specs.FineHoles.{fine_frame_behind, fine_frame_in, fine_holed_at, fine_holed_in, fine_ring_in, holed_of}
+use Rattle.apertures.specs.Holes.{ends_number, frame_behind, frame_in, frame_of, has_further, holed_at, holed_in, is_circle, is_obround, is_rectangle, is_sided, may_have_hole, parameters, ring_in, ring_of}
 use Rattle.apertures.specs.Laws.{HolesAreSeen}
 use Rattle.apertures.proofs.Bound.{bind_ok}
+use Rattle.apertures.proofs.FineHoles.{first_read, of_either}
 
 pub both : (a b : Bool) → (a && b) ≡ true → (a ≡ true) × (b ≡ true)
 both true b h = (refl, h)
@@ -176,6 +179,24 @@ frame_further text unit a h =
     let y = bind_ok (side_at (before_first is_x rest) unit) (λ y. diameter_at (after_first is_x rest) unit >>= λ hole. frame_of x.0 y hole) a x.2 in
     behind_decimal rest (some_behind rest last.1) (side_read (before_first is_x rest) unit y.0 y.1)
 
+-- ---- Those of any whole sizes
+
+fine_ring_further : (text : List ℕ) (unit : Measure) (a : Aperture) → fine_ring_in text unit ≡ Ok a → has_further text ≡ true
+unfolding fine_ring_in
+fine_ring_further text unit a h =
+    let last = bind_ok (last_behind is_x text) (λ _. fine_sides_in text unit >>= λ s. holed_of (record { round = true; x = s.0; y = s.0; hole = s.1 })) a h in
+    let s = bind_ok (fine_sides_in text unit) (λ s. holed_of (record { round = true; x = s.0; y = s.0; hole = s.1 })) a last.2 in
+    behind_decimal text (some_behind text last.1) (first_read text unit s.0 s.1)
+
+fine_frame_further : (round : Bool) (text : List ℕ) (unit : Measure) (a : Aperture) → fine_frame_in round text unit ≡ Ok a → has_further (after_first is_x text) ≡ true
+unfolding fine_frame_in fine_frame_behind
+fine_frame_further round text unit a h =
+    let rest : List ℕ = after_first is_x text in
+    let last = bind_ok (last_behind is_x rest) (λ _. fine_size_at (before_first is_x text) unit >>= λ x. fine_frame_behind round x rest unit) a h in
+    let x = bind_ok (fine_size_at (before_first is_x text) unit) (λ x. fine_frame_behind round x rest unit) a last.2 in
+    let s = bind_ok (fine_sides_in rest unit) (λ s. holed_of (record { round = round; x = x.0; y = s.0; hole = s.1 })) a x.2 in
+    behind_decimal rest (some_behind rest last.1) (first_read rest unit s.0 s.1)
+
 -- ---- The word
 
 begins_so : (word : List ℕ) (unit : Measure) → aperture_at word unit ≡ Err Hole → begins word (codes "ADD") ≡ true
@@ -186,18 +207,36 @@ begins_so word unit h = by (starts_with nat_eq word (codes "ADD")) refl h
     by true is k = is
     by false is k = absurd cc
 
-seen_in : (word text : List ℕ) (unit : Measure) (a : Aperture) → holed_in word text unit ≡ Ok a → (is_circle word && has_further text || is_rectangle word && has_further (after_first is_x text)) ≡ true
+seen_in : (word text : List ℕ) (unit : Measure) (a : Aperture) → holed_in word text unit ≡ Ok a → (is_circle word && has_further text || is_sided word && has_further (after_first is_x text)) ≡ true
 unfolding holed_in
-seen_in word text unit a h = by (is_circle word) (is_rectangle word) h
+seen_in word text unit a h = by (is_circle word) (is_rectangle word) (is_obround word) h
   where
-    by : (c r : Bool) → cond c (ring_in text unit) (cond r (frame_in text unit) (Err Hole)) ≡ Ok a → (c && has_further text || r && has_further (after_first is_x text)) ≡ true
-    by true r k = rw (further_in text unit a k) refl
-    by false true k = frame_further text unit a k
-    by false false k = absurd cc
+    by : (c r o : Bool) → cond c (ring_in text unit) (cond r (frame_in text unit) (Err Hole)) ≡ Ok a → (c && has_further text || (r || o) && has_further (after_first is_x text)) ≡ true
+    by true r o k = rw (further_in text unit a k) refl
+    by false true o k = frame_further text unit a k
+    by false false o k = absurd cc
 
-pub holes_are_seen : HolesAreSeen
+fine_seen_in : (word text : List ℕ) (unit : Measure) (a : Aperture) → fine_holed_in word text unit ≡ Ok a → (is_circle word && has_further text || is_sided word && has_further (after_first is_x text)) ≡ true
+unfolding fine_holed_in
+fine_seen_in word text unit a h = by (is_circle word) (is_rectangle word) (is_obround word) h
+  where
+    by : (c r o : Bool) → cond c (fine_ring_in text unit) (cond r (fine_frame_in false text unit) (cond o (fine_frame_in true text unit) (Err Hole))) ≡ Ok a → (c && has_further text || (r || o) && has_further (after_first is_x text)) ≡ true
+    by true r o k = rw (fine_ring_further text unit a k) refl
+    by false true o k = fine_frame_further false text unit a k
+    by false false true k = fine_frame_further true text unit a k
+    by false false false k = absurd cc
+
+even_seen : (word : List ℕ) (unit : Measure) (r : ℕ × Aperture) → aperture_at word unit ≡ Err Hole → holed_at word unit ≡ Ok r → may_have_hole word ≡ true
 unfolding holed_at
-holes_are_seen word unit r hole real =
-    let holed : holed_at word unit ≡ Ok r = rw hole at real in
+even_seen word unit r hole holed =
     let s = bind_ok (holed_in word (parameters word) unit) (λ holed. Ok (digits_value 10 (number_digits word), holed)) r holed in
     rw (begins_so word unit hole) (seen_in word (parameters word) unit s.0 s.1)
+
+any_seen : (word : List ℕ) (unit : Measure) (r : ℕ × Aperture) → aperture_at word unit ≡ Err Hole → fine_holed_at word unit ≡ Ok r → may_have_hole word ≡ true
+unfolding fine_holed_at
+any_seen word unit r hole holed =
+    let s = bind_ok (fine_holed_in word (parameters word) unit) (λ holed. Ok (digits_value 10 (number_digits word), holed)) r holed in
+    rw (begins_so word unit hole) (fine_seen_in word (parameters word) unit s.0 s.1)
+
+pub holes_are_seen : HolesAreSeen
+holes_are_seen word unit r hole real = of_either (λ _. may_have_hole word ≡ true) (holed_at word unit) (fine_holed_at word unit) r (even_seen word unit r hole) (any_seen word unit r hole) (rw hole at real)

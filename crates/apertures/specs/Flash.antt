@@ -9,12 +9,14 @@ use Rattle.board_shapes.specs.declared.shape.Shape.{Shape}
 use Rattle.board_shapes.specs.Figures.{Figure, Stroke, filled, round, seen_shape}
 use Rattle.board_shapes.specs.Rectangles.{lower, rectangle, upper}
 use Rattle.apertures.specs.declared.aperture.Aperture.{Aperture}
-use Rattle.apertures.specs.declared.aperture.Aperture.TheVariants.{Circle, Rectangle, Obround, Ring, Frame, FineRectangle, FineObround, FineCircle}
+use Rattle.apertures.specs.declared.aperture.Aperture.TheVariants.{Circle, Rectangle, Obround, Ring, Frame, FineRectangle, FineObround, FineCircle, Holed}
+use Rattle.apertures.specs.declared.aperture.HoledForm.{HoledForm}
 use Rattle.apertures.specs.declared.fault.FlashFault.{FlashFault}
 use Rattle.apertures.specs.declared.fault.FlashFault.TheVariants.{OutOfRange, NoMemory}
 use Rattle.apertures.specs.Definition.{is_zero}
 use Rattle.apertures.specs.Holes.{is_frame, is_ring}
-use Rattle.apertures.specs.Telling.{told_fine, told_frame, told_ring}
+use Rattle.apertures.specs.FineHoles.{is_wide}
+use Rattle.apertures.specs.Telling.{told_fine, told_frame, told_holed, told_ring}
 
 -- a size: even, and from 0 to 1 m
 pub record IsSize (z : ℤ) : Type 0 where
@@ -31,6 +33,14 @@ pub record IsFineSize (z : ℤ) : Type 0 where
   pub some : pos 1 ≤ℤ z
   pub below : unsigned_abs z < METRE
 
+-- every size is one, the hole is less than both sides, and neither a hole nor the lesser side of what is round is over MOST_DIAMETER
+pub record IsHoledForm (form : HoledForm) : Type 0 where
+  pub x : IsFineSize form.x
+  pub y : IsFineSize form.y
+  pub hole : IsFineSize form.hole
+  pub narrow : is_wide form ≡ false
+  pub frame : is_frame (unsigned_abs form.x) (unsigned_abs form.y) (unsigned_abs form.hole) ≡ true
+
 -- every size is one, only a circle has a size of 0, and neither a circle's diameter nor an obround's lesser side is over
 -- MOST_DIAMETER; a hole is less than its circle
 abbrev pub IsLawful : Aperture → Type 0
@@ -42,6 +52,7 @@ IsLawful (Frame x y hole) = IsSize x × IsSize y × IsSize hole × (is_frame (un
 IsLawful (FineRectangle x y) = IsFineSize x × IsFineSize y
 IsLawful (FineObround x y) = IsFineSize x × IsFineSize y × IsNarrow (min (unsigned_abs x) (unsigned_abs y))
 IsLawful (FineCircle d) = IsFineSize d × IsNarrow (unsigned_abs d)
+IsLawful (Holed form) = IsHoledForm form
 
 -- whether the aperture flashes an area, or one that tells it
 abbrev pub is_of_area : Aperture → Bool
@@ -51,6 +62,7 @@ is_of_area (Frame x y hole) = true
 is_of_area (FineRectangle x y) = true
 is_of_area (FineObround x y) = true
 is_of_area (FineCircle d) = true
+is_of_area (Holed form) = true
 is_of_area other = false
 
 -- the least even diameter that is not below a fine one, up to MOST_DIAMETER
@@ -103,6 +115,7 @@ flash_of (Frame x y hole) at = area_at (told_frame (unsigned_abs x) (unsigned_ab
 flash_of (FineRectangle x y) at = area_at (told_fine false (unsigned_abs x) (unsigned_abs y) at)
 flash_of (FineObround x y) at = area_at (told_fine true (unsigned_abs x) (unsigned_abs y) at)
 flash_of (FineCircle d) at = area_at (told_fine true (unsigned_abs d) (unsigned_abs d) at)
+flash_of (Holed form) at = area_at (told_holed form.round (unsigned_abs form.x) (unsigned_abs form.y) (unsigned_abs form.hole) at)
 
 -- the answer is the flash
 abbrev pub IsFlash : Result (Option Shape) FlashFault → Result (Option Figure) NoFlash → Type 0

@@ -1,4 +1,4 @@
--- How a definition is read in real copper, where circles and rectangles may have a round hole (Gerber Layer Format Specification, 4.4.2, 4.4.3 and 4.4.6).
+-- How a definition is read in real copper, where circles and rectangles of even sizes may have a round hole (Gerber Layer Format Specification, 4.4.2, 4.4.3 and 4.4.6).
 use Rattle.std.specs.Prelude.{ℕ, ◌+◌, ◌%◌, Bool, false, ◌&&◌, ◌||◌, ◌==◌, nat_lt, if◌then◌else◌, List, [], ◌∷◌, codes, ℤ, unsigned_abs, Result, Ok, Err}
 use Rattle.std.specs.List.{after_first, before_first}
 use Rattle.std.specs.Str.Parse.{digits_value}
@@ -44,6 +44,13 @@ is_circle word = is_word (name_of (name_text word)) (codes "C")
 abbrev pub is_rectangle : List ℕ → Bool
 is_rectangle word = is_word (name_of (name_text word)) (codes "R")
 
+-- or of an obround, and of one of both
+abbrev pub is_obround : List ℕ → Bool
+is_obround word = is_word (name_of (name_text word)) (codes "O")
+
+abbrev pub is_sided : List ℕ → Bool
+is_sided word = is_rectangle word || is_obround word
+
 -- what stands behind the comma
 abbrev pub parameters : List ℕ → List ℕ
 parameters word = after_first is_comma (name_text word)
@@ -67,6 +74,6 @@ abbrev pub has_further : List ℕ → Bool
 has_further [] = false
 has_further (b ∷ text) = ends_number b && begins text (codes "X") || has_further text
 
--- a circle with a further parameter, or a rectangle with two
+-- a circle with a further parameter, or a rectangle or an obround with two
 abbrev pub may_have_hole : List ℕ → Bool
-may_have_hole word = begins word (codes "ADD") && (is_circle word && has_further (parameters word) || is_rectangle word && has_further (after_first is_x (parameters word)))
+may_have_hole word = begins word (codes "ADD") && (is_circle word && has_further (parameters word) || is_sided word && has_further (after_first is_x (parameters word)))

@@ -1,5 +1,5 @@
--- How real copper tells circles and rectangles with a round hole, and fine apertures: by an area of three spots, or of five, and the first again. Areas that are flashed otherwise have four spots, or six and more, and the first again.
-use Rattle.std.specs.Prelude.{ℕ, ◌+◌, ◌*◌, ◌/◌, ◌-ℤ◌, Bool, int_lt, if◌then◌else◌, unsigned_abs, List, [], ◌∷◌, Option, Some, None}
+-- How real copper tells apertures with a round hole, and fine ones: by an area of three spots, or of five, and the first again. Areas that are flashed otherwise have four spots, or six and more, and the first again.
+use Rattle.std.specs.Prelude.{ℕ, ◌+◌, ◌*◌, ◌/◌, ◌-ℤ◌, Bool, int_lt, if◌then◌else◌, unsigned_abs, List, [], ◌∷◌, Option, Some, None, option_map}
 use Rattle.std.specs.Ordering.{int_eq}
 use Rattle.planar.specs.declared.Spot.{Spot}
 use Rattle.board_shapes.specs.Rectangles.{lower, upper}
@@ -51,3 +51,20 @@ fine_told (middle ∷ one ∷ other ∷ last ∷ []) =
     if int_eq one.y other.y then None
     else Some (record { middle = middle; width = unsigned_abs (one.x -ℤ other.x); height = unsigned_abs (one.y -ℤ other.y); round = int_lt other.y one.y })
 fine_told other = None
+
+-- Of any sizes with a round hole they are those of the fine aperture, and two spots that are as far apart as the hole is wide.
+abbrev pub told_holed : Bool → ℕ → ℕ → ℕ → Spot → List Spot
+told_holed round x y hole at =
+    if round then at ∷ upper at x y ∷ lower at (x + 1) (y + 1) ∷ upper at hole 0 ∷ lower at (hole + 1) 0 ∷ at ∷ []
+    else at ∷ lower at (x + 1) (y + 1) ∷ upper at x y ∷ upper at hole 0 ∷ lower at (hole + 1) 0 ∷ at ∷ []
+
+-- What they tell. Those of a rectangle of even sizes are no such spots: the second is as high as the first.
+pub record Pierced : Type 0 where
+  pub fine : Fine
+  pub hole : ℕ
+
+abbrev pub pierced_told : List Spot → Option Pierced
+pierced_told (middle ∷ one ∷ other ∷ right ∷ left ∷ last ∷ []) =
+    if int_eq one.y middle.y then None
+    else option_map (λ fine. record { fine = fine; hole = unsigned_abs (right.x -ℤ left.x) }) (fine_told (middle ∷ one ∷ other ∷ middle ∷ []))
+pierced_told other = None

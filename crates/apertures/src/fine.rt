@@ -27,9 +27,9 @@ fn whole(text: &[u8], unit: Unit) -> Result<i64, ApertureFault>
     }
 }
 
-// A size that is over 0 and below 1 m, even or odd.
+/// A size that is over 0 and below 1 m, even or odd.
 #[tactic(auto, unfolding(crate::specs::Fine::fine_size_at))]
-fn fine_size(text: &[u8], unit: Unit) -> Result<i64, ApertureFault>
+pub fn fine_size(text: &[u8], unit: Unit) -> Result<i64, ApertureFault>
     ensures { result ≡ spec.fine_size_at text.now unit }
 {
     let u = whole(text, unit)?;
@@ -40,8 +40,9 @@ fn fine_size(text: &[u8], unit: Unit) -> Result<i64, ApertureFault>
     }
 }
 
+/// Two such sizes with an `X` between them.
 #[tactic(auto, unfolding(crate::specs::Fine::fine_sides_in))]
-fn fine_sides(text: &[u8], unit: Unit) -> Result<(i64, i64), ApertureFault>
+pub fn fine_sides(text: &[u8], unit: Unit) -> Result<(i64, i64), ApertureFault>
     ensures { result ≡ spec.fine_sides_in text.now unit }
 {
     let x = fine_size(before_byte(text, b'X'), unit)?;

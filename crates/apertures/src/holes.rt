@@ -25,6 +25,19 @@ pub fn is_rectangle(word: &[u8]) -> bool
     is_word(before_byte(name_text(word), b','), b"R")
 }
 
+/// Whether it is that of an obround.
+pub fn is_obround(word: &[u8]) -> bool
+    ensures { result ≡ spec.is_obround word.now }
+{
+    is_word(before_byte(name_text(word), b','), b"O")
+}
+
+fn is_sided(word: &[u8]) -> bool
+    ensures { result ≡ spec.is_sided word.now }
+{
+    is_rectangle(word) || is_obround(word)
+}
+
 /// What stands behind the comma of a word.
 pub fn parameters(word: &[u8]) -> &[u8]
     ensures { result.now ≡ spec.parameters word.now }
@@ -102,8 +115,8 @@ fn frame_behind(x: i64, text: &[u8], unit: Unit) -> Result<Aperture, ApertureFau
     }
 }
 
-// Whether a hole leaves something at each side of a rectangle.
-fn is_frame(x: u64, y: u64, hole: u64) -> bool
+/// Whether a hole leaves something at each side of a rectangle.
+pub fn is_frame(x: u64, y: u64, hole: u64) -> bool
     ensures { result ≡ spec.is_frame x y hole }
 {
     0 < hole && hole < x && hole < y
@@ -138,7 +151,7 @@ fn has_further(text: &[u8]) -> bool
 
 // Whether a word has parameters for a hole.
 fn has_hole(word: &[u8]) -> bool
-    ensures { result ≡ (spec.is_circle word.now && spec.has_further (spec.parameters word.now) || spec.is_rectangle word.now && spec.has_further (after_first is_x (spec.parameters word.now))) }
+    ensures { result ≡ (spec.is_circle word.now && spec.has_further (spec.parameters word.now) || spec.is_sided word.now && spec.has_further (after_first is_x (spec.parameters word.now))) }
 {
     has_second(word) || has_third(word)
 }
@@ -150,12 +163,12 @@ fn has_second(word: &[u8]) -> bool
 }
 
 fn has_third(word: &[u8]) -> bool
-    ensures { result ≡ (spec.is_rectangle word.now && spec.has_further (after_first is_x (spec.parameters word.now))) }
+    ensures { result ≡ (spec.is_sided word.now && spec.has_further (after_first is_x (spec.parameters word.now))) }
 {
-    is_rectangle(word) && has_further(after_byte(parameters(word), b'X'))
+    is_sided(word) && has_further(after_byte(parameters(word), b'X'))
 }
 
-/// Whether a word may define a circle or a rectangle with a hole.
+/// Whether a word may define a circle, a rectangle or an obround with a hole.
 pub fn may_have_hole(word: &[u8]) -> bool
     ensures { result ≡ spec.may_have_hole word.now }
 {

@@ -118,7 +118,7 @@ fn of_parameters() -> [Word; 13] {
 }
 
 // Words of real copper, in mm: circles and rectangles may have a round hole, and all else is read as above.
-const HOLES: [(&str, &str); 25] = [
+const HOLES: [(&str, &str); 38] = [
     ("ADD10C,1.0X0.5", "Ok((10, Ring(10000000, 5000000)))"),
     ("ADD010C,0.000001X.0000006", "Ok((10, Ring(10, 6)))"),
     ("ADD10C,1.0", "Ok((10, Circle(10000000)))"),
@@ -129,10 +129,16 @@ const HOLES: [(&str, &str); 25] = [
     ),
     ("ADD10R,2X1", "Ok((10, Rectangle(20000000, 10000000)))"),
     ("ADD10R,2X1X0.5X0.5", "Err(Hole)"),
-    ("ADD10O,1X1X0.5", "Err(Hole)"),
+    (
+        "ADD10O,1X2X0.5",
+        "Ok((10, Holed(HoledForm { round: true, x: 10000000, y: 20000000, hole: 5000000 })))",
+    ),
+    ("ADD10O,60X51X1", "Err(OutOfRange)"),
+    ("ADD10O,1X2X1", "Err(Hole)"),
+    ("ADD10O,1X2X.5X.5", "Err(Hole)"),
     // For each parameter in turn.
     ("ADD10C,xX0.0000001", "Err(BadText)"),
-    ("ADD10C,0.0000001Xx", "Err(OffGrid)"),
+    ("ADD10C,0.00000001Xx", "Err(OffGrid)"),
     ("ADD10C,50.0000002Xx", "Err(OutOfRange)"),
     ("ADD10C,1X", "Err(BadText)"),
     ("ADD10C,1X-0.5", "Err(OutOfRange)"),
@@ -141,14 +147,34 @@ const HOLES: [(&str, &str); 25] = [
     ("ADD10R,1X0Xx", "Err(OutOfRange)"),
     ("ADD10R,1X1X", "Err(BadText)"),
     ("ADD10R,60X60X50.0000002", "Err(OutOfRange)"),
-    ("ADD10R,2X1X0", "Err(Hole)"),
+    ("ADD10R,2X1X0", "Err(OutOfRange)"),
     ("ADD10R,2X1X1", "Err(Hole)"),
     ("ADD10R,1X2X1", "Err(Hole)"),
-    // Then whether the hole leaves a ring whose middle line is on the grid.
-    ("ADD10C,1X0", "Err(Hole)"),
+    // Then whether the hole leaves anything.
+    ("ADD10C,1X0", "Err(OutOfRange)"),
     ("ADD10C,1X1", "Err(Hole)"),
     ("ADD10C,1X1.5", "Err(Hole)"),
-    ("ADD10C,0.000001X.0000008", "Err(Hole)"),
+    // Of a ring whose middle line is not on the grid, or of odd sizes, as of fine apertures.
+    (
+        "ADD10C,0.000001X.0000008",
+        "Ok((10, Holed(HoledForm { round: true, x: 10, y: 10, hole: 8 })))",
+    ),
+    (
+        "ADD10C,0.0000011X0.0000005",
+        "Ok((10, Holed(HoledForm { round: true, x: 11, y: 11, hole: 5 })))",
+    ),
+    (
+        "ADD10R,0.0000011X0.000001X0.0000007",
+        "Ok((10, Holed(HoledForm { round: false, x: 11, y: 10, hole: 7 })))",
+    ),
+    ("ADD10C,0.0000011X0.0000011", "Err(Hole)"),
+    ("ADD10R,0.000001X0.0000011X0.000001", "Err(Hole)"),
+    ("ADD10C,0.0000011X0.000001X0.1", "Err(Hole)"),
+    ("ADD10C,0.0000011X0.00000001", "Err(OffGrid)"),
+    ("ADD10C,50.0000001X1", "Err(OutOfRange)"),
+    ("ADD10R,60X60.0000001X50.0000001", "Err(OutOfRange)"),
+    ("ADD10R,1000X1X0.0000001", "Err(OutOfRange)"),
+    ("ADD10R,0.0000001XxX0", "Err(BadText)"),
 ];
 
 #[test]
@@ -238,7 +264,7 @@ fn words_define_apertures(rt: HostRuntime) -> Result<(), Fail> {
 
 /// Words in mm and spots with the shape there: a disc or a capsule by its ends and its radius, an
 /// area by its corners, in u.
-const FLASHES: [(&str, i64, i64, &str); 24] = [
+const FLASHES: [(&str, i64, i64, &str); 27] = [
     ("ADD11C,0", 5, 5, "none"),
     ("ADD10C,1.0", 7, -9, "7 -9, 7 -9, 5000000"),
     ("ADD10C,60", 0, 0, "no aperture"),
@@ -307,6 +333,20 @@ const FLASHES: [(&str, i64, i64, &str); 24] = [
         "[10000000000 0][10000000000 0][9999999999 -1]",
     ),
     ("ADD10C,0.0000001", -10_000_000_000, 0, "OutOfRange"),
+    // What tells one of any sizes with a hole.
+    (
+        "ADD10C,.0000007X.0000003",
+        7,
+        -9,
+        "[7 -9][10 -6][3 -13][8 -9][5 -9]",
+    ),
+    (
+        "ADD10R,.0000007X.0000006X.0000002",
+        7,
+        -9,
+        "[7 -9][3 -12][10 -6][8 -9][6 -9]",
+    ),
+    ("ADD10C,.0000007X.0000003", -9_999_999_997, 0, "OutOfRange"),
 ];
 
 fn shown(alloc: Global, shape: &Shape) -> Result<String, AllocError> {

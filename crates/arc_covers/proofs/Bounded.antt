@@ -1,7 +1,7 @@
 -- A real board is covered by a board above whose pieces stand for its own, and covers one below.
 use Rattle.std.proofs.Common.{◌≡◌, ◌⊎◌, inl, inr, ℕ, suc, option_map, ◌+◌, ◌≤◌, ◌<◌, ℤ, pos, List, [], ◌∷◌, length, map, take, sum, All, Some, slice_get, refl, sym, ap, ◌∙◌, subst, arith}
 use Rattle.std.proofs.lemmas.List.{length-map}
-use Rattle.std.proofs.lemmas.List.Elements.{All-head, All-same, All-tail}
+use Rattle.std.proofs.lemmas.List.Elements.{All-head, All-same, All-tail, All-weaker}
 use Rattle.std.proofs.lemmas.Option.{same_Some, slice_get-map, slice_get_cases, slice_get_within}
 use Rattle.planar.specs.Plane.{Point}
 use Rattle.planar.specs.declared.Spot.{Spot}
@@ -14,6 +14,7 @@ use Rattle.covers.specs.Boards.{Layout, Span, TouchAt}
 use Rattle.covers.specs.Covering.{IsCovered}
 use Rattle.arc_regions.specs.Copper.{PossiblyIn}
 use Rattle.covers.specs.Plain.{InPiece, layout_of, span_of}
+use Rattle.fine_figures.specs.Holes.{InHoled}
 use Rattle.slants.specs.Cones.{PossiblyTurned}
 use Rattle.slants.specs.Discs.{disc_about}
 use Rattle.arc_covers.specs.Bounds.{AreBounds, HoldTogether, InSome, IsOn, StandFor, capsules_from, capsules_of, figures_of, share_of}
@@ -22,7 +23,7 @@ use Rattle.verdict.specs.declared.verdict.Verdict.{Verdict}
 use Rattle.arc_covers.specs.Laws.{AreBoundsOf, AreJudged, LiesBetween}
 use Rattle.arc_covers.specs.RealBoards.{IsCopperOf, IsReal, real_span}
 use Rattle.real_shapes.specs.declared.RealShape.{RealShape}
-use Rattle.real_shapes.specs.declared.RealShape.TheVariants.{Plain, ArcDraw, Fine, Polygon, Region, Slanted, Turned, TurnedDisc}
+use Rattle.real_shapes.specs.declared.RealShape.TheVariants.{Plain, ArcDraw, Fine, Holed, Polygon, Region, Slanted, Turned, TurnedDisc}
 use Rattle.arc_covers.specs.declared.side.Side.TheVariants.{Below, Above}
 use Rattle.arc_covers.proofs.Figures.{as_many}
 use Rattle.arc_covers.proofs.Covered.{AreChain, AreLinks, by_piece, covered, linked, star}
@@ -153,6 +154,19 @@ module _ (holds : ℕ → Point → Type 0) (real : Layout) (b : PlainBoard) (sp
       let m = length-map part (λ (p : PlainPiece). p.figure) in
       absurd (omega arith)
 
+  -- figures that each lie in it
+  below_each : (ps : List PlainPiece) (n : ℕ) → IsAt b.pieces n ps → All (IsOn span.top span.bottom) ps → All (λ f. (q : Point) → InFigure f q → holds i q) (figures_of ps) → (j : ℕ) → n ≤ j → j < n + length ps → IsCovered (InPiece b) (layout_of b) holds real j
+  below_each [] n at on each j from to = absurd (omega arith)
+  below_each (p ∷ ps) n (here, more) on each j from to = elim (cases n j from) [
+    | inl same ↦ subst (λ (m : ℕ). IsCovered (InPiece b) (layout_of b) holds real m) same
+        (by_piece (InPiece b) (layout_of b) holds real span (pos 0) i there n (has_span b span n p here (All-head (IsOn span.top span.bottom) p ps on))
+        (λ q h. All-head (λ f. (q : Point) → InFigure f q → holds i q) p.figure (figures_of ps) each q (out_of_piece b n p p.figure q here refl h)))
+    | inr after ↦ below_each ps (suc n) more (All-tail (IsOn span.top span.bottom) p ps on) (All-tail (λ f. (q : Point) → InFigure f q → holds i q) p.figure (figures_of ps) each) j after (omega arith)
+  ]
+    where
+      cases : (n m : ℕ) → n ≤ m → (n ≡ m) ⊎ (suc n ≤ m)
+      cases n m h = grind arith
+
   -- figures that hold it together: each touches the first
   above_all : (P : Point → Type 0) → ((q : Point) → holds i q → P q) → HoldTogether P (figures_of part) → IsCovered holds real (InPiece b) (layout_of b) i
   above_all P inside h = all part at on h.are where
@@ -175,6 +189,7 @@ module _ (holds : ℕ → Point → Type 0) (real : Layout) (b : PlainBoard) (sp
   above_shape (TurnedDisc disc) copper (s, r, same, bound) = above_one (disc_about s r) same (λ q h. bound q (copper.most q h))
   above_shape (Polygon g) copper (points, same, bound) = above_one (filled points) same (λ q h. bound q (copper.most q h))
   above_shape (Fine fine) copper (f, same, bound) = above_one f same (λ q h. bound q ((copper q).1 h))
+  above_shape (Holed h) copper (f, same, bound) = above_one f same (λ q k. bound q ((copper q).1 k))
   above_shape (Region area) copper together = above_all (PossiblyIn area.start area.parts.items) (λ q h. copper.most q h) together
 
   below_shape : (shape : RealShape) → IsCopperOf shape (holds i) → StandFor Below shape (figures_of part) → (j : ℕ) → first ≤ j → j < first + length part → IsCovered (InPiece b) (layout_of b) holds real j
@@ -191,6 +206,8 @@ module _ (holds : ℕ → Point → Type 0) (real : Layout) (b : PlainBoard) (sp
   below_shape (Polygon g) copper (inr (points, same, bound)) j from to = below_one (filled points) same (λ q h. copper.least q (bound q h)) j from to
   below_shape (Fine fine) copper (inl none) j from to = below_none none j from to
   below_shape (Fine fine) copper (inr (f, same, bound)) j from to = below_one f same (λ q h. (copper q).0 (bound q h)) j from to
+  below_shape (Holed h) copper each j from to =
+      below_each part first at on (All-weaker (λ f. (q : Point) → InFigure f q → InHoled h q) (λ f. (q : Point) → InFigure f q → holds i q) (λ f k q inside. (copper q).0 (k q inside)) (figures_of part) each) j from to
   below_shape (Region area) copper (inl none) j from to = below_none none j from to
   below_shape (Region area) copper (inr (points, same, bound)) j from to = below_one (filled points) same (λ q h. copper.least q (bound q h)) j from to
 

@@ -7,8 +7,9 @@ use Rattle.board_shapes.specs.declared.shape.Shape.{Shape}
 use Rattle.arcs.specs.declared.Arc.{Arc}
 use Rattle.arc_regions.specs.declared.Region.{Region as Contour}
 use Rattle.real_shapes.specs.declared.RealShape.{RealShape}
+use Rattle.fine_figures.specs.declared.HoledFigure.{HoledFigure}
 use Rattle.slants.specs.declared.figure.TurnedFigure.{TurnedFigure}
-use Rattle.real_shapes.specs.declared.RealShape.TheVariants.{ArcDraw, Fine, Plain, Polygon, Region, Slanted, Turned, TurnedDisc}
+use Rattle.real_shapes.specs.declared.RealShape.TheVariants.{ArcDraw, Fine, Holed, Plain, Polygon, Region, Slanted, Turned, TurnedDisc}
 use Rattle.arc_covers.specs.Bounds.{OneFigure, OrNone, figures_of}
 use Rattle.arc_covers.specs.Taken.{AloneTaken, StandTaken}
 use Rattle.arc_covers.specs.declared.side.Side.{Side}
@@ -56,6 +57,7 @@ alone_is side (Plain shape) figures h = absurd h
 alone_is side (ArcDraw arc) figures h = absurd h
 alone_is side (Region area) figures h = absurd h
 alone_is side (Turned t) figures h = absurd h
+alone_is side (Holed f) figures h = absurd h
 
 pub no_pieces : (side : Side) (real : RealShape) (pieces : List (Placed Shape)) (b : Bool) → length pieces < 1 → IsTrue b ↔ (side ≡ Below) → IsTrue b ↔ OrNone side (AloneTaken side real) (figures_of (plain_pieces pieces))
 no_pieces side real [] b none told = or_none side (AloneTaken side real) [] b (λ h. let one = alone_is side real [] h in absurd (omega (arith, one))) refl told
@@ -67,13 +69,14 @@ more_pieces side real (p ∷ []) some = absurd (omega arith)
 more_pieces side real (p ∷ q ∷ rest) some = or_more side (AloneTaken side real) (figure_of p.shape) (figure_of q.shape) (figures_of (plain_pieces rest)) (figures_of (plain_pieces (p ∷ q ∷ rest))) false (λ h. let one = alone_is side real (figures_of (plain_pieces (p ∷ q ∷ rest))) h in absurd (omega (arith, one))) refl refl
 
 -- and stands so
-pub alone_stands : (side : Side) (real : RealShape) (figures : List Figure) (b : Bool) → ((x : Shape) → real ≡ Plain x → ⊥) → ((x : Arc) → real ≡ ArcDraw x → ⊥) → ((x : Contour) → real ≡ Region x → ⊥) → ((x : TurnedFigure) → real ≡ Turned x → ⊥)
+pub alone_stands : (side : Side) (real : RealShape) (figures : List Figure) (b : Bool) → ((x : Shape) → real ≡ Plain x → ⊥) → ((x : Arc) → real ≡ ArcDraw x → ⊥) → ((x : Contour) → real ≡ Region x → ⊥) → ((x : TurnedFigure) → real ≡ Turned x → ⊥) → ((x : HoledFigure) → real ≡ Holed x → ⊥)
     → IsTrue b ↔ OrNone side (AloneTaken side real) figures → IsTrue b ↔ StandTaken side real figures
-alone_stands side (Slanted line) figures b plain bent curved turned told = told
-alone_stands side (Turned t) figures b plain bent curved turned told = absurd (turned t refl)
-alone_stands side (TurnedDisc disc) figures b plain bent curved turned told = told
-alone_stands side (Polygon g) figures b plain bent curved turned told = told
-alone_stands side (Fine fine) figures b plain bent curved turned told = told
-alone_stands side (Plain shape) figures b plain bent curved turned told = absurd (plain shape refl)
-alone_stands side (ArcDraw arc) figures b plain bent curved turned told = absurd (bent arc refl)
-alone_stands side (Region area) figures b plain bent curved turned told = absurd (curved area refl)
+alone_stands side (Slanted line) figures b plain bent curved turned drilled told = told
+alone_stands side (Turned t) figures b plain bent curved turned drilled told = absurd (turned t refl)
+alone_stands side (TurnedDisc disc) figures b plain bent curved turned drilled told = told
+alone_stands side (Polygon g) figures b plain bent curved turned drilled told = told
+alone_stands side (Fine fine) figures b plain bent curved turned drilled told = told
+alone_stands side (Plain shape) figures b plain bent curved turned drilled told = absurd (plain shape refl)
+alone_stands side (ArcDraw arc) figures b plain bent curved turned drilled told = absurd (bent arc refl)
+alone_stands side (Region area) figures b plain bent curved turned drilled told = absurd (curved area refl)
+alone_stands side (Holed f) figures b plain bent curved turned drilled told = absurd (drilled f refl)

@@ -4,10 +4,11 @@ use Rattle.std.specs.Bool.{Decides}
 use Rattle.std.specs.Ordering.{int_eq}
 use Rattle.std.proofs.lemmas.Bool.Decides.{Decides-and, Decides-int_eq, Decides-like}
 use Rattle.std.proofs.lemmas.List.{drop_more, take_all}
-use Rattle.std.proofs.lemmas.List.Elements.{All-cons, All-head, All-map, All-nil, All-tail}
+use Rattle.std.proofs.lemmas.List.Elements.{All-cons, All-head, All-map, All-nil, All-tail, All-weaker}
 use Rattle.std.proofs.lemmas.Option.{same_Some}
 use Rattle.planar.specs.declared.Spot.{Spot}
-use Rattle.board_shapes.specs.Figures.{Figure, Stroke, figure_of, filled, round}
+use Rattle.planar.specs.Plane.{Point}
+use Rattle.board_shapes.specs.Figures.{Figure, InFigure, Stroke, figure_of, filled, round}
 use Rattle.board_shapes.specs.Pieces.{PlainPiece, plain_piece, plain_pieces}
 use Rattle.board_shapes.specs.declared.placed.Placed.{Placed}
 use Rattle.board_shapes.specs.declared.shape.Shape.{Shape}
@@ -16,17 +17,21 @@ use Rattle.lengths.specs.declared.rows.NoMemory.{NoMemory}
 use Rattle.arcs.specs.Copper.{InChain}
 use Rattle.arcs.specs.Laws.{TakenIsBetween}
 use Rattle.slants.specs.Laws as slants
-use Rattle.slants.specs.Laws.{DiscsAreBetween, PolygonIsBetween}
+use Rattle.slants.specs.Laws.{DiscsAreBetween}
+use Rattle.turned_polygons.specs.Laws.{TurnedPolygonIsBetween}
 use Rattle.slants.specs.declared.Slant.{Slant}
 use Rattle.slants.specs.declared.discs.TurnedDisc.{TurnedDisc as Disc}
-use Rattle.slants.specs.declared.polygons.RegularPolygon.{RegularPolygon}
-use Rattle.fine_figures.specs.Laws.{FineIsBetween}
+use Rattle.turned_polygons.specs.declared.TurnedPolygon.{TurnedPolygon}
+use Rattle.fine_figures.specs.Holes.{HoledBelow, InHoled}
+use Rattle.fine_figures.specs.Laws.{FineIsBetween, HoledIsBetween}
 use Rattle.fine_figures.specs.declared.FineFigure.{FineFigure}
-use Rattle.arc_covers.specs.Bounds.{BoundRegion, BoundTurned, DiscFor, FigureFor, IsBound, IsDiscBound, IsFineBound, IsLineBound, IsOn, IsPolygonBound, ContourFor, PiecesStandFor, StandFor, capsules_from, capsules_of, figures_of}
+use Rattle.fine_figures.specs.declared.HoledFigure.{HoledFigure}
+use Rattle.arc_covers.specs.Eighths.{frame_about}
+use Rattle.arc_covers.specs.Bounds.{BoundHoled, BoundRegion, BoundTurned, DiscFor, FigureFor, IsBound, IsDiscBound, IsFineBound, IsLineBound, IsOn, IsPolygonBound, ContourFor, PiecesStandFor, StandFor, capsules_from, capsules_of, figures_of}
 use Rattle.arc_regions.specs.declared.Region.{Region as Contour}
-use Rattle.arc_covers.specs.Taken.{IsDiscTaken, IsFineTaken, IsLineTaken, IsPolygonTaken, IsTaken, PiecesAreTaken, RegionTaken, StandTaken, TurnedTaken}
+use Rattle.arc_covers.specs.Taken.{HoledTaken, IsDiscTaken, IsFineTaken, IsLineTaken, IsPolygonTaken, IsTaken, PiecesAreTaken, RegionTaken, StandTaken, TurnedTaken}
 use Rattle.real_shapes.specs.declared.RealShape.{RealShape}
-use Rattle.real_shapes.specs.declared.RealShape.TheVariants.{ArcDraw, Fine, Plain, Polygon, Region, Slanted, Turned, TurnedDisc}
+use Rattle.real_shapes.specs.declared.RealShape.TheVariants.{ArcDraw, Fine, Holed, Plain, Polygon, Region, Slanted, Turned, TurnedDisc}
 use Rattle.arc_covers.specs.declared.side.Side.{Side}
 use Rattle.arc_covers.specs.declared.side.Side.TheVariants.{Above, Below}
 
@@ -182,9 +187,9 @@ pub layers_refused : (side : Side) (real : Placed RealShape) (pieces : List (Pla
 layers_refused side real pieces b on is off told = (λ yes. absurd cc, λ t. let yes = told.1 (of_pieces (IsOn real.top real.bottom) pieces t.layers) in absurd cc)
 
 -- what is taken stands
-pub stands : (side : Side) (real : Placed RealShape) (pieces : List PlainPiece) → TakenIsBetween → slants.TakenIsBetween → DiscsAreBetween → PolygonIsBetween → FineIsBetween → ((side : Side) (area : Contour) (figures : List Figure) → RegionTaken side area figures → BoundRegion side area figures)
+pub stands : (side : Side) (real : Placed RealShape) (pieces : List PlainPiece) → TakenIsBetween → slants.TakenIsBetween → DiscsAreBetween → TurnedPolygonIsBetween → FineIsBetween → HoledIsBetween → ((side : Side) (area : Contour) (figures : List Figure) → RegionTaken side area figures → BoundRegion side area figures)
     → ((side : Side) (contour : List Spot) (about : Spot) (angle : ℕ) (figures : List Figure) → TurnedTaken side contour about angle figures → BoundTurned side contour about angle figures) → PiecesAreTaken side real pieces → PiecesStandFor side real pieces
-stands side real pieces law lines discs polygons fines regions turned t = record { figures = by side real.shape t.figures; layers = t.layers }
+stands side real pieces law lines discs polygons fines holes regions turned t = record { figures = by side real.shape t.figures; layers = t.layers }
   where
     bound : (side : Side) (arc : Arc) (chain : List Spot) (r : ℕ) → IsTaken side arc chain r → IsBound side arc chain (pos r)
     bound Below arc chain r (inl none) = λ p inside. absurd (subst (λ (c : List Spot). InChain c (pos r) p) none inside)
@@ -204,7 +209,7 @@ stands side real pieces law lines discs polygons fines regions turned t = record
     one_disc Below disc figures (inr (s, r, same, h)) = inr (s, r, same, disc_bound Below disc s r h)
     one_disc Above disc figures (s, r, same, h) = (s, r, same, disc_bound Above disc s r h)
 
-    polygon_bound : (side : Side) (g : RegularPolygon) (points : List Spot) → IsPolygonTaken side g points → IsPolygonBound side g points
+    polygon_bound : (side : Side) (g : TurnedPolygon) (points : List Spot) → IsPolygonTaken side g points → IsPolygonBound side g points
     polygon_bound Below g points taken = λ p inside. (polygons g points p).0 taken inside
     polygon_bound Above g points taken = λ p inside. (polygons g points p).1 taken inside
 
@@ -216,6 +221,10 @@ stands side real pieces law lines discs polygons fines regions turned t = record
     one_figure Below fine figures (inl none) = inl none
     one_figure Below fine figures (inr (f, same, h)) = inr (f, same, fine_bound Below fine f h)
     one_figure Above fine figures (f, same, h) = (f, same, fine_bound Above fine f h)
+
+    with_hole : (side : Side) (h : HoledFigure) (figures : List Figure) → HoledTaken side h figures → BoundHoled side h figures
+    with_hole Below h figures each = All-weaker (HoledBelow (frame_about h.centre) h) (λ f. (p : Point) → InFigure f p → InHoled h p) (λ f taken p inside. (holes h (frame_about h.centre) f p).0 taken inside) figures each
+    with_hole Above h figures (f, same, taken) = (f, same, λ p inside. (holes h (frame_about h.centre) f p).1 taken inside)
 
     one_area : (side : Side) (P Q : List Spot → Type 0) (figures : List Figure) → ((points : List Spot) → P points → Q points) → ContourFor side P figures → ContourFor side Q figures
     one_area Below P Q figures more (inl none) = inl none
@@ -231,3 +240,4 @@ stands side real pieces law lines discs polygons fines regions turned t = record
     by side (TurnedDisc disc) h = one_disc side disc (figures_of pieces) h
     by side (Polygon g) h = one_area side (IsPolygonTaken side g) (IsPolygonBound side g) (figures_of pieces) (polygon_bound side g) h
     by side (Fine fine) h = one_figure side fine (figures_of pieces) h
+    by side (Holed f) h = with_hole side f (figures_of pieces) h

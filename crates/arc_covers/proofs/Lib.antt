@@ -3,6 +3,7 @@ mod Contours
 mod Counted
 mod Covered
 mod Figures
+mod Drilled
 mod Findings
 mod Listed
 mod Lying

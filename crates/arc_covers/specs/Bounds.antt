@@ -8,17 +8,19 @@ use Rattle.board_shapes.specs.declared.placed.Placed.{Placed}
 use Rattle.arcs.specs.Copper.{InChain, Possibly, Surely}
 use Rattle.arcs.specs.declared.Arc.{Arc}
 use Rattle.real_shapes.specs.declared.RealShape.{RealShape}
-use Rattle.real_shapes.specs.declared.RealShape.TheVariants.{Plain, ArcDraw, Slanted, Region, Turned, TurnedDisc, Polygon, Fine}
+use Rattle.real_shapes.specs.declared.RealShape.TheVariants.{Plain, ArcDraw, Slanted, Region, Turned, TurnedDisc, Polygon, Fine, Holed}
 use Rattle.slants.specs.Cones.{PossiblyTurned, SurelyTurned}
 use Rattle.slants.specs.Copper.{InSlant}
 use Rattle.slants.specs.Discs.{PossiblyInDisc, SurelyInDisc, disc_about}
-use Rattle.slants.specs.Polygons.{PossiblyInPolygon, SurelyInPolygon}
-use Rattle.slants.specs.declared.polygons.RegularPolygon.{RegularPolygon}
+use Rattle.turned_polygons.specs.Copper as polygons
+use Rattle.turned_polygons.specs.declared.TurnedPolygon.{TurnedPolygon}
 use Rattle.arc_regions.specs.Copper.{PossiblyIn, SurelyIn}
 use Rattle.arc_regions.specs.declared.Region.{Region as Contour}
 use Rattle.contact.specs.Solid.{SharePoint}
 use Rattle.fine_figures.specs.Fine.{InFine}
+use Rattle.fine_figures.specs.Holes.{InHoled}
 use Rattle.fine_figures.specs.declared.FineFigure.{FineFigure}
+use Rattle.fine_figures.specs.declared.HoledFigure.{HoledFigure}
 use Rattle.slants.specs.declared.Slant.{Slant}
 use Rattle.slants.specs.declared.discs.TurnedDisc.{TurnedDisc as Disc}
 use Rattle.arc_covers.specs.declared.side.Side.{Side}
@@ -48,10 +50,10 @@ abbrev pub IsDiscBound : Side → Disc → Spot → ℕ → Type 0
 IsDiscBound Below disc s r = (p : Point) → InFigure (disc_about s r) p → SurelyInDisc disc p
 IsDiscBound Above disc s r = (p : Point) → PossiblyInDisc disc p → InFigure (disc_about s r) p
 
--- what a contour bounds lies in the polygon at all turns of its cones, or holds it at each
-abbrev pub IsPolygonBound : Side → RegularPolygon → List Spot → Type 0
-IsPolygonBound Below g points = (p : Point) → InFigure (filled points) p → SurelyInPolygon g p
-IsPolygonBound Above g points = (p : Point) → PossiblyInPolygon g p → InFigure (filled points) p
+-- what a contour bounds lies in the polygon at all turns of its cones and of its middle's, or holds it at each
+abbrev pub IsPolygonBound : Side → TurnedPolygon → List Spot → Type 0
+IsPolygonBound Below g points = (p : Point) → InFigure (filled points) p → polygons.SurelyIn g p
+IsPolygonBound Above g points = (p : Point) → polygons.PossiblyIn g p → InFigure (filled points) p
 
 -- a figure lies in the fine one, or holds it
 abbrev pub IsFineBound : Side → FineFigure → Figure → Type 0
@@ -108,8 +110,13 @@ abbrev pub BoundTurned : Side → List Spot → Spot → ℕ → List Figure →
 BoundTurned Below contour about angle figures = ContourFor Below (λ points. (p : Point) → InFigure (filled points) p → SurelyTurned contour about angle p) figures
 BoundTurned Above contour about angle figures = HoldTogether (PossiblyTurned contour about angle) figures
 
+-- below each of them lies in the fine figure with a hole, above one holds it
+abbrev pub BoundHoled : Side → HoledFigure → List Figure → Type 0
+BoundHoled Below h figures = All (λ f. (p : Point) → InFigure f p → InHoled h p) figures
+BoundHoled Above h figures = OneFigure (λ f. (p : Point) → InHoled h p → InFigure f p) figures
+
 -- for a figure stands the figure itself, for an arc draw the capsules of one chain of one radius that is a bound: below it maybe none; for a slanted line or a polygon one contour that is: below it maybe none; for a turned disc one disc, or below it none, for a fine figure one figure, or below it none;
--- for a region and a turned figure below one contour that lies in it or none, above figures that hold it together
+-- for a region and a turned figure below one contour that lies in it or none, above figures that hold it together; for a fine figure with a hole below any figures that lie in it, above one
 abbrev pub StandFor : Side → RealShape → List Figure → Type 0
 StandFor side (Plain shape) figures = figures ≡ figure_of shape ∷ []
 StandFor side (ArcDraw arc) figures = (chain : List Spot) × (r : ℕ) × (figures ≡ capsules_of chain (pos r)) × IsBound side arc chain (pos r)
@@ -119,6 +126,7 @@ StandFor side (Turned t) figures = BoundTurned side t.contour.items t.about t.an
 StandFor side (TurnedDisc disc) figures = DiscFor side (IsDiscBound side disc) figures
 StandFor side (Polygon g) figures = ContourFor side (IsPolygonBound side g) figures
 StandFor side (Fine fine) figures = FigureFor side (IsFineBound side fine) figures
+StandFor side (Holed h) figures = BoundHoled side h figures
 
 -- the figures of the pieces
 abbrev pub figures_of : List PlainPiece → List Figure

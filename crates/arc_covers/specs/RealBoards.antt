@@ -6,15 +6,16 @@ use Rattle.board_shapes.specs.declared.placed.Placed.{Placed}
 use Rattle.arcs.specs.Copper.{IsCopper}
 use Rattle.covers.specs.Boards.{Layout, Span}
 use Rattle.fine_figures.specs.Fine.{InFine}
+use Rattle.fine_figures.specs.Holes.{InHoled}
 use Rattle.real_shapes.specs.declared.RealShape.{RealShape}
-use Rattle.real_shapes.specs.declared.RealShape.TheVariants.{Plain, ArcDraw, Slanted, Region, Turned, TurnedDisc, Polygon, Fine}
+use Rattle.real_shapes.specs.declared.RealShape.TheVariants.{Plain, ArcDraw, Slanted, Region, Turned, TurnedDisc, Polygon, Fine, Holed}
 use Rattle.slants.specs.Cones.{IsTurnedCopper}
 use Rattle.slants.specs.Copper.{InSlant}
 use Rattle.slants.specs.Discs.{IsDiscCopper}
-use Rattle.slants.specs.Polygons.{IsPolygonCopper}
+use Rattle.turned_polygons.specs.Copper.{IsTurnedPolygonCopper}
 use Rattle.arc_regions.specs.Copper as regions
 
--- the points are those of the figure, the slanted line or the fine figure, or a copper of the arc draw, the region, the turned figure or disc, or the polygon
+-- the points are those of the figure, the slanted line or the fine figure, with a hole or without, or a copper of the arc draw, the region, the turned figure or disc, or the polygon
 abbrev pub IsCopperOf : RealShape → (Point → Type 0) → Type 0
 IsCopperOf (Plain shape) holds = (p : Point) → InFigure (figure_of shape) p ↔ holds p
 IsCopperOf (ArcDraw arc) holds = IsCopper arc holds
@@ -22,8 +23,9 @@ IsCopperOf (Slanted line) holds = (p : Point) → InSlant line p ↔ holds p
 IsCopperOf (Region area) holds = regions.IsCopper area.start area.parts.items holds
 IsCopperOf (Turned t) holds = IsTurnedCopper t.contour.items t.about t.angle holds
 IsCopperOf (TurnedDisc disc) holds = IsDiscCopper disc holds
-IsCopperOf (Polygon g) holds = IsPolygonCopper g holds
+IsCopperOf (Polygon g) holds = IsTurnedPolygonCopper g holds
 IsCopperOf (Fine fine) holds = (p : Point) → InFine fine p ↔ holds p
+IsCopperOf (Holed h) holds = (p : Point) → InHoled h p ↔ holds p
 
 -- the layers of the piece
 abbrev pub real_span : Placed RealShape → Span

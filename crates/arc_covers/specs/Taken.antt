@@ -7,18 +7,20 @@ use Rattle.board_shapes.specs.declared.placed.Placed.{Placed}
 use Rattle.arcs.specs.Taken.{TakenAbove, TakenBelow}
 use Rattle.arcs.specs.declared.Arc.{Arc}
 use Rattle.real_shapes.specs.declared.RealShape.{RealShape}
-use Rattle.real_shapes.specs.declared.RealShape.TheVariants.{Plain, ArcDraw, Slanted, Region, Turned, TurnedDisc, Polygon, Fine}
+use Rattle.real_shapes.specs.declared.RealShape.TheVariants.{Plain, ArcDraw, Slanted, Region, Turned, TurnedDisc, Polygon, Fine, Holed}
 use Rattle.slants.specs.Cones.{FigureAbove, FigureBelow}
 use Rattle.slants.specs.Discs.{DiscAbove, DiscBelow}
-use Rattle.slants.specs.Polygons.{PolygonAbove, PolygonBelow}
+use Rattle.turned_polygons.specs.Taken.{TurnedPolygonAbove, TurnedPolygonBelow}
 use Rattle.slants.specs.Taken as slants
 use Rattle.slants.specs.declared.Slant.{Slant}
 use Rattle.slants.specs.declared.discs.TurnedDisc.{TurnedDisc as Disc}
-use Rattle.slants.specs.declared.polygons.RegularPolygon.{RegularPolygon}
+use Rattle.turned_polygons.specs.declared.TurnedPolygon.{TurnedPolygon}
 use Rattle.arc_regions.specs.declared.Region.{Region as Contour}
 use Rattle.fine_figures.specs.Taken as fine_figures
+use Rattle.fine_figures.specs.Holes.{HoledAbove, HoledBelow}
 use Rattle.fine_figures.specs.declared.FineFigure.{FineFigure}
-use Rattle.arc_covers.specs.Eighths.{LiesBelow}
+use Rattle.fine_figures.specs.declared.HoledFigure.{HoledFigure}
+use Rattle.arc_covers.specs.Eighths.{LiesBelow, frame_about}
 use Rattle.arc_covers.specs.Outlines.{OutlineLies, OutlineStands}
 use Rattle.arc_covers.specs.Regions.{RegionAbove}
 use Rattle.arc_covers.specs.Bounds.{AddUp, IsOn, ContourFor, DiscFor, FigureFor, OneContour, OneDisc, OneFigure, capsules_of, figures_of, share_of}
@@ -45,15 +47,20 @@ abbrev pub IsDiscTaken : Side → Disc → Spot → ℕ → Type 0
 IsDiscTaken Below disc s r = DiscBelow disc s r
 IsDiscTaken Above disc s r = DiscAbove disc s r
 
--- and for the regular polygon
-abbrev pub IsPolygonTaken : Side → RegularPolygon → List Spot → Type 0
-IsPolygonTaken Below g points = PolygonBelow g points
-IsPolygonTaken Above g points = PolygonAbove g points
+-- those of `turned_polygons` the contour for the polygon
+abbrev pub IsPolygonTaken : Side → TurnedPolygon → List Spot → Type 0
+IsPolygonTaken Below g points = TurnedPolygonBelow g points
+IsPolygonTaken Above g points = TurnedPolygonAbove g points
 
 -- the checks of `fine_figures` take the figure
 abbrev pub IsFineTaken : Side → FineFigure → Figure → Type 0
 IsFineTaken Below fine f = fine_figures.TakenBelow fine f
 IsFineTaken Above fine f = fine_figures.TakenAbove fine f
+
+-- below each figure of a square metre about the centre; above one
+abbrev pub HoledTaken : Side → HoledFigure → List Figure → Type 0
+HoledTaken Below h figures = All (HoledBelow (frame_about h.centre) h) figures
+HoledTaken Above h figures = OneFigure (HoledAbove h) figures
 
 -- below they are one contour that is taken, or none; above the polygon and the capsules of chains that are
 abbrev pub RegionTaken : Side → Contour → List Figure → Type 0
@@ -66,7 +73,7 @@ TurnedTaken Below contour about angle figures = ContourFor Below (λ points. IsT
 TurnedTaken Above contour about angle figures = OneContour (IsTurnedTaken Above contour about angle) figures ⊎ OutlineStands contour about angle figures
 
 -- For a figure that figure, for a slanted line or a polygon one contour that is taken or below none. For an arc draw the capsules of one chain of one radius that is taken. Capsules have one chain; no capsules are those of none and of each single
--- spot, of which the former is taken below and nothing above. For a region or a turned figure what its own check takes, for a turned disc one disc and for a fine figure one figure that is taken or below none
+-- spot, of which the former is taken below and nothing above. For a region or a turned figure what its own check takes, for a turned disc one disc and for a fine figure one figure that is taken or below none, for one with a hole below any that are and above one
 abbrev pub StandTaken : Side → RealShape → List Figure → Type 0
 StandTaken side (Plain shape) figures = figures ≡ figure_of shape ∷ []
 StandTaken side (ArcDraw arc) figures = (chain : List Spot) × (r : ℕ) × (figures ≡ capsules_of chain (pos r)) × IsTaken side arc chain r
@@ -76,6 +83,7 @@ StandTaken side (Turned t) figures = TurnedTaken side t.contour.items t.about t.
 StandTaken side (TurnedDisc disc) figures = DiscFor side (IsDiscTaken side disc) figures
 StandTaken side (Polygon g) figures = ContourFor side (IsPolygonTaken side g) figures
 StandTaken side (Fine fine) figures = FigureFor side (IsFineTaken side fine) figures
+StandTaken side (Holed h) figures = HoledTaken side h figures
 
 -- For those that one figure alone bounds, that figure
 abbrev pub AloneTaken : Side → RealShape → List Figure → Type 0

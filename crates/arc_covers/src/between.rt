@@ -7,6 +7,7 @@ ghost use Rattle.arc_covers.specs.declared.side.Side.TheVariants.{Above, Below};
 ghost use Rattle.board_shapes.specs.Pieces.{plain_pieces};
 ghost use Rattle.std.specs.Prelude.{IfErr, IfOk, IsTrue, drop, length, sum, take, ◌+◌, ◌≡◌, ◌≤◌, ◌↔◌};
 
+use crate::holes::is_holed;
 use crate::laws::taken_are_bounds;
 use crate::outlines::is_turned;
 use crate::regions::is_region;
@@ -71,7 +72,8 @@ fn part(pieces: &[Piece], start: usize, count: u32) -> &[Piece]
 
 /// Whether the pieces are taken for the real piece on that side: they are its figure, the capsules of
 /// a chain that the checks take for its arc draw, a contour that they take for its slanted line or its
-/// polygon, a disc for its turned disc, a figure for its fine one, or what they take for its turned figure or its region, on its layers.
+/// polygon, a disc for its turned disc, a figure for its fine one, or what they take for its turned figure, its region or its figure with a
+/// hole, on its layers.
 /// `NoMemory` where memory is wanted.
 fn stand(alloc: Global, side: Side, real: &RealPiece, pieces: &[Piece]) -> Result<bool, NoMemory>
     ensures { IfOk result (λ yes. IsTrue yes ↔ PiecesAreTaken side real.now (plain_pieces pieces.now)) }
@@ -84,6 +86,7 @@ fn stand(alloc: Global, side: Side, real: &RealPiece, pieces: &[Piece]) -> Resul
         RealShape::ArcDraw(arc) => are_chain(alloc, side, arc, pieces),
         RealShape::Region(region) => is_region(alloc, side, region, pieces),
         RealShape::Turned(figure) => is_turned(alloc, side, figure, pieces),
+        RealShape::Holed(holed) => Ok(is_holed(side, holed, pieces)),
         alone => Ok(stand_alone(side, alone, pieces)),
     }
 }

@@ -5,9 +5,10 @@ use arc_regions::laws::{taken_holds, taken_lies};
 use board_shapes::laws::tables_are_unique;
 use covers::Copper;
 use covers::laws::verdicts_decide;
-use fine_figures::laws::fine_is_between;
-use slants::laws::{discs_are_between, polygon_is_between, turned_is_between};
+use fine_figures::laws::{fine_is_between, holed_is_between};
+use slants::laws::{discs_are_between, turned_is_between};
 use turned_outlines::laws::{outline_holds, outline_lies};
+use turned_polygons::laws::turned_polygon_is_between;
 
 /// Pieces that are taken for those of a real board stand for them.
 pub fn taken_are_bounds()
@@ -17,8 +18,9 @@ pub fn taken_are_bounds()
     slants::laws::taken_is_between();
     turned_is_between();
     discs_are_between();
-    polygon_is_between();
+    turned_polygon_is_between();
     fine_is_between();
+    holed_is_between();
     taken_holds();
     taken_lies();
     outline_holds();

@@ -6,6 +6,7 @@
 //! - `side`: the boards below and above a real one, and what a chain has to be there.
 //! - `rows`: whether pieces are a figure, a contour, or the capsules of a chain.
 //! - `regions`: whether they are a polygon and the capsules along its arcs.
+//! - `holes`: whether they are taken for a figure with a round hole.
 //! - `eighths`: whether they are a contour in a region, by chains of eighth turns.
 //! - `outlines`: whether they are taken for a turned figure.
 //! - `between`: the check over whole boards.
@@ -16,6 +17,7 @@
 mod between;
 mod counts;
 mod eighths;
+mod holes;
 pub mod laws;
 mod outlines;
 mod regions;

@@ -6,7 +6,8 @@ ghost use Rattle.std.specs.Prelude.{IsTrue, ◌↔◌};
 use arcs::{Arc, Spot, is_above, is_below};
 use board_shapes::Shape;
 use fine_figures::{FineFigure, is_fine_above, is_fine_below};
-use slants::{RegularPolygon, Slant, TurnedDisc, TurnedFigure};
+use slants::{Slant, TurnedDisc, TurnedFigure};
+use turned_polygons::{TurnedPolygon, is_above_turned_polygon, is_below_turned_polygon};
 
 /// On which side of a real board another lies.
 #[derive(Clone, Copy, Debug, PartialEq, Eq)]
@@ -58,12 +59,12 @@ pub fn is_disc_taken(side: Side, disc: &TurnedDisc, s: Spot, r: u64) -> bool
 }
 
 /// Whether the contour is taken as a bound of the regular polygon.
-pub fn is_polygon_taken(side: Side, polygon: &RegularPolygon, points: &[Spot]) -> bool
+pub fn is_polygon_taken(side: Side, polygon: &TurnedPolygon, points: &[Spot]) -> bool
     ensures { IsTrue result ↔ IsPolygonTaken side polygon.now points.now }
 {
     match side {
-        Side::Below => slants::is_below_polygon(polygon, points),
-        Side::Above => slants::is_above_polygon(polygon, points),
+        Side::Below => is_below_turned_polygon(polygon, points),
+        Side::Above => is_above_turned_polygon(polygon, points),
     }
 }
 

@@ -2,7 +2,7 @@
 use Rattle.std.proofs.Common.{◌≡◌, ℕ, ◌+◌, ◌==◌, Bool, true, false, cond, ◌&&◌, not, ◌||◌, nat_eq, List, [], ◌∷◌, ◌++◌, take, drop, get_or, length, codes, Option, None, refl, sym, ap, ◌∙◌, subst, arith, append_assoc, take-append-drop}
 use Rattle.texts.specs.Words.{begins}
 use Rattle.apertures.specs.Definition.{digits_len, is_comma, is_x, name_text}
-use Rattle.apertures.specs.Holes.{ends_number, has_further, is_circle, is_rectangle, may_have_hole, parameters}
+use Rattle.apertures.specs.Holes.{ends_number, has_further, is_circle, is_sided, may_have_hole, parameters}
 use Rattle.apertures.specs.Fine.{has_seventh, is_seventh, may_be_fine}
 use Rattle.apertures.proofs.Fines.{seventh_before}
 use Rattle.apertures.proofs.Seen.{behind_drop}
@@ -116,7 +116,7 @@ none_behind n text none = by (has_further (drop n text)) refl
     by false is = refl
 
 no_hole : (text : List ℕ) → Free text → may_have_hole text ≡ false
-no_hole text h = by (begins text (codes "ADD")) (is_circle text) (is_rectangle text) second (none_behind (position_or_len is_x (parameters text) + 1) (parameters text) second)
+no_hole text h = by (begins text (codes "ADD")) (is_circle text) (is_sided text) second (none_behind (position_or_len is_x (parameters text) + 1) (parameters text) second)
   where
     second : has_further (parameters text) ≡ false
     second =

@@ -8,13 +8,13 @@ use Rattle.planar.specs.Plane.{is_placed}
 use Rattle.planar.specs.declared.Spot.{Spot}
 use Rattle.apertures.specs.Flash.{NoFlash, leaves, flash_of}
 use Rattle.apertures.specs.Holes.{is_ring}
-use Rattle.apertures.specs.Telling.{Fine, Frame, fine_told, frame_told, ring_told, told_frame, told_ring}
+use Rattle.apertures.specs.Telling.{Fine, Frame, Pierced, fine_told, frame_told, pierced_told, ring_told, told_frame, told_ring}
 use Rattle.board_shapes.specs.Figures.{Figure, filled}
 use Rattle.board_shapes.specs.Rectangles.{lower, upper}
 use Rattle.arc_layer.specs.Laws.{FramesAreUndone, RingsAreUndone}
 use Rattle.arc_layer.specs.Marks.{flash}
-use Rattle.arc_layer.specs.Fine.{fine_figure}
-use Rattle.arc_layer.specs.Real.{RealFigure, bent, bent_or, fine_or, frame_region, ring_draw, with_mark}
+use Rattle.arc_layer.specs.Fine.{fine_figure, holed_figure}
+use Rattle.arc_layer.specs.Real.{RealFigure, bent, bent_or, fine_or, frame_region, holed_or, ring_draw, with_mark}
 
 -- longer contours tell none
 pub no_ring : (points : List Spot) → 7 ≤ length points → ring_told points ≡ None
@@ -71,6 +71,10 @@ rings d hole at figure lawful h = by (list_all is_placed (told_ring (unsigned_ab
         subst (λ (f : Figure). with_mark (Some flash) f ≡ drawn at (unsigned_abs d) (unsigned_abs hole)) same (told (unsigned_abs d) (unsigned_abs hole) at s.0 s.1 lawful.1.even)
     by false h = cc
 
+-- the second is as high as the middle, so it is none of any sizes
+not_pierced : (x y hole : ℕ) (at : Spot) → pierced_told (told_frame x y hole at) ≡ None
+not_pierced x y hole at = rw ((Decides-int_eq (at.y +ℤ pos 0) at.y).1 (omega (arith, ints))) refl
+
 pub frames : FramesAreUndone
 unfolding flash_of
 frames x y hole at figure h = by (list_all is_placed (told_frame (unsigned_abs x) (unsigned_abs y) (unsigned_abs hole) at)) h
@@ -81,5 +85,6 @@ frames x y hole at figure h = by (list_all is_placed (told_frame (unsigned_abs x
     by : (b : Bool) → ◌≡◌ {A = Result (Option Figure) NoFlash} (cond b (Ok (Some (filled (told_frame (unsigned_abs x) (unsigned_abs y) (unsigned_abs hole) at)))) (Err leaves)) (Ok (Some figure)) → with_mark (Some flash) figure ≡ frame_region f
     by true h =
         let same : filled (told_frame (unsigned_abs x) (unsigned_abs y) (unsigned_abs hole) at) ≡ figure = cc in
-        subst (λ (g : Figure). with_mark (Some flash) g ≡ frame_region f) same refl
+        subst (λ (g : Figure). with_mark (Some flash) g ≡ frame_region f) same
+        (ap (λ (p : Option Pierced). holed_or (option_map holed_figure p) (frame_region f)) (not_pierced (unsigned_abs x) (unsigned_abs y) (unsigned_abs hole) at))
     by false h = cc

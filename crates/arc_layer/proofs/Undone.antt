@@ -9,14 +9,14 @@ use Rattle.area_contact.specs.Contour.{IsClosed, IsContour}
 use Rattle.aperture_macros.specs.Laws.{RoundToldIsFound, ToldIsFound}
 use Rattle.aperture_macros.specs.Telling.{RoundTelling, Telling, round_told, told, told_in, told_round}
 use Rattle.aperture_macros.proofs.Told.{spot_same, told_length}
-use Rattle.apertures.specs.Telling.{Fine, Frame, Ring, fine_told, frame_told, ring_told}
+use Rattle.apertures.specs.Telling.{Fine, Frame, Pierced, Ring, fine_told, frame_told, pierced_told, ring_told}
 use Rattle.board_shapes.specs.Figures.{filled}
 use Rattle.arc_layer.specs.Laws.{DiscsAreUndone, TurnedAreContours, TurnsAreUndone}
-use Rattle.arc_layer.specs.Fine.{fine_figure}
-use Rattle.arc_layer.specs.Real.{bent_or, disc_or, fine_or, frame_or, plain, ring_draw, told_area, turned, turned_disc, RealFigure, polygon_told, regular_or}
+use Rattle.arc_layer.specs.Fine.{fine_figure, holed_figure}
+use Rattle.arc_layer.specs.Real.{bent_or, disc_or, fine_or, frame_or, holed_or, plain, unpierced, ring_draw, told_area, turned, turned_disc, RealFigure, polygon_told, regular_or}
 use Rattle.slants.specs.declared.cones.TheConstants.{RIGHT_ANGLE}
-use Rattle.slants.specs.declared.polygons.RegularPolygon.{RegularPolygon}
-use Rattle.arc_layer.proofs.Fines.{no_fine}
+use Rattle.turned_polygons.specs.declared.TurnedPolygon.{TurnedPolygon}
+use Rattle.arc_layer.proofs.Fines.{no_fine, no_pierced}
 use Rattle.arc_layer.proofs.Rings.{no_frame, no_ring}
 use Rattle.arc_layer.proofs.Tails.{IsTold, is_told}
 
@@ -44,6 +44,7 @@ pub undone : ToldIsFound → TurnsAreUndone
 undone law about rest contour closed long below =
     let points = told about rest contour in
     let more : 7 ≤ length points = omega (arith, long, told_length about rest contour long) in
+    ap (λ (h : Option Pierced). holed_or (option_map holed_figure h) (unpierced points)) (no_pierced points more) ∙
     ap (λ (f : Option Fine). fine_or (option_map fine_figure f) (bent_or (option_map ring_draw (ring_told points)) (frame_or (frame_told points) (disc_or points (round_told points) (told_area points (told_in points)))))) (no_fine points more) ∙
     ap (λ (r : Option Ring). bent_or (option_map ring_draw r) (frame_or (frame_told points) (disc_or points (round_told points) (told_area points (told_in points))))) (no_ring points more) ∙
     ap (λ (f : Option Frame). frame_or f (disc_or points (round_told points) (told_area points (told_in points)))) (no_frame points more) ∙
@@ -75,10 +76,16 @@ lawful_so points t is told some below =
     let long = told.long in
     (shorter points t.contour (length points - 3) is told.contour told.closed (omega (arith, long)) (omega arith), told.about is.placed, some, below)
 
+some_left : (rest : ℕ) → (rest == 0) ≡ false → 1 ≤ rest
+some_left rest h = grind (arith, h)
+
+less_left : (rest : ℕ) → nat_lt rest RIGHT_ANGLE ≡ true → rest < RIGHT_ANGLE
+less_left rest h = grind (arith, h)
+
 pub lawful : TurnedAreContours
-lawful points contour about rest is h = past_fine (fine_told points) h
+lawful points contour about rest is h = past_pierced (pierced_told points) h
   where
-    inside : (t : Telling) (none less : Bool) (o : Option RegularPolygon) → IsTold points t → (t.rest == 0) ≡ none → nat_lt t.rest RIGHT_ANGLE ≡ less
+    inside : (t : Telling) (none less : Bool) (o : Option TurnedPolygon) → IsTold points t → (t.rest == 0) ≡ none → nat_lt t.rest RIGHT_ANGLE ≡ less
         → cond none (plain (filled t.contour)) (cond less (turned t.contour t.about t.rest) (regular_or points o)) ≡ turned contour about rest → IsLawful contour about rest
     inside t true less o told e f k = absurd cc
     inside t false true o told e f k =
@@ -86,7 +93,7 @@ lawful points contour about rest is h = past_fine (fine_told points) h
         let two : t.about ≡ about = cc in
         let three : t.rest ≡ rest = cc in
         subst (λ (c : List Spot). IsLawful c about rest) one (subst (λ (s : Spot). IsLawful t.contour s rest) two (subst (λ (r : ℕ). IsLawful t.contour t.about r) three
-        (lawful_so points t is told (grind (arith, e)) (grind (arith, f)))))
+        (lawful_so points t is told (some_left t.rest e) (less_left t.rest f))))
     inside t false false (Some g) told e f k = absurd cc
     inside t false false None told e f k = absurd cc
 
@@ -110,3 +117,7 @@ lawful points contour about rest is h = past_fine (fine_told points) h
     past_fine : (f : Option Fine) → fine_or (option_map fine_figure f) (bent_or (option_map ring_draw (ring_told points)) (frame_or (frame_told points) (disc_or points (round_told points) (told_area points (told_in points))))) ≡ turned contour about rest → IsLawful contour about rest
     past_fine (Some f) k = cc
     past_fine None k = past_ring (ring_told points) (frame_told points) k
+
+    past_pierced : (p : Option Pierced) → holed_or (option_map holed_figure p) (unpierced points) ≡ turned contour about rest → IsLawful contour about rest
+    past_pierced (Some p) k = cc
+    past_pierced None k = past_fine (fine_told points) k

@@ -7,7 +7,8 @@ use Rattle.fine_figures.specs.Taken.{doubled}
 use Rattle.fine_figures.specs.declared.FineFigure.{FineFigure}
 use Rattle.fine_figures.specs.declared.FineFigure.TheVariants.{Round, Rectangle}
 use Rattle.fine_figures.specs.declared.FineStroke.{FineStroke}
-use Rattle.apertures.specs.Telling.{Fine, fine_told}
+use Rattle.fine_figures.specs.declared.HoledFigure.{HoledFigure}
+use Rattle.apertures.specs.Telling.{Fine, Pierced, fine_told, pierced_told}
 
 -- in half u, the spots so far to the left of and below a spot, and to the right of and above it
 abbrev pub left_below : Spot → ℕ → ℕ → Spot
@@ -43,3 +44,14 @@ fine_by middle one other = option_map fine_figure (fine_told (middle ∷ one ∷
 
 abbrev pub fine_in : List Spot → Option FineFigure
 fine_in points = option_map fine_figure (fine_told points)
+
+-- one with a round hole (4.4.6) about its middle
+abbrev pub holed_figure : Pierced → HoledFigure
+holed_figure p = record { outline = fine_figure p.fine; centre = p.fine.middle; hole = p.hole }
+
+-- that of a middle and four spots, and of the spots of an area
+abbrev pub holed_by : Spot → Spot → Spot → Spot → Spot → Option HoledFigure
+holed_by middle one other right left = option_map holed_figure (pierced_told (middle ∷ one ∷ other ∷ right ∷ left ∷ middle ∷ []))
+
+abbrev pub holed_in : List Spot → Option HoledFigure
+holed_in points = option_map holed_figure (pierced_told points)

@@ -9,8 +9,10 @@ use Rattle.aperture_macros.specs.declared.primitive.Form.TheVariants.{Polygon}
 use Rattle.aperture_macros.specs.declared.primitive.Rotation.{Rotation}
 use Rattle.aperture_macros.specs.declared.primitive.Rotation.TheVariants.{Half, Quarter, ThreeQuarters, Unturned}
 use Rattle.apertures.specs.Flash.{IsLawful, flash_of}
-use Rattle.apertures.specs.declared.aperture.Aperture.TheVariants.{FineCircle, FineObround, FineRectangle, Frame, Ring}
+use Rattle.apertures.specs.declared.aperture.Aperture.TheVariants.{FineCircle, FineObround, FineRectangle, Frame, Holed, Ring}
+use Rattle.apertures.specs.declared.aperture.HoledForm.{HoledForm}
 use Rattle.board_shapes.specs.Figures.{Figure, filled}
+use Rattle.fine_figures.specs.declared.FineFigure.{FineFigure}
 use Rattle.fine_figures.specs.declared.FineFigure.TheVariants.{Round, Rectangle}
 use Rattle.board_shapes.specs.Rectangles.{lower, upper}
 use Rattle.regions.specs.Contours.{close_of}
@@ -18,12 +20,11 @@ use Rattle.gerber_layer.specs.CommandEffects.{edges_in}
 use Rattle.gerber_layer.specs.Settings.{contour_before}
 use Rattle.arc_layer.specs.Marks.{contour, edges_before, flash, mark_behind}
 use Rattle.arc_layer.specs.Fine.{fine_sides, fine_stroke}
-use Rattle.arc_layer.specs.Real.{bent, fine, flashed, frame_region, plain, regular, turned, turned_disc, with_mark}
+use Rattle.arc_layer.specs.Real.{bent, fine, flashed, frame_region, holed, plain, regular, turned, turned_disc, turned_with, with_mark}
 use Rattle.arc_layer.specs.State.{commands_of}
 use Rattle.arc_layer.specs.Words.{Saying}
 use Rattle.arc_layer.specs.declared.draws.Bend.{Bend}
 use Rattle.slants.specs.declared.cones.TheConstants.{RIGHT_ANGLE}
-use Rattle.slants.specs.declared.polygons.TheConstants.{PARTS}
 
 -- Behind any history, the open contour has as many bends of edges as edges, which are its points less one.
 abbrev pub EachEdgeHasABend : Type 0
@@ -48,10 +49,10 @@ quarters_of Quarter = 1
 quarters_of Half = 2
 quarters_of ThreeQuarters = 3
 
--- A polygon that is told is that polygon about its turned middle, its first corner in the direction of the quarter turns and of what is left.
+-- A polygon that is told is that polygon about its middle after the quarter turns, its first corner in the direction of these and of what is left. By this its middle is turned about the flash.
 abbrev pub PolygonsAreUndone : Type 0
-PolygonsAreUndone = (rotation : Rotation) (at p : Spot) (d n rest : ℕ) → 1 ≤ d → n < 2 ^ 32 → rest < RIGHT_ANGLE → flashed (told at (told_rest (Polygon n) rest) (map (set_down rotation at) (polygon_spots p d n)))
-    ≡ regular (record { centre = set_down rotation at p; corners = n; diameter = d * PARTS; angle = quarters_of rotation * RIGHT_ANGLE + rest })
+PolygonsAreUndone = (rotation : Rotation) (at p : Spot) (d n rest : ℕ) → n < 2 ^ 32 → rest < RIGHT_ANGLE → flashed (told at (told_rest (Polygon n) rest) (map (set_down rotation at) (polygon_spots p d n)))
+    ≡ regular (turned_with (record { centre = set_down rotation at p; corners = n; diameter = d; angle = quarters_of rotation * RIGHT_ANGLE + rest }) at rest)
 
 -- A flash of a circle with a hole is a draw once round the spot. The middle of its pen lies halfway between the hole and the outside, at a quarter of the sum of both diameters; the pen is as wide as the copper, half their difference.
 abbrev pub RingsAreUndone : Type 0
@@ -85,6 +86,14 @@ FineObroundsAreUndone = (x y : ℤ) (at : Spot) (figure : Figure) → IsLawful (
 abbrev pub FineCirclesAreUndone : Type 0
 FineCirclesAreUndone = (d : ℤ) (at : Spot) (figure : Figure) → IsLawful (FineCircle d) → flash_of (FineCircle d) at ≡ Ok (Some figure)
     → with_mark (Some flash) figure ≡ fine (Round (fine_stroke at (unsigned_abs d) (unsigned_abs d)))
+
+-- One with a hole is such a figure, without what is nearer to the spot than half the hole's diameter.
+abbrev pub outline_of : HoledForm → Spot → FineFigure
+outline_of form at = if form.round then Round (fine_stroke at (unsigned_abs form.x) (unsigned_abs form.y)) else Rectangle (fine_sides at (unsigned_abs form.x) (unsigned_abs form.y))
+
+abbrev pub HoledAreUndone : Type 0
+HoledAreUndone = (form : HoledForm) (at : Spot) (figure : Figure) → IsLawful (Holed form) → flash_of (Holed form) at ≡ Ok (Some figure)
+    → with_mark (Some flash) figure ≡ holed (record { outline = outline_of form at; centre = at; hole = unsigned_abs form.hole })
 
 -- What a contour of a flash has before its turn is a contour, turned about a spot within one metre by some angle below a right one.
 abbrev pub TurnedAreContours : Type 0

@@ -1,4 +1,4 @@
--- Real copper: the pieces of a copper file in which draws may be arcs, circles and rectangles may have round holes, sizes may be odd, and macros may have slanted lines, turned figures and regular polygons.
+-- Real copper: the pieces of a copper file in which draws may be arcs, standard apertures may have round holes, sizes may be odd, and macros may have slanted lines, turned figures and regular polygons.
 use Rattle.std.specs.Prelude.{◌≡◌, ℕ, ◌+◌, ◌-◌, ◌*◌, ◌^◌, ◌<◌, ◌≤◌, ◌-ℤ◌, Bool, false, ◌&&◌, ◌||◌, not, ◌==◌, nat_lt, int_lt, if◌then◌else◌, List, [], ◌∷◌, drop, map, Option, Some, None, option_map, unsigned_abs, Result, Ok, Err}
 use Rattle.std.specs.Ordering.{int_eq}
 use Rattle.planar.specs.declared.Spot.{Spot}
@@ -9,6 +9,7 @@ use Rattle.board_shapes.specs.declared.placed.Placed.{Placed}
 use Rattle.arcs.specs.declared.Arc.{Arc}
 use Rattle.fine_figures.specs.declared.FineFigure.{FineFigure}
 use Rattle.fine_figures.specs.declared.FineFigure.TheVariants.{Round}
+use Rattle.fine_figures.specs.declared.HoledFigure.{HoledFigure}
 use Rattle.slants.specs.declared.Slant.{Slant}
 use Rattle.slants.specs.declared.discs.TurnedDisc.{TurnedDisc}
 use Rattle.arc_regions.specs.declared.Part.{Part}
@@ -25,17 +26,18 @@ use Rattle.apertures.specs.Telling.{Frame, Ring, frame_told, ring_told}
 use Rattle.aperture_macros.specs.Telling.{RoundTelling, Telling, round_told, told_in}
 use Rattle.arc_layer.specs.Marks.{AreMarks, IsBendRefused, PlainMark, arc, by_pen, contour, flash}
 use Rattle.arc_layer.specs.Centres.{moved, same_spot}
-use Rattle.arc_layer.specs.Fine.{fine_draw, fine_in}
+use Rattle.arc_layer.specs.Fine.{fine_draw, fine_in, holed_in}
 use Rattle.arc_layer.specs.declared.draws.Bend.{Bend}
 use Rattle.arc_layer.specs.declared.kind.RealKind.{RealKind}
 use Rattle.arc_layer.specs.declared.kind.RealKind.TheVariants.{Copper}
 use Rattle.slants.specs.declared.cones.TheConstants.{RIGHT_ANGLE}
 use Rattle.slants.specs.declared.polygons.RegularPolygon.{RegularPolygon}
 use Rattle.slants.specs.declared.polygons.TheConstants.{PARTS}
+use Rattle.turned_polygons.specs.declared.TurnedPolygon.{TurnedPolygon}
 use Rattle.real_shapes.specs.declared.RealShape.{RealShape}
 use Rattle.real_shapes.specs.declared.RealShape.TheVariants as shape
 
--- a figure, an arc draw, the rectangle of a slanted line, a region whose contour has arcs, a contour that is turned about a spot, counterclockwise, by so many parts of 10^-7 degrees, a disc that is, a regular polygon, or a figure in half u
+-- a figure, an arc draw, the rectangle of a slanted line, a region whose contour has arcs, a contour that is turned about a spot, counterclockwise, by so many parts of 10^-7 degrees, a disc that is, a regular polygon, or a figure in half u, with a round hole or without
 pub data RealFigure : Type 0 where
   plain : Figure → RealFigure
   bent : Arc → RealFigure
@@ -43,8 +45,9 @@ pub data RealFigure : Type 0 where
   curved : Spot → List Part → RealFigure
   turned : List Spot → Spot → ℕ → RealFigure
   turned_disc : TurnedDisc → RealFigure
-  regular : RegularPolygon → RealFigure
+  regular : TurnedPolygon → RealFigure
   fine : FineFigure → RealFigure
+  holed : HoledFigure → RealFigure
 
 -- one on a span of layers
 pub record PlainReal : Type 0 where
@@ -63,6 +66,7 @@ real_figure (shape.Turned t) = turned t.contour.items t.about t.angle
 real_figure (shape.TurnedDisc disc) = turned_disc disc
 real_figure (shape.Polygon g) = regular g
 real_figure (shape.Fine f) = fine f
+real_figure (shape.Holed h) = holed h
 
 abbrev pub plain_real : Placed RealShape → PlainReal
 plain_real p = record { figure = real_figure p.shape; top = p.top; bottom = p.bottom; origin = p.origin }
@@ -114,18 +118,21 @@ far_from p q = unsigned_abs (q.x -ℤ p.x) + unsigned_abs (q.y -ℤ p.y)
 abbrev pub quarters_to : Spot → Spot → ℕ
 quarters_to p q = if int_lt p.x q.x then 0 else (if int_lt p.y q.y then 1 else (if int_lt q.x p.x then 2 else 3))
 
--- What a polygon's spots tell (4.5.1, code 5): its middle, the diameter and the number of corners in the direction of its quarter turns, and how far it is turned beside these, a right angle more
-abbrev pub polygon_by : Spot → Spot → Spot → ℕ → Option RegularPolygon
-polygon_by p across count rest =
-    if nat_lt (far_from p count) (2 ^ 32) && nat_lt rest (2 * RIGHT_ANGLE)
-    then Some (record { centre = p; corners = far_from p count; diameter = far_from p across * PARTS; angle = quarters_to p across * RIGHT_ANGLE + (rest - RIGHT_ANGLE) })
-    else None
+-- What a polygon's spots tell (4.5.1, code 5): its middle, the diameter in whole u and 1 u more, the number of corners and the parts of a u in the direction of its quarter turns, and how far it is turned beside these
+abbrev pub polygon_by : Spot → Spot → Spot → Spot → ℕ → RegularPolygon
+polygon_by p across count parts rest = record { centre = p; corners = far_from p count; diameter = (far_from p across - 1) * PARTS + far_from p parts; angle = quarters_to p across * RIGHT_ANGLE + rest }
 
-abbrev pub polygon_told : List Spot → ℕ → Option RegularPolygon
-polygon_told (p ∷ across ∷ count ∷ again ∷ about ∷ to ∷ last ∷ []) rest = polygon_by p across count rest
+-- its middle is turned with it; where nothing is left to turn, it is where it is
+abbrev pub turned_with : RegularPolygon → Spot → ℕ → TurnedPolygon
+turned_with g about rest = record { polygon = g; about = if rest == 0 then g.centre else about; angle = rest }
+
+-- the turn is told with a right angle more
+abbrev pub polygon_told : List Spot → ℕ → Option TurnedPolygon
+polygon_told (p ∷ across ∷ count ∷ parts ∷ again ∷ about ∷ to ∷ last ∷ []) rest =
+    if nat_lt (far_from p count) (2 ^ 32) && nat_lt rest (2 * RIGHT_ANGLE) then Some (turned_with (polygon_by p across count parts (rest - RIGHT_ANGLE)) about (rest - RIGHT_ANGLE)) else None
 polygon_told other rest = None
 
-abbrev pub regular_or : List Spot → Option RegularPolygon → RealFigure
+abbrev pub regular_or : List Spot → Option TurnedPolygon → RealFigure
 regular_or points (Some g) = regular g
 regular_or points None = plain (filled points)
 
@@ -174,8 +181,16 @@ abbrev pub fine_or : Option FineFigure → RealFigure → RealFigure
 fine_or (Some f) area = fine f
 fine_or None area = area
 
+abbrev pub holed_or : Option HoledFigure → RealFigure → RealFigure
+holed_or (Some h) area = holed h
+holed_or None area = area
+
+-- what is told otherwise than with a hole of any sizes
+abbrev pub unpierced : List Spot → RealFigure
+unpierced points = fine_or (fine_in points) (bent_or (ring_in points) (frame_or (frame_told points) (disc_or points (round_told points) (told_area points (told_in points)))))
+
 abbrev pub flashed : List Spot → RealFigure
-flashed points = fine_or (fine_in points) (bent_or (ring_in points) (frame_or (frame_told points) (disc_or points (round_told points) (told_area points (told_in points)))))
+flashed points = holed_or (holed_in points) (unpierced points)
 
 -- A draw with a bend is its arc, one with a fine pen alone its stroke in half u, and an area behind the bends of its contour the region that they bound. A stroke along no axis that a flash makes is the vector line of a macro (Gerber Layer Format Specification,
 -- 4.5.1, code 20): other primitives make none, and obrounds run along an axis. An area that a flash makes is what it tells. Each other figure is what it is.

@@ -5,7 +5,7 @@ ghost use Rattle.planar.specs.declared.TheConstants.{TWO_METRES};
 ghost use Rattle.std.specs.Prelude.{◌≡◌, ◌≤◌, ◌-ℤ◌, unsigned_abs, All, pos};
 
 use contact::{Bounds, Capsule};
-use fine_figures::{FineFigure, FineStroke, doubled};
+use fine_figures::{FineFigure, FineStroke, HoledFigure, doubled};
 use planar::Spot;
 
 fn way(n: u64) -> i64
@@ -117,4 +117,46 @@ pub fn fine_in(points: &[Spot]) -> Option<FineFigure>
         return None;
     };
     fine_by(*middle, *one, *other)
+}
+
+/// How far two spots are apart across.
+fn across(one: Spot, other: Spot) -> u64
+    requires one { IsPlaced one }
+    requires other { IsPlaced other }
+    ensures { result ≡ unsigned_abs (one.x -ℤ other.x) }
+{
+    one.x.abs_diff(other.x)
+}
+
+/// The figure with a hole that a middle and four spots tell, where the first of these is not as high as the middle.
+fn holed_by(middle: Spot, one: Spot, other: Spot, right: Spot, left: Spot) -> Option<HoledFigure>
+    requires middle_placed { IsPlaced middle }
+    requires one_placed { IsPlaced one }
+    requires other_placed { IsPlaced other }
+    requires right_placed { IsPlaced right }
+    requires left_placed { IsPlaced left }
+    ensures { result ≡ spec.holed_by middle one other right left }
+{
+    if one.y == middle.y {
+        return None;
+    }
+    match fine_by(middle, one, other) {
+        Some(outline) => Some(HoledFigure {
+            outline,
+            centre: middle,
+            hole: across(right, left),
+        }),
+        None => None,
+    }
+}
+
+/// The figure with a hole, where the spots of an area tell one.
+pub fn holed_in(points: &[Spot]) -> Option<HoledFigure>
+    requires { All IsPlaced points.now }
+    ensures { result ≡ spec.holed_in points.now }
+{
+    let [middle, one, other, right, left, _] = points else {
+        return None;
+    };
+    holed_by(*middle, *one, *other, *right, *left)
 }

@@ -1,6 +1,6 @@
 //! Laws over the definitions alone.
 ghost use Rattle.arc_layer.specs.Kinds.{RealKindsHaveOwnNumbers};
-ghost use Rattle.arc_layer.specs.Laws.{DiscsAreUndone, EachEdgeHasABend, FineCirclesAreUndone, FineObroundsAreUndone, FineRectanglesAreUndone, FramesAreUndone, MarksFitAreas, PolygonsAreUndone, RingsAreUndone, TurnedAreContours, TurnsAreUndone};
+ghost use Rattle.arc_layer.specs.Laws.{DiscsAreUndone, EachEdgeHasABend, FineCirclesAreUndone, FineObroundsAreUndone, FineRectanglesAreUndone, FramesAreUndone, HoledAreUndone, MarksFitAreas, PolygonsAreUndone, RingsAreUndone, TurnedAreContours, TurnsAreUndone};
 ghost use Rattle.arc_layer.specs.Real.{HasOneRealAnswer};
 ghost use Rattle.gerber_layer.specs.declared.place.Place.{Place};
 ghost use Rattle.std.specs.Prelude.{ℕ, List};
@@ -43,10 +43,12 @@ pub fn turns_are_told()
     round_told_is_found();
 }
 
-/// What a flash of a circle with a hole tells is the draw of its copper, and what one of a rectangle tells is that region.
+/// What a flash of a circle with a hole tells is the draw of its copper, and what one of a rectangle tells is that region, where their
+/// sizes fit these; of all others it is the figure in half u with that hole.
 pub fn holes_are_told()
     ensures rings { RingsAreUndone }
     ensures frames { FramesAreUndone }
+    ensures holed { HoledAreUndone }
 {}
 
 /// What a flash of a fine aperture tells is that rectangle, obround or circle, in half u.

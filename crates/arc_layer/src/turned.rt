@@ -1,4 +1,4 @@
-//! Areas of flashes that tell more than they show: fine apertures, circles and rectangles with a hole, and areas and discs of macros that are turned by degrees.
+//! Areas of flashes that tell more than they show: fine apertures, those with a hole, and areas and discs of macros that are turned by degrees.
 ghost use Rattle.aperture_macros.specs.Telling as telling;
 ghost use Rattle.apertures.specs.Telling.{frame_told};
 ghost use Rattle.arc_layer.specs.Real as spec;
@@ -8,10 +8,10 @@ ghost use Rattle.board_shapes.specs.Figures.{filled};
 ghost use Rattle.file_reading.specs.declared.fault.FileFault.TheVariants as fault;
 ghost use Rattle.planar.specs.Plane.{IsPlaced};
 ghost use Rattle.slants.specs.declared.cones.TheConstants.{RIGHT_ANGLE};
-ghost use Rattle.std.specs.Prelude.{◌≡◌, ◌≤◌, ◌*◌, ◌-◌, ◌-ℤ◌, unsigned_abs, All, length, option_map, take, IfErr, IfOk, Some};
+ghost use Rattle.std.specs.Prelude.{◌≡◌, ◌≤◌, ◌<◌, ◌^◌, ◌*◌, ◌-◌, ◌-ℤ◌, unsigned_abs, All, length, option_map, take, IfErr, IfOk, Some};
 
 use crate::centres::same_spot;
-use crate::fine::fine_in;
+use crate::fine::{fine_in, holed_in};
 use crate::kind::RealFault;
 use arc_regions::{Bend, Part, Region};
 use arcs::Arc;
@@ -21,6 +21,7 @@ use planar::Spot;
 use real_shapes::RealShape;
 use slants::{PARTS, RIGHT_ANGLE, RegularPolygon, TurnedDisc, TurnedFigure, is_closed};
 use std::alloc::Global;
+use turned_polygons::TurnedPolygon;
 
 /// What the spots behind a contour say: what it is turned about, and how far in 10^-7 degrees.
 #[derive(Clone, Copy)]
@@ -109,37 +110,51 @@ fn quarters_to(p: Spot, q: Spot) -> u32
     }
 }
 
-/// The polygon that three spots tell, and how far it is turned beside quarter turns, a right angle more.
-fn polygon_by(p: Spot, across: Spot, count: Spot, rest: u64) -> Option<RegularPolygon>
+/// The polygon that four spots tell, and how far it is turned beside quarter turns.
+fn polygon_by(p: Spot, across: Spot, count: Spot, parts: Spot, rest: u32) -> RegularPolygon
     requires p_placed { IsPlaced p }
     requires across_placed { IsPlaced across }
     requires count_placed { IsPlaced count }
-    requires more { RIGHT_ANGLE ≤ rest }
-    ensures { result ≡ spec.polygon_by p across count rest }
+    requires parts_placed { IsPlaced parts }
+    requires few { spec.far_from p count < 2 ^ 32 }
+    requires below { rest < RIGHT_ANGLE }
+    ensures { result ≡ spec.polygon_by p across count parts rest }
 {
-    let corners = far_from(p, count);
-    if corners < 4_294_967_296 && rest < 2 * u64::from(RIGHT_ANGLE) {
-        Some(RegularPolygon {
-            centre: p,
-            corners: corners as u32,
-            diameter: far_from(p, across) * PARTS as u64,
-            angle: quarters_to(p, across) * RIGHT_ANGLE + (rest - u64::from(RIGHT_ANGLE)) as u32,
-        })
-    } else {
-        None
+    RegularPolygon {
+        centre: p,
+        corners: far_from(p, count) as u32,
+        diameter: far_from(p, across).saturating_sub(1) * PARTS as u64 + far_from(p, parts),
+        angle: quarters_to(p, across) * RIGHT_ANGLE + rest,
     }
 }
 
-/// The polygon that the spots of an area tell.
-fn polygon_in(points: &[Spot], rest: u64) -> Option<RegularPolygon>
+/// The polygon, whose middle is turned with it.
+fn turned_with(polygon: RegularPolygon, about: Spot, rest: u32) -> TurnedPolygon
+    ensures { result ≡ spec.turned_with polygon about rest }
+{
+    TurnedPolygon {
+        polygon,
+        about: if rest == 0 { polygon.centre } else { about },
+        angle: rest,
+    }
+}
+
+/// The polygon that the spots of an area tell, whose turn is told with a right angle more.
+fn polygon_in(points: &[Spot], rest: u64) -> Option<TurnedPolygon>
     requires placed { All IsPlaced points.now }
     requires more { RIGHT_ANGLE ≤ rest }
     ensures { result ≡ spec.polygon_told points.now rest }
 {
-    let [p, across, count, _, _, _, _] = points else {
+    let [p, across, count, parts, _, about, _, _] = points else {
         return None;
     };
-    polygon_by(*p, *across, *count, rest)
+    let few = far_from(*p, *count) < 4_294_967_296;
+    if few && rest < 2 * u64::from(RIGHT_ANGLE) {
+        let left = (rest - u64::from(RIGHT_ANGLE)) as u32;
+        Some(turned_with(polygon_by(*p, *across, *count, *parts, left), *about, left))
+    } else {
+        None
+    }
 }
 
 /// The area that tells this.
@@ -319,6 +334,16 @@ fn region_of(alloc: Global, frame: Frame) -> Result<RealShape, RealFault>
 /// region, or the disc or the area before its turn, where it tells one.
 pub fn flashed(alloc: Global, area: Area) -> Result<RealShape, RealFault>
     ensures value { IfOk result (λ made. real_figure made ≡ spec.flashed area.points.items) }
+    ensures fault { IfErr result (λ why. why ≡ fault.NoMemory) }
+{
+    if let Some(holed) = holed_in(&area.points) {
+        return Ok(RealShape::Holed(holed));
+    }
+    unpierced(alloc, area)
+}
+
+fn unpierced(alloc: Global, area: Area) -> Result<RealShape, RealFault>
+    ensures value { IfOk result (λ made. real_figure made ≡ spec.unpierced area.points.items) }
     ensures fault { IfErr result (λ why. why ≡ fault.NoMemory) }
 {
     if let Some(fine) = fine_in(&area.points) {

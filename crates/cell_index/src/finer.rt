@@ -249,19 +249,19 @@ fn copy_of<S: Closed>(item: &Placed<S>, stretch: Stretch) -> Placed<Plate>
     }
 }
 
-// Whether the copy meets the box, and this is the first cell that both meet. So a pair is met once.
+// Whether the copy meets the box, and this is the first cell that both meet. So a pair is met once. In crowded cells most do not meet.
 fn is_met(copy: &Bounds, bounds: Bounds, patch: &Patch, across: u32, up: u32) -> bool
     requires across { across < 128 }
     requires up { up < 128 }
     ensures { IsMet copy.now bounds patch.now across up → IsTrue result }
 {
+    if !bounds.meet(copy) {
+        return false;
+    }
     if !begins_across(copy, patch.left, across) {
         return false;
     }
-    if !begins_up(copy, patch.low, up) {
-        return false;
-    }
-    bounds.meet(copy)
+    begins_up(copy, patch.low, up)
 }
 
 // Whether cell k is the first that the copy or the patch meets across.

@@ -104,7 +104,7 @@ fn of_orders() -> [Word; 18] {
 }
 
 // Of real copper: a rotation is an expression, and each that is written a turn by degrees.
-fn of_degrees() -> [Word; 16] {
+fn of_degrees() -> [Word; 26] {
     [
         ("1,1,$1,0,0", "Circle Unturned"),
         ("1,1,$1,0,0,$2", "Circle Degrees"),
@@ -122,7 +122,18 @@ fn of_degrees() -> [Word; 16] {
         ("5,1,3,0,0,1,0", "Polygon(3) Degrees"),
         ("5,1,2,0,0,1,0", "BadMacro"),
         ("5,1,13,0,0,1,0", "BadMacro"),
-        ("5,1,8,0,0,1.08239x$1,22.5", "BadMacro"),
+        // The diameter of a polygon alone may be a product, of two factors without signs.
+        ("5,1,8,0,0,1.08239X$1,22.5", "Polygon(8) Degrees"),
+        ("5,1,8,0,0,1.08239x$1,22.5", "Polygon(8) Degrees"),
+        ("5,1,8,0,0,$1x$2,22.5", "Polygon(8) Degrees"),
+        ("5,1,8,0,0,$1X1.08239,22.5", "Polygon(8) Degrees"),
+        ("5,1,8,0,0,-1.08239X$1,22.5", "BadMacro"),
+        ("5,1,8,0,0,1.08239X-$1,22.5", "BadMacro"),
+        ("5,1,8,0,0,1.08239X$1X2,22.5", "BadMacro"),
+        ("5,1,8,0,0,1.08239X,22.5", "BadMacro"),
+        ("5,1,8,0,0,X$1,22.5", "BadMacro"),
+        ("5,1,8,$1X1,0,$1,22.5", "BadMacro"),
+        ("1,1,1.08239X$1,0,0", "BadMacro"),
         ("21,0,1,1,0,0,45x2", "BadMacro"),
         ("21,0,1,1,0,0,$1", "ExposureOff"),
     ]

@@ -20,6 +20,20 @@ fn push_spots(line: &mut String, spots: &[Spot]) -> Result<(), AllocError> {
     Ok(())
 }
 
+fn push_fine(line: &mut String, fine: &FineFigure) -> Result<(), AllocError> {
+    match fine {
+        FineFigure::Round(f) => {
+            let (a, b, r) = (f.a, f.b, f.r);
+            write!(line, "in halves {} {}, {} {}, {r}", a.x, a.y, b.x, b.y)?;
+        },
+        FineFigure::Rectangle(f) => {
+            let (left, low, right, high) = (f.left, f.low, f.right, f.high);
+            write!(line, "in halves from {left} {low} to {right} {high}")?;
+        },
+    }
+    Ok(())
+}
+
 fn shown(alloc: Global, piece: &RealPiece) -> Result<String, AllocError> {
     let mut line = String::new(alloc);
     match &piece.shape {
@@ -73,21 +87,26 @@ fn shown(alloc: Global, piece: &RealPiece) -> Result<String, AllocError> {
                 disc.angle, about.x, about.y, centre.x, centre.y, disc.radius
             )?;
         },
-        RealShape::Polygon(g) => {
+        RealShape::Polygon(turned) => {
+            let (g, about) = (turned.polygon, turned.about);
             let (c, n) = (g.centre, g.corners);
             write!(
                 line,
                 "{n} corners about {} {} by {} at {}",
                 c.x, c.y, g.diameter, g.angle
             )?;
+            if c.x != about.x || c.y != about.y {
+                write!(
+                    line,
+                    ", turned {} about {} {}",
+                    turned.angle, about.x, about.y
+                )?;
+            }
         },
-        RealShape::Fine(FineFigure::Round(f)) => {
-            let (a, b, r) = (f.a, f.b, f.r);
-            write!(line, "in halves {} {}, {} {}, {r}", a.x, a.y, b.x, b.y)?;
-        },
-        RealShape::Fine(FineFigure::Rectangle(f)) => {
-            let (left, low, right, high) = (f.left, f.low, f.right, f.high);
-            write!(line, "in halves from {left} {low} to {right} {high}")?;
+        RealShape::Fine(f) => push_fine(&mut line, f)?,
+        RealShape::Holed(h) => {
+            push_fine(&mut line, &h.outline)?;
+            write!(line, " without {} at {} {}", h.hole, h.centre.x, h.centre.y)?;
         },
     }
     write!(line, " by {}.{}", piece.origin.command, piece.origin.copy)?;
@@ -357,7 +376,7 @@ fn of_lines() -> [(&'static str, &'static str); 7] {
 }
 
 // Turned figures of macros, most as layout tools write them; all of this crate's own.
-fn of_turns() -> [(&'static str, &'static str); 13] {
+fn of_turns() -> [(&'static str, &'static str); 22] {
     [
         (
             "%AMRotRect*21,1,$1,$2,0,0,$3*%%ADD11RotRect,1.0X0.5X30.0*%D11*X0Y0D03*M02*",
@@ -392,6 +411,38 @@ fn of_turns() -> [(&'static str, &'static str); 13] {
             "8 corners about 10000000 0 by 100000000000 at 225000000 by 9.0",
         ),
         (
+            "%AMOC8*5,1,8,0,0,1.08239X$1,22.5*%%ADD11OC8,1.6764*%D11*X1000000Y0D03*M02*",
+            "8 corners about 10000000 0 by 181451859600 at 225000000 by 9.0",
+        ),
+        (
+            "%FSLAX25Y25*%%MOIN*%%AMOC8*5,1,8,0,0,1.08239X$1,22.5*%%ADD11OC8,0.055*%D11*X0Y0D03*M02*",
+            "8 corners about 0 0 by 151209883000 at 225000000 by 7.0",
+        ),
+        (
+            "%AMOC8*5,1,8,0,0,$1x1.08239,112.5*%%ADD11OC8,0.000002*%D11*X0Y0D03*M02*",
+            "8 corners about 0 0 by 216478 at 1125000000 by 9.0",
+        ),
+        (
+            "%AMOC8*5,1,8,0,0,0.0000001X$1,180*%%ADD11OC8,0.1*%D11*X0Y0D03*M02*",
+            "8 corners about 0 0 by 1000 at 1800000000 by 9.0",
+        ),
+        (
+            "%AMQ*5,1,5,0,0,0.0000003,-90*%%ADD11Q*%D11*X0Y0D03*M02*",
+            "5 corners about 0 0 by 30000 at 2700000000 by 9.0",
+        ),
+        (
+            "%AMOC8*5,1,8,0,0,1.08239X$1,22.5*%%ADD11OC8,1.6764001*%D11*X1000000Y0D03*M02*",
+            "Copper(Gerber(OffGrid)) at command 7",
+        ),
+        (
+            "%AMOC8*5,1,8,0,0,1.08239X$1,22.5*%%ADD11OC8,-1*%D11*X1000000Y0D03*M02*",
+            "Copper(Gerber(OutOfRange)) at command 7",
+        ),
+        (
+            "%AMOC8*5,1,8,0,0,1.08239X$1,22.5*%%ADD11OC8,46.2*%D11*X1000000Y0D03*M02*",
+            "Copper(Gerber(OutOfRange)) at command 7",
+        ),
+        (
             "%AMQ*5,1,5,0,0,0.5,-90*%%ADD11Q*%D11*X0Y0D03*M02*",
             "5 corners about 0 0 by 50000000000 at 2700000000 by 9.0",
         ),
@@ -401,7 +452,11 @@ fn of_turns() -> [(&'static str, &'static str); 13] {
         ),
         (
             "%AMQ*5,1,5,1,0,0.5,45*%%ADD11Q*%D11*X0Y0D03*M02*",
-            "Copper(Turn) at command 7",
+            "5 corners about 10000000 0 by 50000000000 at 450000000, turned 450000000 about 0 0 by 9.0",
+        ),
+        (
+            "%AMQ*5,1,3,1,0,0.5,-240*%%ADD11Q*%D11*X1000000Y0D03*M02*",
+            "3 corners about 10000000 10000000 by 50000000000 at 1200000000, turned 300000000 about 10000000 0 by 9.0",
         ),
         (
             "%AMV*1,1,1.0,1,0,-240*%%ADD11V*%D11*X1000000Y0D03*M02*",
@@ -414,9 +469,9 @@ fn of_turns() -> [(&'static str, &'static str); 13] {
     ]
 }
 
-// Circles and rectangles with a hole, all of this crate's own: draws once round the middle, regions, and no pens. A
+// Apertures with a hole, all of this crate's own: draws once round the middle, regions, figures in half u, and no pens. A
 // contour is none.
-fn of_holes() -> [(&'static str, &'static str); 7] {
+fn of_holes() -> [(&'static str, &'static str); 12] {
     [
         (
             "%ADD11C,1.0X0.5*%D11*X1000000Y0D03*D10*D03*M02*",
@@ -439,8 +494,29 @@ fn of_holes() -> [(&'static str, &'static str); 7] {
             "%ADD11R,2.0X1.0X0.5*%%SRX2Y1I3.0J0*%D11*X0Y0D03*%SR*%M02*",
             "from 2500000 0, (0 0) false 2500000 0, 10000000 0, 10000000 5000000, -10000000 5000000, -10000000 -5000000, 10000000 -5000000, 10000000 0, 2500000 0 by 8.0\nfrom 32500000 0, (30000000 0) false 32500000 0, 40000000 0, 40000000 5000000, 20000000 5000000, 20000000 -5000000, 40000000 -5000000, 40000000 0, 32500000 0 by 8.1",
         ),
+        // Of other sizes, figures in half u without the hole.
         (
-            "%ADD11O,1.0X1.0X0.5*%M02*",
+            "%ADD11C,0.0000011X0.0000007*%%SRX2Y1I3.0J0*%D11*X1000000Y0D03*%SR*%M02*",
+            "in halves 20000000 0, 20000000 0, 11 without 7 at 10000000 0 by 8.0\nin halves 80000000 0, 80000000 0, 11 without 7 at 40000000 0 by 8.1",
+        ),
+        (
+            "%ADD11C,1.0X0.5000002*%D11*X0Y0D03*M02*",
+            "in halves 0 0, 0 0, 10000000 without 5000002 at 0 0 by 7.0",
+        ),
+        (
+            "%ADD11R,1.0X0.5000001X0.3*%D11*X0Y1000000D03*M02*",
+            "in halves from -10000000 14999999 to 10000000 25000001 without 3000000 at 0 10000000 by 7.0",
+        ),
+        (
+            "%ADD11O,0.5X0.3000001X0.2*%D11*X0Y0D03*M02*",
+            "in halves -1999999 0, 1999999 0, 3000001 without 2000000 at 0 0 by 7.0",
+        ),
+        (
+            "%ADD11O,0.5X0.3X0.2*%D11*X1000000D01*M02*",
+            "Copper(Gerber(PenNotCircle)) at command 7",
+        ),
+        (
+            "%ADD11O,1.0X1.0X1.0*%M02*",
             "Copper(Gerber(Hole)) at command 5",
         ),
     ]

@@ -1,4 +1,5 @@
 mod Capsules
 mod Fine
+mod Pierced
 mod Read
 mod Rectangles

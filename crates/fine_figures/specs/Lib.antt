@@ -1,3 +1,4 @@
 pub mod Fine
+pub mod Holes
 pub mod Laws
 pub mod Taken

@@ -5,18 +5,21 @@
 //! and up has bounds on our grid.
 //!
 //! - `bounds`: whether a figure lies in a fine one, or holds it.
+//! - `holes`: so with a fine one that has a round hole.
 //! - `strokes`: whether strokes have their ends near one another.
 //! - `sides`: whether boxes lie between sides, or around them.
 //! - `laws`: laws over the definitions alone.
 #![tactic(auto)]
 
 mod bounds;
+mod holes;
 pub mod laws;
 mod sides;
 mod strokes;
 
 pub use bounds::{is_fine_above, is_fine_below};
 pub use contact::Bounds;
+pub use holes::{is_holed_above, is_holed_below};
 pub use planar::Spot;
 pub use strokes::doubled;
 
@@ -36,6 +39,14 @@ pub enum FineFigure {
     Round(FineStroke),
     /// Along the axes, its sides in half u.
     Rectangle(Bounds),
+}
+
+/// A figure on that grid without the places that are nearer to the centre, in u, than half the diameter `hole`, in u too.
+#[derive(Clone, Copy, Debug, PartialEq, Eq)]
+pub struct HoledFigure {
+    pub outline: FineFigure,
+    pub centre: Spot,
+    pub hole: u64,
 }
 
 #[cfg(test)]

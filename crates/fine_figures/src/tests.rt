@@ -1,13 +1,17 @@
 //! Fine figures and figures on the grid of u. The answers were reckoned by hand, by squares of ways in half u.
 ghost use Rattle.planar.specs.Plane.{IsPlaced};
+ghost use Rattle.std.specs.Prelude.{◌<◌, ◌≡◌};
 
 use super::*;
 use area_contact::Area;
 use board_shapes::Shape;
 use contact::Capsule;
-use planar::are_placed;
+use planar::{Frame, are_placed};
 use std::alloc::Global;
+use std::marker::Brand;
+use std::sync::ledger::{Blank, Ledger};
 use std::test::Fail;
+use steps::Steps;
 
 fn spot(p: [i16; 2]) -> Spot
     ensures { IsPlaced result }
@@ -176,5 +180,70 @@ fn contours_are_told(rt: HostRuntime) -> Result<(), Fail> {
     assert!(rt; taken(&pad(), &capsule([-1, 0], [1, 0], 3)) == (true, false));
     assert!(rt; taken(&pad(), &capsule([-1, 0], [2, 0], 3)) == (false, false));
     assert!(rt; taken(&pad(), &capsule([0, 0], [0, 0], 200)) == (false, false));
+    Ok(())
+}
+
+fn below_by<L: Ledger>(holed: &HoledFigure, bound: &Shape, blank: Blank) -> bool
+    requires name { blank.name ≡ L.name }
+    requires parts { blank.parts ≡ L.parts }
+    requires some { 0 < blank.parts }
+{
+    let mut tests = Steps::<L>::new(blank);
+    let frame = Frame {
+        left: -5000,
+        low: -5000,
+    };
+    is_holed_below(holed, bound, frame, &mut tests)
+}
+
+/// Whether the figure is taken below and above the one with a hole about 0.
+fn taken_round(outline: FineFigure, hole: u8, bound: &Shape) -> (bool, bool) {
+    let holed = HoledFigure {
+        outline,
+        centre: spot([0, 0]),
+        hole: hole as u64,
+    };
+    (
+        below_by::<Brand>(&holed, bound, Blank::new(1)),
+        is_holed_above(&holed, bound),
+    )
+}
+
+/// Capsules, and whether they are taken below and above an obround of 301 by 101 u with a hole of 21 u.
+fn round_a_hole() -> [([i16; 4], u8, (bool, bool)); 8] {
+    [
+        ([32, 0, 100, 0], 20, (true, false)),
+        // at the hole
+        ([31, 0, 100, 0], 20, (false, false)),
+        // at the side, and at the end
+        ([30, 30, 100, 30], 20, (true, false)),
+        ([30, 31, 100, 31], 20, (false, false)),
+        ([130, 0, 130, 0], 20, (true, false)),
+        ([131, 0, 131, 0], 20, (false, false)),
+        // all round
+        ([-100, 0, 100, 0], 51, (false, true)),
+        ([-100, 0, 100, 0], 50, (false, false)),
+    ]
+}
+
+#[test]
+fn holes_are_told(rt: HostRuntime) -> Result<(), Fail> {
+    for (c, r, told) in round_a_hole() {
+        let lying = stroke([-200, 0], [200, 0], 101);
+        let bound = capsule([c[0], c[1]], [c[2], c[3]], r);
+        assert!(rt; taken_round(lying, 21, &bound) == told);
+        let standing = stroke([0, -200], [0, 200], 101);
+        let bound = capsule([c[1], c[0]], [c[3], c[2]], r);
+        assert!(rt; taken_round(standing, 21, &bound) == told);
+    }
+    for (corners, told) in [
+        ([3, -3, 4, -3, 4, 3, 3, 3], (true, false)),
+        ([2, -3, 4, -3, 4, 3, 2, 3], (false, false)),
+        ([3, -3, 5, -3, 5, 3, 3, 3], (false, false)),
+        ([-5, -3, 5, -3, 5, 3, -5, 3], (false, true)),
+    ] {
+        let bound = area(rt.alloc(), corners)?;
+        assert!(rt; taken_round(pad(), 3, &bound) == told);
+    }
     Ok(())
 }

@@ -10,8 +10,7 @@ use Rattle.apertures.specs.declared.fault.ApertureFault.{ApertureFault}
 use Rattle.apertures.specs.declared.fault.ApertureFault.TheVariants as aperture
 use Rattle.apertures.specs.Definition.{aperture_at, name_of}
 use Rattle.apertures.specs.Fine.{fine_at}
-use Rattle.apertures.specs.Holes.{holed_at}
-use Rattle.apertures.specs.Real.{or_real, real_aperture_at}
+use Rattle.apertures.specs.Real.{any_holed_at, or_real, real_aperture_at}
 use Rattle.aperture_macros.specs.BodyWord.{PlainPrimitive, primitive_at}
 use Rattle.aperture_macros.specs.declared.fault.MacroFault.{MacroFault}
 use Rattle.aperture_macros.specs.declared.primitive.Copper.{Copper}
@@ -112,7 +111,7 @@ defined_any copper k text e h =
           n = digits_value 10 (number_digits text);
           tool = composed (name_of (name_text text)) c.parameters unit;
           unit_is = is;
-          read_is = of_macro (aperture_at text unit) (holed_at text unit) (fine_at text unit) (composed_in text unit) of ∙ ap (option_map (λ (ps : List Fraction). (digits_value 10 (number_digits text), composed (name_of (name_text text)) ps unit))) c.read;
+          read_is = of_macro (aperture_at text unit) (any_holed_at text unit) (fine_at text unit) (composed_in text unit) of ∙ ap (option_map (λ (ps : List Fraction). (digits_value 10 (number_digits text), composed (name_of (name_text text)) ps unit))) c.read;
           is = c.is;
         }
     by unit is false of h = standard_did copper k text unit e is (gerber_ok (define_in copper k text unit) e h)

@@ -23,7 +23,7 @@ pub enum FlattenKind {
     NoMacro,
     /// A primitive whose exposure is not on.
     ExposureOff,
-    /// A primitive that is turned by no quarter turn; of real copper a slanted line, or a polygon off the origin.
+    /// A primitive that is turned by no quarter turn; of real copper a slanted line.
     Turn,
     /// A vector line that is not along an axis.
     Slanted,

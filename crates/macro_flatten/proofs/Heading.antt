@@ -8,8 +8,7 @@ use Rattle.apertures.specs.declared.aperture.Aperture.{Aperture}
 use Rattle.apertures.specs.declared.aperture.Aperture.TheVariants.{Circle}
 use Rattle.apertures.specs.declared.fault.ApertureFault.{ApertureFault}
 use Rattle.apertures.specs.Fine.{fine_at}
-use Rattle.apertures.specs.Holes.{holed_at}
-use Rattle.apertures.specs.Real.{or_real}
+use Rattle.apertures.specs.Real.{any_holed_at, or_real}
 use Rattle.gerber_layer.specs.Command.{Command, formats, counts_in, defines}
 use Rattle.gerber_layer.specs.CommandEffects.{stays, makes}
 use Rattle.gerber_layer.specs.declared.place.Place.{Place}
@@ -47,7 +46,7 @@ begun p =
 
 -- what a number is defined as behind one more definition
 defined_then : (p : Place) (n d m : ℕ) (h : List Command) → 10 ≤ n → n ≤ 70_000 → IsPen d → Stands p h → defined_before (defines (circle_text n d) ∷ h) m ≡ option_or (cond (eqb n m) (Some (standard (Circle (pos d)))) None) (defined_before h m)
-defined_then p n d m h low high small s = rw s.unit (ap (λ (r : Result (ℕ × Aperture) ApertureFault). option_or (as_number m (tool_by (or_real r (holed_at (circle_text n d) Mm) (fine_at (circle_text n d) Mm)) (composed_in (circle_text n d) Mm))) (defined_before h m)) (defines_circle n d low high small.0 small.1))
+defined_then p n d m h low high small s = rw s.unit (ap (λ (r : Result (ℕ × Aperture) ApertureFault). option_or (as_number m (tool_by (or_real r (any_holed_at (circle_text n d) Mm) (fine_at (circle_text n d) Mm)) (composed_in (circle_text n d) Mm))) (defined_before h m)) (defines_circle n d low high small.0 small.1))
 
 other : (n m : ℕ) → (n ≡ m → ⊥) → eqb n m ≡ false
 other n m f = by (eqb n m) refl

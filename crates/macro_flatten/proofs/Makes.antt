@@ -15,7 +15,7 @@ use Rattle.area_contact.specs.Contour.{end_from}
 use Rattle.board_shapes.specs.Figures.{Figure, round, figure_edges}
 use Rattle.board_shapes.specs.Pieces.{PlainPiece}
 use Rattle.apertures.specs.declared.aperture.Aperture.{Aperture}
-use Rattle.apertures.specs.declared.aperture.Aperture.TheVariants.{Circle, Rectangle, Obround, Ring, Frame, FineRectangle, FineObround, FineCircle}
+use Rattle.apertures.specs.declared.aperture.Aperture.TheVariants.{Circle, Rectangle, Obround, Ring, Frame, FineRectangle, FineObround, FineCircle, Holed}
 use Rattle.apertures.specs.Definition.{is_zero}
 use Rattle.apertures.specs.Flash.{NoFlash, IsNarrow, IsSize, IsLawful, even_pen, flash_of, half}
 use Rattle.aperture_macros.specs.BodyWord.{PlainPrimitive}
@@ -155,6 +155,7 @@ pen_size (standard (Ring x hole)) d h e = cc
 pen_size (standard (Frame x y hole)) d h e = cc
 pen_size (standard (FineRectangle x y)) d h e = cc
 pen_size (standard (FineObround x y)) d h e = cc
+pen_size (standard (Holed form)) d h e = cc
 pen_size (standard (FineCircle c)) d h e = let same : even_pen c ≡ d = cc in subst (λ (z : ℤ). IsSize z × IsNarrow (unsigned_abs z)) same (even_size c)
 pen_size (composed name parameters unit) d h e = cc
 

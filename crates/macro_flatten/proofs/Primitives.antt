@@ -28,7 +28,7 @@ use Rattle.aperture_macros.specs.Telling.{is_moved, told, told_rest, told_round}
 use Rattle.aperture_macros.specs.Images.{area_at, circle_at, centre_at, centred, disc_at, figure_by, line_at, line_between, outline_at, polygon_at, polygon_spots, set_down, sketch_at, sketched, slanted, stroke_at, outlined, strip}
 use Rattle.aperture_macros.specs.Outlines.{closing_at, moved_from}
 use Rattle.aperture_macros.specs.Sized.{IsSized}
-use Rattle.aperture_macros.specs.Values.{as_size, coordinate_at, diameter_at, point_at, size_at}
+use Rattle.aperture_macros.specs.Values.{across_at, as_size, coordinate_at, diameter_at, point_at, size_at}
 use Rattle.aperture_macros.proofs.Closings.{closing_is, outline_refused, outlined_by}
 use Rattle.aperture_macros.proofs.Readings.{passed}
 use Rattle.aperture_macros.proofs.Strokes.{then_ok}
@@ -127,8 +127,8 @@ centre_pen text given unit s h =
 polygon_pen : (n : ℕ) (text : List ℕ) (given : List Fraction) (unit : Measure) (s : Option Sketch) → polygon_at n text given unit ≡ Ok s → IsPen s
 unfolding polygon_at IsPen
 polygon_pen n text given unit s h =
-    let p = then_ok (point_at text given unit) (λ p. diameter_at (part 2 text) given unit >>= λ d. Ok (cond (eqb d 0) None (Some (Regular p d n)))) s h in
-    let d = then_ok (diameter_at (part 2 text) given unit) (λ d. Ok (cond (eqb d 0) None (Some (Regular p.0 d n)))) s p.2 in
+    let p = then_ok (point_at text given unit) (λ p. across_at (part 2 text) given unit >>= λ d. Ok (cond (eqb d 0) None (Some (Regular p d n)))) s h in
+    let d = then_ok (across_at (part 2 text) given unit) (λ d. Ok (cond (eqb d 0) None (Some (Regular p.0 d n)))) s p.2 in
     by d.0 p.0 (eqb d.0 0) d.2
   where
     by : (d : ℕ) (p : Spot) (b : Bool) → ◌≡◌ {A = Result (Option Sketch) MacroFault} (Ok (cond b None (Some (Regular p d n)))) (Ok s) → IsPen s

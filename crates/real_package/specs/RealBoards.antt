@@ -1,6 +1,6 @@
 -- Boards of real copper as plain data, and what such a board keeps.
 use Rattle.std.specs.Prelude.{◌≡◌, ℕ, ◌-◌, ◌^◌, nat_lt, if◌then◌else◌, List, [], ◌++◌, map, sum_by, length}
-use Rattle.arc_layer.specs.Real.{PlainReal, RealFigure, plain, bent, slanted, curved, turned, turned_disc, regular, fine, plain_reals}
+use Rattle.arc_layer.specs.Real.{PlainReal, RealFigure, plain, bent, slanted, curved, turned, turned_disc, regular, fine, holed, plain_reals}
 use Rattle.real_shapes.specs.declared.RealShape.{RealShape}
 use Rattle.board_shapes.specs.Figures.{figure_edges}
 use Rattle.board_shapes.specs.Pieces.{PlainPiece}
@@ -54,8 +54,9 @@ real_edges (slanted line) = 0
 real_edges (curved start parts) = counted (length parts)
 real_edges (turned contour about rest) = counted (length contour - 1)
 real_edges (turned_disc disc) = 0
-real_edges (regular g) = g.corners
+real_edges (regular g) = g.polygon.corners
 real_edges (fine f) = 0
+real_edges (holed h) = 0
 
 abbrev pub edges_in : List PlainReal → ℕ
 edges_in pieces = sum_by (λ (p : PlainReal). real_edges p.figure) pieces

@@ -35,8 +35,9 @@ fn edges_of(shape: &RealShape) -> u32
         RealShape::Region(region) => counted(region.parts.len()),
         RealShape::Turned(figure) => counted(figure.contour.len().saturating_sub(1)),
         RealShape::TurnedDisc(_) => 0,
-        RealShape::Polygon(polygon) => polygon.corners,
+        RealShape::Polygon(turned) => turned.polygon.corners,
         RealShape::Fine(_) => 0,
+        RealShape::Holed(_) => 0,
     }
 }
 

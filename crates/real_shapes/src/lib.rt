@@ -6,12 +6,13 @@
 use arc_regions::Region;
 use arcs::Arc;
 use board_shapes::{Placed, Shape};
-use fine_figures::FineFigure;
-use slants::{RegularPolygon, Slant, TurnedDisc, TurnedFigure};
+use fine_figures::{FineFigure, HoledFigure};
+use slants::{Slant, TurnedDisc, TurnedFigure};
+use turned_polygons::TurnedPolygon;
 
 /// A figure of ours, an arc draw with a round pen, a rectangle about a slanted line, a region whose
 /// contour has arcs, a figure or a disc turned by degrees, a regular polygon in any direction, or a figure on
-/// the grid of half a u.
+/// the grid of half a u, with a round hole or without.
 #[derive(Drop)]
 pub enum RealShape {
     Plain(Shape),
@@ -20,8 +21,9 @@ pub enum RealShape {
     Region(Region),
     Turned(TurnedFigure),
     TurnedDisc(TurnedDisc),
-    Polygon(RegularPolygon),
+    Polygon(TurnedPolygon),
     Fine(FineFigure),
+    Holed(HoledFigure),
 }
 
 /// Such a shape on a span of layers, with what made it.

@@ -7,7 +7,7 @@ use Rattle.board_shapes.specs.Rectangles.{rectangle}
 use Rattle.slants.specs.Cones.{FigureAbove, FigureBelow, PossiblyTurned, SurelyTurned, cosine, sine, turns_by}
 use Rattle.slants.specs.Copper.{InSlant}
 use Rattle.slants.specs.Discs.{DiscAbove, DiscBelow, PossiblyInDisc, SurelyInDisc, disc_about}
-use Rattle.slants.specs.Polygons.{IsRegular, PolygonAbove, PolygonBelow, PossiblyInPolygon, SurelyInPolygon}
+use Rattle.slants.specs.Polygons.{InHull, IsRegular, PolygonBelow, PolygonsAbove, PossiblyInPolygon, SurelyInPolygon}
 use Rattle.slants.specs.Taken.{TakenAbove, TakenBelow}
 use Rattle.slants.specs.Turned.{IsBetween, IsTurn, meet_of}
 use Rattle.slants.specs.declared.Slant.{Slant}
@@ -90,9 +90,16 @@ DiscsHaveCopper = (a : TurnedDisc) (p : Point) → a.angle < RIGHT_ANGLE → Sur
 
 -- ---- regular polygons
 
--- A contour that is taken below lies in the polygon at all turns of its cones, and one that is taken above holds it at each
+-- A contour that is taken below lies in the polygon at all turns of its cones
+abbrev pub PolygonBelowLies : Type 0
+PolygonBelowLies = (g : RegularPolygon) (points : List Spot) (p : Point) → PolygonBelow g points → InFigure (filled points) p → SurelyInPolygon g p
+
+-- One that is taken above polygons holds their hull at each
+abbrev pub PolygonsAboveHold : Type 0
+PolygonsAboveHold = (gs : List RegularPolygon) (points : List Spot) (p : Point) → PolygonsAbove gs points → InHull gs p → InFigure (filled points) p
+
 abbrev pub PolygonIsBetween : Type 0
-PolygonIsBetween = (g : RegularPolygon) (points : List Spot) (p : Point) → (PolygonBelow g points → InFigure (filled points) p → SurelyInPolygon g p) × (PolygonAbove g points → PossiblyInPolygon g p → InFigure (filled points) p)
+PolygonIsBetween = PolygonBelowLies × PolygonsAboveHold
 
 -- There is a copper of each of 3 to 12 corners whose circle ends less than 1 m from 0 in x and in y: what lies on the left of each edge at all turns of its cone lies in the hull of the corners at theirs
 abbrev pub PolygonsHaveCopper : Type 0

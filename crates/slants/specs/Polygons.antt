@@ -80,6 +80,13 @@ HasCorners g b c = (k : ℕ) (t : Turn) → k < g.corners → IsBetween (turns_t
 abbrev pub PossiblyInPolygon : RegularPolygon → Point → Type 0
 PossiblyInPolygon g p = (b c : Spot) → HasCorners g b c → pos 0 ≤ℤ side_of b c p.x p.y p.n
 
+-- so of the corners of several polygons
+abbrev pub HaveCorners : List RegularPolygon → Spot → Spot → Type 0
+HaveCorners gs b c = All (λ g. HasCorners g b c) gs
+
+abbrev pub InHull : List RegularPolygon → Point → Type 0
+InHull gs p = (b c : Spot) → HaveCorners gs b c → pos 0 ≤ℤ side_of b c p.x p.y p.n
+
 -- The points are a copper of the polygon, whose edges and corners have these cones. All points that are surely in it are, and no others than those that possibly are
 pub record IsPolygonCopper (g : RegularPolygon) (holds : Point → Type 0) : Type 0 where
   pub least : (p : Point) → SurelyInPolygon g p → holds p
@@ -98,11 +105,15 @@ pub record IsRegular (g : RegularPolygon) : Type 0 where
 abbrev pub CornersLean : RegularPolygon → Spot → Spot → Type 0
 CornersLean g b c = (k : ℕ) → k < g.corners → Leans (turns_to g (2 * k)) b c (corner_of g k)
 
--- a contour that goes round once, with all corners on the left of each edge
-pub record PolygonAbove (g : RegularPolygon) (points : List Spot) : Type 0 where
-  pub regular : IsRegular g
+-- so of each polygon of the list
+abbrev pub AllCornersLean : List RegularPolygon → Spot → Spot → Type 0
+AllCornersLean gs b c = All (λ g. CornersLean g b c) gs
+
+-- a contour that goes round once, with all corners of the polygons on the left of each edge
+pub record PolygonsAbove (gs : List RegularPolygon) (points : List Spot) : Type 0 where
+  pub regular : All IsRegular gs
   pub placed : All IsPlaced points
-  pub round : GoesRound (CornersLean g) points
+  pub round : GoesRound (AllCornersLean gs) points
 
 -- each of the points, turned back, is on the left of the edge
 abbrev pub EdgeHolds : RegularPolygon → List Spot → ℕ → Type 0

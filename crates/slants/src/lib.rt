@@ -36,7 +36,7 @@ pub use discs::{TurnedDisc, is_above_disc, is_below_disc};
 pub use figure::TurnedFigure;
 pub use measures::FINE;
 pub use planar::Spot;
-pub use polygons::{PARTS, RegularPolygon, is_above_polygon, is_below_polygon};
+pub use polygons::{PARTS, RegularPolygon, is_above_polygons, is_below_polygon};
 pub use turned::{is_above_turned, is_below_turned};
 pub use turns::{MOST_PART, Motions, Turn};
 

@@ -120,7 +120,7 @@ fn is_told(row: &Row) -> bool {
         angle,
     };
     is_below_polygon(&polygon, &contour(points)) == answers.0
-        && is_above_polygon(&polygon, &contour(points)) == answers.1
+        && is_above_polygons(&[polygon], &contour(points)) == answers.1
 }
 
 #[test]

@@ -3,7 +3,7 @@ ghost use Rattle.board_shapes.specs.Figures.{InFigure, filled};
 ghost use Rattle.planar.specs.Plane.{IsPlaced, IsWithin, Point};
 ghost use Rattle.planar.specs.declared.TheConstants.{METRE};
 ghost use Rattle.slants.specs.Polygons as spec;
-ghost use Rattle.slants.specs.Polygons.{CornersLean, EdgeHolds, IsRegular, PolygonAbove, PolygonBelow, PossiblyInPolygon, SurelyInPolygon, corner_of, direction_of, edge_end, edge_start, inner_of, place_of, reach_of, step_of};
+ghost use Rattle.slants.specs.Polygons.{AllCornersLean, CornersLean, EdgeHolds, InHull, IsRegular, PolygonBelow, PolygonsAbove, SurelyInPolygon, corner_of, direction_of, edge_end, edge_start, inner_of, place_of, reach_of, step_of};
 ghost use Rattle.slants.specs.Rounds.{EachEdge, EachFrom, GoesRound, on_way};
 ghost use Rattle.slants.specs.Turned.{AreReady, Leans};
 ghost use Rattle.std.specs.Prelude.{All, IsTrue, ℕ, unsigned_abs, ◌*◌, ◌+◌, ◌/◌, ◌<◌, ◌≡◌, ◌≤◌, ◌↔◌};
@@ -199,30 +199,45 @@ fn corners_lean(g: &RegularPolygon, b: Spot, c: Spot) -> bool
     true
 }
 
-/// Whether it is so for the edge from `b` to `c`, or `back` for that from `c` to `b`.
-fn corners_lean_so(g: &RegularPolygon, back: bool, b: Spot, c: Spot) -> bool
-    requires regular { IsRegular g.now }
+/// Whether it is so of each polygon.
+fn all_corners_lean(gs: &[RegularPolygon], b: Spot, c: Spot) -> bool
+    requires regular { All IsRegular gs.now }
     requires b_placed { IsPlaced b }
     requires c_placed { IsPlaced c }
-    ensures { IsTrue result ↔ on_way back (CornersLean g.now) b c }
+    ensures { IsTrue result ↔ AllCornersLean gs.now b c }
+{
+    for g in gs {
+        if !corners_lean(g, b, c) {
+            return false;
+        }
+    }
+    true
+}
+
+/// Whether it is so for the edge from `b` to `c`, or `back` for that from `c` to `b`.
+fn corners_lean_so(gs: &[RegularPolygon], back: bool, b: Spot, c: Spot) -> bool
+    requires regular { All IsRegular gs.now }
+    requires b_placed { IsPlaced b }
+    requires c_placed { IsPlaced c }
+    ensures { IsTrue result ↔ on_way back (AllCornersLean gs.now) b c }
 {
     if back {
-        corners_lean(g, c, b)
+        all_corners_lean(gs, c, b)
     } else {
-        corners_lean(g, b, c)
+        all_corners_lean(gs, b, c)
     }
 }
 
 /// Whether it is so for each edge of the way from `start`, or for each of the way back.
-fn each_has_corners(g: &RegularPolygon, back: bool, start: Spot, rest: &[Spot]) -> bool
-    requires regular { IsRegular g.now }
+fn each_has_corners(gs: &[RegularPolygon], back: bool, start: Spot, rest: &[Spot]) -> bool
+    requires regular { All IsRegular gs.now }
     requires start_placed { IsPlaced start }
     requires rest_placed { All IsPlaced rest.now }
-    ensures { IsTrue result ↔ EachFrom (on_way back (CornersLean g.now)) start rest.now }
+    ensures { IsTrue result ↔ EachFrom (on_way back (AllCornersLean gs.now)) start rest.now }
 {
     let mut from = start;
     for to in rest {
-        if !corners_lean_so(g, back, from, *to) {
+        if !corners_lean_so(gs, back, from, *to) {
             return false;
         }
         from = *to;
@@ -231,39 +246,46 @@ fn each_has_corners(g: &RegularPolygon, back: bool, start: Spot, rest: &[Spot]) 
 }
 
 /// Whether it is so for one of both.
-fn has_corners(g: &RegularPolygon, start: Spot, rest: &[Spot]) -> bool
-    requires regular { IsRegular g.now }
+fn has_corners(gs: &[RegularPolygon], start: Spot, rest: &[Spot]) -> bool
+    requires regular { All IsRegular gs.now }
     requires start_placed { IsPlaced start }
     requires rest_placed { All IsPlaced rest.now }
-    ensures { IsTrue result ↔ EachEdge (CornersLean g.now) start rest.now }
+    ensures { IsTrue result ↔ EachEdge (AllCornersLean gs.now) start rest.now }
 {
-    each_has_corners(g, false, start, rest) || each_has_corners(g, true, start, rest)
+    each_has_corners(gs, false, start, rest) || each_has_corners(gs, true, start, rest)
 }
 
-/// Whether the contour goes round the polygon once.
-fn goes_round(g: &RegularPolygon, points: &[Spot]) -> bool
-    requires regular { IsRegular g.now }
+/// Whether the contour goes round the polygons once.
+fn goes_round(gs: &[RegularPolygon], points: &[Spot]) -> bool
+    requires regular { All IsRegular gs.now }
     requires placed { All IsPlaced points.now }
-    ensures { IsTrue result ↔ GoesRound (CornersLean g.now) points.now }
+    ensures { IsTrue result ↔ GoesRound (AllCornersLean gs.now) points.now }
 {
     match points {
         [] => false,
         [first, rest @ ..] => is_closed(points)
             && goes_once(*first, rest)
-            && has_corners(g, *first, rest),
+            && has_corners(gs, *first, rest),
     }
 }
 
-/// Whether the contour, which ends where it begins, holds the polygon. Its edges have to rise in one run, with all
-/// corners of the polygon on one side of each (`PolygonAbove`).
-pub fn is_above_polygon(g: &RegularPolygon, points: &[Spot]) -> bool
-    ensures taken { IsTrue result ↔ PolygonAbove g.now points.now }
-    ensures copper { IsTrue result → (p : Point) → PossiblyInPolygon g.now p → InFigure (filled points.now) p }
+/// Whether each of them has so many corners, and stays in a metre.
+fn are_regular(gs: &[RegularPolygon]) -> bool
+    ensures { IsTrue result ↔ All IsRegular gs.now }
 {
-    if !(is_regular(g) && are_placed(points)) {
+    gs.iter().all(|g| is_regular(g))
+}
+
+/// Whether the contour, which ends where it begins, holds the hull of the polygons. Its edges have to rise in one run,
+/// with all corners of the polygons on one side of each (`PolygonsAbove`).
+pub fn is_above_polygons(gs: &[RegularPolygon], points: &[Spot]) -> bool
+    ensures taken { IsTrue result ↔ PolygonsAbove gs.now points.now }
+    ensures copper { IsTrue result → (p : Point) → InHull gs.now p → InFigure (filled points.now) p }
+{
+    if !(are_regular(gs) && are_placed(points)) {
         return false;
     }
-    goes_round(g, points)
+    goes_round(gs, points)
 }
 
 /// Whether each of the points, turned back, is on the left of edge `k`.

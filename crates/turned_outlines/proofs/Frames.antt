@@ -100,7 +100,7 @@ on_circle t = by t.x t.y
     by x y = simp ring (omega (arith, linear))
 
 -- where the corner comes to
-abbrev come : Spot → (t : Turn) → IsTurn t → Spot → Point
+abbrev pub come : Spot → (t : Turn) → IsTurn t → Spot → Point
 come o t some a = record {
   x = (meet_of t t).n *ℤ o.x +ℤ ((meet_of t t).x *ℤ (a.x -ℤ o.x) -ℤ (meet_of t t).y *ℤ (a.y -ℤ o.y));
   y = (meet_of t t).n *ℤ o.y +ℤ ((meet_of t t).x *ℤ (a.y -ℤ o.y) +ℤ (meet_of t t).y *ℤ (a.x -ℤ o.x));
@@ -173,7 +173,7 @@ off_y cx cy c n px py ox oy ax ay by h =
 
 module _ (law : DiscsAreBetween) (o : Spot) (angle r : ℕ) (t : Turn) (some : IsTurn t) (between : IsBetween (turns_by o angle) t) where
   -- at the turn the corner is at most r from its spot
-  comes_near : (a b : Spot) → DiscAbove (corner_of a o angle) b r → norm ((come o t some a).x -ℤ (meet_of t t).n *ℤ b.x) ((come o t some a).y -ℤ (meet_of t t).n *ℤ b.y) ≤ℤ square ((meet_of t t).n *ℤ pos r)
+  pub comes_near : (a b : Spot) → DiscAbove (corner_of a o angle) b r → norm ((come o t some a).x -ℤ (meet_of t t).n *ℤ b.x) ((come o t some a).y -ℤ (meet_of t t).n *ℤ b.y) ≤ℤ square ((meet_of t t).n *ℤ pos r)
   comes_near a b h =
       let q : Point = turned_back (turns_by o angle) t some (come o t some a) in
       let e : q.x ≡ q.n *ℤ a.x = back_x (meet_of t t).x (meet_of t t).y (meet_of t t).n o.x o.y (a.x -ℤ o.x) (a.y -ℤ o.y) (on_circle t) ∙ rw (restored o.x a.x) refl in

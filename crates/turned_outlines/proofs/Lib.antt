@@ -2,6 +2,6 @@ mod Both
 mod Cuts
 mod Rays
 mod Quads
-mod Frames
+pub mod Frames
 mod Outlines
 mod Places

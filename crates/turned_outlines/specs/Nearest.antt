@@ -44,6 +44,9 @@ kept q s = if is_placed q then q else s
 abbrev pub turned_corner : Direction → Spot → Spot → Spot
 turned_corner d o s = kept (turned_spot d o s) s
 
+abbrev pub turned_at : ℕ → Spot → Spot → Spot
+turned_at angle about s = turned_corner (direction_by (half_way angle)) about s
+
 abbrev pub turned_corners : List Spot → Spot → ℕ → List Spot
 turned_corners figure about angle = map (turned_corner (direction_by (half_way angle)) about) figure
 

@@ -16,7 +16,7 @@ mod nearest;
 
 pub use above::is_above_outline;
 pub use below::is_below_outline;
-pub use nearest::{slack, turned_corners};
+pub use nearest::{slack, turned_corners, turned_spot};
 pub use planar::Spot;
 pub use slants::TurnedFigure;
 

@@ -241,6 +241,16 @@ fn turned_corner(d: Direction, o: Spot, s: Spot) -> Spot
     spot_at(nearest(across, d.n), nearest(up, d.n), s)
 }
 
+/// The nearest spot to one, turned about another by about the angle, which is in 10^-7 degrees; itself where that would be over
+/// a metre off 0.
+pub fn turned_spot(s: Spot, about: Spot, angle: u32) -> Spot
+    requires about_placed { IsPlaced about }
+    requires placed { IsPlaced s }
+    ensures { result ≡ spec.turned_at angle about s }
+{
+    turned_corner(direction_at(angle), about, s)
+}
+
 /// The nearest spots to the corners, turned about the spot by about the angle, which is in 10^-7 degrees. One that would be over a
 /// metre off 0 stays as it was. `NoMemory` where memory is wanted for the spots.
 pub fn turned_corners(

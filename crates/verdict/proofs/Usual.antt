@@ -7,7 +7,8 @@ use Rattle.texts.specs.Digits.{is_decimal_digit}
 use Rattle.verdict.specs.declared.verdict.PointLine.{PointLine}
 use Rattle.verdict.specs.declared.verdict.SourceLine.{SourceLine}
 use Rattle.verdict.specs.declared.verdict.SpotLine.{SpotLine}
-use Rattle.verdict.specs.ReportReading.{◌>>=◌, IsShortEnd, behind, starts, wide_at, number_at, word_at, layer_at, signed_behind, signed_at, signed_word_at, net_number_at, heading_at, point_at, spot_at, source_at}
+use Rattle.verdict.specs.declared.verdict.Twig.{Twig}
+use Rattle.verdict.specs.ReportReading.{IsShortEnd, behind, starts, wide_at, number_at, word_at, layer_at, signed_behind, signed_at, signed_word_at, parent_at, twig_at, net_number_at, heading_at, point_at, spot_at, source_at}
 use Rattle.verdict.specs.ReportText.{word, end}
 use Rattle.verdict.proofs.Steps.{step, own, behind_again, behind_takes, layer_short, wide_takes, word_again, word_takes}
 use Rattle.verdict.proofs.ReadLines.{behind_none, net_number_again}
@@ -26,6 +27,18 @@ place_reads bytes a rest n blank read small =
     step (behind (32 ∷ []) bytes) (λ r. signed_at r) a (Some (pos n, rest)) blank
     (ap (λ (o : Option (List ℕ)). signed_behind o a) none
     ∙ step (wide_at a) (λ x. cond (ltb x.0 (2 ^ 63)) (Some (pos x.0, x.1)) None) (n, rest) (Some (pos n, rest)) read (rw below refl))
+
+-- a number whose text ends where no digit stands
+pub next_reads : (bytes a rest : List ℕ) (n : ℕ) → behind (32 ∷ []) bytes ≡ Some a → behind (decimal n) a ≡ Some rest → starts is_decimal_digit rest ≡ false → n < 2 ^ 32 → word_at bytes ≡ Some (n, rest)
+next_reads bytes a rest n blank read none small =
+    let whole : bytes ≡ 32 ∷ (decimal n ++ rest) = behind_takes (32 ∷ []) bytes a blank ∙ ap (λ (t : List ℕ). 32 ∷ t) (behind_takes (decimal n) a rest read) in
+    ap word_at whole ∙ word_again n rest small none
+
+pub twig_reads : (bytes a rest : List ℕ) (piece : ℕ) (parent : Option ℕ) → word_at bytes ≡ Some (piece, a) → parent_at a ≡ Some (parent, rest) → twig_at bytes ≡ Some (record { piece = piece; parent = parent }, rest)
+unfolding twig_at
+twig_reads bytes a rest piece parent h0 h1 =
+    let made : Twig = record { piece = piece; parent = parent } in
+    step (word_at bytes) _ (piece, a) (Some (made, rest)) h0 (step (parent_at a) _ (parent, rest) (Some (made, rest)) h1 refl)
 
 pub heading_reads : (title bytes a b rest : List ℕ) (n : ℕ) → behind title bytes ≡ Some a → behind (32 ∷ []) a ≡ Some b → behind (decimal n) b ≡ Some rest → heading_at title n bytes ≡ Some rest
 unfolding heading_at

@@ -253,6 +253,35 @@ pub fn usual_word(bytes: &[u8]) -> Option<(u32, &[u8])>
     }
 }
 
+/// A blank and a usual number, where they stand in front. Mostly it is the number after the line's, as that of a record is: then it is
+/// compared at once.
+#[inline(always)]
+pub fn word_after(bytes: &[u8], line: LineNumber) -> Option<(u32, &[u8])>
+    ensures { IfSome result (λ x. spec.word_at bytes.now ≡ Some (x.0, x.1.now)) }
+{
+    match next_word(bytes, line) {
+        Some((n, rest)) => Some((n, rest)),
+        None => usual_word(bytes),
+    }
+}
+
+// A blank and the number after the line's, where they stand in front.
+#[inline(always)]
+fn next_word(bytes: &[u8], line: LineNumber) -> Option<(u32, &[u8])>
+    ensures { IfSome result (λ x. spec.word_at bytes.now ≡ Some (x.0, x.1.now)) }
+{
+    if line.number >= 4_294_967_295 {
+        return None;
+    }
+    let digits = behind_byte(bytes, b' ')?;
+    let next = line.next();
+    let rest = next.behind(digits)?;
+    if begins_digit(rest) {
+        return None;
+    }
+    Some((next.number as u32, rest))
+}
+
 // The value of a digit; none exactly where the byte is no digit.
 fn digit_value(byte: u8) -> Option<u8>
     ensures some { IfSome result (λ d. (d < 10) × (byte ≡ 48 + d)) }
@@ -419,6 +448,21 @@ pub fn parent(bytes: &[u8]) -> Result<(Option<u32>, &[u8]), ReadFault>
         Some(rest) => {
             let (parent, rest) = number(rest)?;
             Ok((Some(parent), rest))
+        }
+    }
+}
+
+/// A usual number behind a colon, or none where no colon stands in front.
+#[inline(always)]
+#[tactic(auto, unfolding(crate::specs::ReportReading::parent_at))]
+pub fn usual_parent(bytes: &[u8]) -> Option<(Option<u32>, &[u8])>
+    ensures { IfSome result (λ x. spec.parent_at bytes.now ≡ Some (x.0, x.1.now)) }
+{
+    match behind_byte(bytes, b':') {
+        None => Some((None, bytes)),
+        Some(digits) => {
+            let (parent, rest) = usual_number(digits)?;
+            Some((Some(parent), rest))
         }
     }
 }

@@ -8,7 +8,8 @@ ghost use Rattle.verdict.specs.ReportText as report;
 
 use crate::fields::{
     begins_blank, behind_byte, count, expect, expect_byte, expect_line_number, layer, line_end,
-    net_number, parent, short, short_end, signed_word, titled, usual_place, usual_word, word,
+    net_number, parent, short, short_end, signed_word, titled, usual_parent, usual_place,
+    usual_word, word, word_after,
 };
 use crate::line_number::{LineNumber, behind_short};
 use crate::report_reading::ReadFault;
@@ -60,6 +61,28 @@ pub trait Line: Drop {
         ensures lawful { OnOk result (is_lawful self.now) };
 }
 
+// A twig of usual numbers, where one stands in front.
+#[inline(always)]
+fn usual_twig(bytes: &[u8]) -> Option<(Twig, &[u8])>
+    ensures { IfSome result (λ x. spec.twig_at bytes.now ≡ Some (x.0, x.1.now)) }
+{
+    let (piece, behind_piece) = usual_word(bytes)?;
+    let (parent, rest) = usual_parent(behind_piece)?;
+    Some((Twig { piece, parent }, rest))
+}
+
+// Any twig.
+#[cold]
+#[inline(never)]
+#[tactic(auto, unfolding(crate::specs::ReportReading::twig_at))]
+fn any_twig(bytes: &[u8]) -> Result<(Twig, &[u8]), ReadFault>
+    ensures { spec.Gives (λ x. (x.0, x.1.now)) result (spec.twig_at bytes.now) }
+{
+    let (piece, rest) = word(bytes)?;
+    let (parent, rest) = parent(rest)?;
+    Ok((Twig { piece, parent }, rest))
+}
+
 impl Word for Twig {
     ghost at = { spec.twig_at };
 
@@ -67,11 +90,11 @@ impl Word for Twig {
 
     ghost is_lawful = { IsTwig };
 
-    #[tactic(auto, unfolding(crate::specs::ReportReading::twig_at))]
     fn read(bytes: &[u8]) -> Result<(Twig, &[u8]), ReadFault> {
-        let (piece, rest) = word(bytes)?;
-        let (parent, rest) = parent(rest)?;
-        Ok((Twig { piece, parent }, rest))
+        match usual_twig(bytes) {
+            Some((twig, rest)) => Ok((twig, rest)),
+            None => any_twig(bytes),
+        }
     }
 
     fn write(&self, out: &mut Vec<u8>) -> Result<(), AllocError> {
@@ -245,7 +268,7 @@ fn usual_point(bytes: &[u8], line: LineNumber) -> Option<(PointLine, &[u8])>
     ensures { IfSome result (λ x. spec.point_at line.number bytes.now ≡ Some (x.0, x.1.now)) }
 {
     let rest = usual_heading(bytes, b"point ", line)?;
-    let (number, behind_number) = usual_word(rest)?;
+    let (number, behind_number) = word_after(rest, line)?;
     let (layer, behind_layer) = short(behind_number)?;
     let (name, behind_name) = usual_word(behind_layer)?;
     let (net, behind_net) = usual_word(behind_name)?;

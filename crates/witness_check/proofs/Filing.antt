@@ -1,5 +1,6 @@
 -- Extents of boxes, the intervals of pieces, and where those of two pieces that touch come together.
-use Rattle.std.proofs.Common.{FitsSigned, w64, to_z, of_z, to_z-of_z, unsigned_abs, ◌≡◌, ◌⊎◌, inl, inr, ℕ, ◌+◌, ◌/◌, ◌<◌, ◌≤◌, Bool, true, false, ◌==◌, ◌&&◌, ℤ, pos, ◌+ℤ◌, ◌-ℤ◌, ◌*ℤ◌, ◌≤ℤ◌, List, [], ◌∷◌, ◌++◌, length, get_or, All, Contains, Some, slice_get, refl, sym, ap, subst, ◌∙◌, arith}
+use Rattle.std.proofs.Common.{FitsSigned, w64, to_z, of_z, to_z-of_z, unsigned_abs, rules, ◌≡◌, ◌⊎◌, inl, inr, ℕ, ◌+◌, ◌/◌, ◌<◌, ◌≤◌, Bool, true, false, ◌==◌, ◌&&◌, ℤ, pos, ◌+ℤ◌, ◌-ℤ◌, ◌*ℤ◌, ◌≤ℤ◌, List, [], ◌∷◌, ◌++◌, length, get_or, All, Contains, Some, slice_get, refl, sym, ap, subst, ◌∙◌, arith}
+use Rattle.std.proofs.Math.IntN.{nat_abs}
 use Rattle.std.proofs.Math.Nat.{div-mul-le_self}
 use Rattle.std.proofs.lemmas.Bool.{cases_eq, eq-eqb, eqb-true}
 use Rattle.std.proofs.lemmas.Bool.Decides.{nat_tests}
@@ -56,6 +57,18 @@ box_ordered s b same = let p = not_empty s (lawful s) in ordered b (shape_box s)
 pub apart_is : (from z : ℤ) (along : ℕ) → FitsSigned w64 from → FitsSigned w64 z → from ≤ℤ z → along ≡ unsigned_abs (to_z w64 (of_z w64 z) -ℤ to_z w64 (of_z w64 from)) → z ≡ from +ℤ pos along
 apart_is from z along f g low is =
     let plain : along ≡ unsigned_abs (z -ℤ from) = is ∙ rw (to_z-of_z g, to_z-of_z f) refl in
+    omega (arith, ints)
+
+-- the same of a place of a side of the frame, which the code takes by a difference that fits
+pub along_fits : (from z : ℤ) → FitsSigned w64 from → FitsSigned w64 z → from ≤ℤ z → z ≤ℤ (from +ℤ SIDE) → FitsSigned w64 (to_z w64 (of_z w64 z) -ℤ to_z w64 (of_z w64 from))
+along_fits from z f g low high = let small : FitsSigned w64 (z -ℤ from) = search (rules, low, high) in rw (to_z-of_z g, to_z-of_z f) small
+
+pub along_is : (from z : ℤ) → FitsSigned w64 from → FitsSigned w64 z → from ≤ℤ z → z ≤ℤ (from +ℤ SIDE) → z ≡ from +ℤ pos (nat_abs (to_z w64 (of_z w64 (to_z w64 (of_z w64 z) -ℤ to_z w64 (of_z w64 from)))))
+along_is from z f g low high =
+    let small : FitsSigned w64 (z -ℤ from) = search (rules, low, high) in
+    let way : to_z w64 (of_z w64 (to_z w64 (of_z w64 z) -ℤ to_z w64 (of_z w64 from))) ≡ z -ℤ from = rw (to_z-of_z g, to_z-of_z f) (to_z-of_z small) in
+    let size : pos (nat_abs (z -ℤ from)) ≡ z -ℤ from = omega (arith, ints) in
+    let same = ap (λ (w : ℤ). pos (nat_abs w)) way in
     omega (arith, ints)
 
 pub extent_is : (frame : Frame) (box : Bounds) (left right low high : ℕ) → IsInside box frame → box.left ≤ℤ box.right → box.low ≤ℤ box.high → box.left ≡ frame.left +ℤ pos left → box.right ≡ frame.left +ℤ pos right → box.low ≡ frame.low +ℤ pos low → box.high ≡ frame.low +ℤ pos high → IsExtent frame box (record { left = left; right = right; low = low; high = high })

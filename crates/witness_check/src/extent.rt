@@ -39,11 +39,15 @@ fn extent_of(bounds: Bounds, frame: Frame) -> Extent
     requires up { bounds.low ≤ℤ bounds.high }
     ensures { IsExtent frame bounds result }
 {
+    let left = (bounds.left - frame.left) as u64;
+    let right = (bounds.right - frame.left) as u64;
+    let low = (bounds.low - frame.low) as u64;
+    let high = (bounds.high - frame.low) as u64;
     Extent {
-        left: bounds.left.abs_diff(frame.left),
-        right: bounds.right.abs_diff(frame.left),
-        low: bounds.low.abs_diff(frame.low),
-        high: bounds.high.abs_diff(frame.low),
+        left,
+        right,
+        low,
+        high,
     }
 }
 

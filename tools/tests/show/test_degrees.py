@@ -8,7 +8,7 @@ from show_board.cones import cone_of
 from show_board.degrees import turned_bounds
 from show_board.exact import cos_sin, cross_least, exact, minus, plus, pointed, times, turned
 from show_board.macros import bounds_of, figures, macro_bounds, regular, rows
-from show_board.regular import regular_bounds
+from show_board.regular import PARTS, regular_bounds
 from show_board.spots import cross, dot, edges
 
 METRE, RIGHT, MOST_PART, MM = 10 ** 10, 90 * 10 ** 7, 10 ** 8, 10 ** 7
@@ -174,13 +174,27 @@ class TestPolygons(unittest.TestCase):
     def test_bounds(self):
         rng = random.Random(67)
         for n in 4 * list(range(3, 13)):
-            d, angle = 2 * rng.randrange(50, rng.choice((10 ** 3, 10 ** 5, 10 ** 7, 25 * 10 ** 7))), rng.choice((0, RIGHT // 4, rng.randrange(4 * RIGHT)))
-            corners = regular(n, 0, 0, Q(d), Q(angle, 10 ** 7))
+            d, angle = rng.randrange(100 * PARTS, rng.choice((2 * 10 ** 3, 2 * 10 ** 5, 2 * 10 ** 7, 5 * 10 ** 8)) * PARTS), rng.choice((0, RIGHT // 4, rng.randrange(4 * RIGHT)))
+            corners = regular(n, 0, 0, Q(d, PARTS), Q(angle, 10 ** 7))
             ([(_, inner)], [(_, outer)]) = regular_bounds(n, d, angle)
             with self.subTest(f"{n} {d} {angle}"):
                 self.assertTrue(all(cross_least(a, b, pointed(w)) >= 0 for a, b in edges(corners) for w in inner))
                 self.assertTrue(all(cross_least(pointed(a), pointed(b), v) >= 0 for a, b in edges(outer) for v in corners))
                 self.assertLess(max(abs(p - q) for a, b in zip(inner, outer) for p, q in zip(a, b)), 60)
+
+    def test_polygons_off_the_origin(self):
+        rng = random.Random(68)
+        for n in 4 * list(range(3, 13)):
+            far = rng.choice((10 ** 3, 10 ** 5, 10 ** 7, 5 * 10 ** 8))
+            d, angle, centre = 2 * rng.randrange(500, 10 ** 7), rng.randrange(1, 4 * RIGHT), (rng.randint(-far, far), rng.randint(1, far))
+            quarters, turn = divmod(angle, RIGHT)
+            at = turned(tuple(map(exact, centre)), cos_sin(Q(turn, 10 ** 7)))
+            corners = [(plus(p, at[0]), plus(q, at[1])) for p, q in regular(n, 0, 0, Q(d), Q(angle, 10 ** 7))]
+            ([(_, inner)], [(_, outer)]) = regular_bounds(n, d, angle, centre, turn)
+            with self.subTest(f"{n} {d} {angle} {centre}"):
+                self.assertTrue(all(cross_least(a, b, pointed(w)) >= 0 for a, b in edges(corners) for w in inner))
+                self.assertTrue(all(cross_least(pointed(a), pointed(b), v) >= 0 for a, b in edges(outer) for v in corners))
+                self.assertLess(max(abs(p - q) for a, b in zip(inner, outer) for p, q in zip(a, b)), 60 + far // 10 ** 6)
 
 
 class TestFigures(unittest.TestCase):
@@ -216,9 +230,13 @@ class TestFigures(unittest.TestCase):
         ("parts of a part of a degree", ["21,1,1,1,0,0,30.00000001"], [], ["convex"], None),
         ("a polygon", ["5,1,5,0,0,1,30"], [], ["regular"], [(1, 1)]),
         ("an octagon by parameters", ["5,1,8,0,0,$1,22.5"], [2], ["regular"], [(1, 1)]),
-        ("a product off the grid, of Eagle", ["5,1,8,0,0,1.08239X$1,22.5"], [Q("1.6764")], ["convex"], None),
+        ("a product off the grid, of Eagle", ["5,1,8,0,0,1.08239X$1,22.5"], [Q("1.6764")], ["regular"], [(1, 1)]),
+        ("a product off that of a u's parts", ["5,1,8,0,0,1.08239X$1,22.5"], [Q("1.6764001")], ["convex"], None),
+        ("an octagon of an odd size", ["5,1,8,0,0,$1,0"], [Q("1.0000001")], ["regular"], [(1, 1)]),
         ("a polygon of seven corners", ["5,1,7,0,0,1,30"], [], ["regular"], [(1, 1)]),
-        ("a polygon off the origin", ["5,1,8,1,0,1,30"], [], ["convex"], None),
+        ("a polygon off the origin", ["5,1,8,1,0,1,30"], [], ["regular"], [(1, 1)]),
+        ("by odd tenths of a nanometre", ["5,1,8,1.0000001,0.0000003,1,-400.5"], [], ["regular"], [(1, 1)]),
+        ("off the grid", ["5,1,8,1.00000001,0,1,30"], [], ["convex"], None),
         ("a polygon off the origin, by quarter turns", ["5,1,3,1,0,1,-90"], [], ["regular"], [(1, 1)]),
     ]
 

@@ -32,6 +32,8 @@ TURNED = ["%AMRotRect*", "0 Rectangle, with rotation*", "21,1,$1,$2,0,0,$3*%", "
 DART, SLOTTED = "0,0,2,0,2,2,1,1,0,2,0,0", "0,0,3,0,3,2,2,2,2,1,1,1,1,2,0,2,0,0"
 BENT = ["%AMDART*", f"4,1,5,{DART},$1*%", "%AMSLOTTED*", "1,1,0.4,-1,0*", f"4,1,8,{SLOTTED},$1*", "21,1,1,0.2,-1.2,0,$1*%", "%AMBOTH*",
         f"4,1,5,{DART},$1*", "4,1,6,-1,-1,-1,1,-.5,1,-.5,-.5,1,-.5,1,-1,-1,-1,$1+360*%", "%ADD20DART,30*%", "%ADD21SLOTTED,-100.5*%", "%ADD22BOTH,45*%"]
+# Octagons of Eagle, as wide between sides as the parameter.
+EAGLE = ["%AMOC8*", "5,1,8,0,0,1.08239X$1,22.5*", "%"]
 A, B = record("A", "J1.1", 1, 0), record("A", "J1.2", -1, 0)
 
 
@@ -134,6 +136,17 @@ class Asked(made.Case):
         half, first, copy, thin = program.texts[3].split("\n")[1:-1]
         self.assertEqual((first, copy, first[:2], thin[:2]), (copy, first, "1 ", "0 "))
 
+    def test_counts_of_other_holes(self):
+        """A line for each other shape with a hole, which has one figure above; below draws, an area, or none where it is thin. What is not whole in u is not asked."""
+        holes = ["%ADD14C,3X1.0000001*%", "%ADD15R,3.0000001X2X1*%", "%ADD16O,3X2X1.0000001*%", "%ADD17C,1X0.9999999*%", "%ADD18O,3X2X1.00000001*%"]
+        program = Recorder(Answer(3, b"", "no"))
+        self.told(program, [*HALF, *holes[:4], *(word for k in range(14, 18) for word in (f"D{k}*", f"X0Y{k}000000D03*"))], [A, B])
+        circle, rectangle, obround, thin = (tuple(map(int, line.split(" "))) for line in program.texts[3].split("\n")[2:-1])
+        self.assertEqual((circle[0] > 9, circle[1], rectangle, obround[0] > 20, obround[1], thin), (True, 1, (1, 1), True, 1, (0, 1)))
+        program = Recorder(Answer(3, b"", "no"))
+        self.told(program, [*HALF, *holes[4:], "D18*", "X0Y0D03*"], [A, B])
+        self.assertIsNone(program.texts)
+
     def test_smaller_areas(self):
         """With regions the word is said where the smaller areas within them say the same, and a weaker answer is none."""
         bent = ["G36*", "X0Y0D02*", "X2000000Y0D01*", "G03X0Y2000000I-2000000J0D01*", "G01X0Y0D01*", "G37*"]
@@ -218,6 +231,14 @@ class Taken(made.Case):
         ("nearer to the border of a hole", ["%ADD14C,3X2*%", "D14*", "X0Y0D03*"], [record("A", "J1.1", 1.2, 0), record("A", "J1.2", -1.0001, 0)], "undecided"),
         ("a rectangle with a hole", ["%ADD14R,3X2X1*%", "D14*", "X0Y0D03*"], [record("A", "J1.1", 1, .4), record("A", "J1.2", -.6, 0)], "agrees"),
         ("a point in the hole of a rectangle", ["%ADD14R,3X2X1*%", "D14*", "%SRX2Y1I5.0J0*%", "X0Y0D03*", "%SR*%"], [A, record("B", "J1.2", 5, 0)], "differs"),
+        ("a circle with another hole", ["%ADD14C,3X1.0000002*%", "D14*", "X0Y0D03*"], [A, B], "agrees"),
+        ("a circle with a hole, of odd sizes", ["%ADD14C,3.0000001X1*%", "D14*", "%SRX2Y1I5.0J0*%", "X0Y0D03*", "%SR*%"], [A, B, record("B", "J2.1", 5, 1.4)], "agrees"),
+        ("a point in such a hole", ["%ADD14C,3X1.0000001*%", "D14*", "X0Y0D03*"], [A, record("A", "J1.2", 0, 0)], "undecided"),
+        ("rectangles with a hole, of odd sizes", ["%ADD14R,3.0000001X2X1*%", "%ADD15R,3X2X1.0000001*%", "D14*", "X0Y0D03*", "D15*", "X0Y5000000D03*"],
+         [A, B, record("B", "J2.1", 1.4, 5.9), record("B", "J2.2", -.6, 5)], "agrees"),
+        ("obrounds with a hole", ["%ADD14O,3X2X1*%", "%ADD15O,2.0000001X3X1.0000001*%", "D14*", "X0Y0D03*", "D15*", "X0Y5000000D03*"],
+         [A, B, record("B", "J2.1", 0, 6.4), record("B", "J2.2", -.9, 5)], "agrees"),
+        ("a short by an obround with a hole", ["%ADD14O,3X2X1*%", "D14*", "X0Y0D03*"], [record("A", "J1.1", 1.4, 0), record("B", "J1.2", -1.4, 0)], "differs"),
         ("a circle of an odd size", ["%ADD14C,2.0000001*%", "D14*", "X0Y0D03*"], [A, B], "agrees"),
         ("draws with a pen of an odd size", ["%ADD14C,0.1999999*%", "D14*", *HALF, "X1000000Y0D01*"], [A, B], "agrees"),
         ("nearer to the border of an odd size", ["%ADD14C,1.9999999*%", "D14*", "X0Y0D03*"], [A, B], "undecided"),
@@ -227,6 +248,10 @@ class Taken(made.Case):
         ("regions with arcs", ROUNDED, [record("A", "J1.1", 1, .5), record("A", "J1.2", .5, 1), record("B", "J2.1", 7.5, .4)], "agrees"),
         ("regions with arcs, two distances", UNEVEN, [record("A", "J1.1", 1, .5), record("A", "J1.2", .8, 1.5)], "agrees"),
     ]
+
+    # Behind EAGLE: by the parameter the right side of an octagon is 5 u further, at the points or 5 u nearer.
+    EAGLE_ROWS = [(f"an octagon of {d}", [f"%ADD20OC8,{d}*%", "D20*", "X0Y0D03*"], [A, B], word)
+                  for d, word in (("2.000005", "agrees"), ("2.000004", "undecided"), ("2.000003", "differs"))]
 
     # Behind TURNED.
     TURNED_ROWS = [
@@ -272,6 +297,9 @@ class Taken(made.Case):
 
     def test_turned_rows(self):
         self.try_rows(self.TURNED_ROWS, TURNED)
+
+    def test_eagle_rows(self):
+        self.try_rows(self.EAGLE_ROWS, EAGLE)
 
     def test_bent_rows(self):
         self.try_rows(self.BENT_ROWS, BENT)

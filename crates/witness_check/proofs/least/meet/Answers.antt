@@ -1,4 +1,4 @@
-use Rattle.std.proofs.Common.{arith, None, Option, Some, false, get_or, refl, sym, ℕ}
+use Rattle.std.proofs.Common.{arith, None, Some, get_or, refl, sym}
 use Rattle.std.proofs.lemmas.List.{set-get_or}
 use Rattle.witness_check.proofs.Sweeping.{less_enough}
 use Rattle.witness_check.proofs.least.meet.Goals as goal

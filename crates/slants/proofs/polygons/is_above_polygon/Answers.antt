@@ -1,6 +1,0 @@
-use Rattle.std.proofs.Common.{rules}
-use Rattle.slants.proofs.Regular.{above_polygon}
-use Rattle.slants.proofs.polygons.is_above_polygon.Goals as goal
-
-pub returns-clause-copper : goal.returns-clause-copper
-returns-clause-copper c = λ yes p. above_polygon c.args.g.now c.args.points.now p record { regular = search rules; placed = search rules; round = c.goes_round.ensures.0 yes }

@@ -1,0 +1,3 @@
+mod Squares
+mod Bounds
+mod Spots

@@ -1,0 +1,3 @@
+pub mod Copper
+pub mod Laws
+pub mod Taken
