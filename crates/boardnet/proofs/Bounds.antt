@@ -11,9 +11,9 @@ use Rattle.arc_covers.specs.declared.side.Side.TheVariants.{Below, Above}
 use Rattle.arc_covers.specs.Eighths.{LiesBelow}
 use Rattle.arc_covers.specs.Regions.{RegionAbove}
 use Rattle.arc_regions.specs.Copper as regions
-use Rattle.arc_layer.specs.Real.{PlainReal, RealFigure, plain, bent, slanted, curved, turned, turned_disc, regular, fine, plain_real, plain_reals, real_figure}
+use Rattle.arc_layer.specs.Real.{PlainReal, RealFigure, plain, bent, slanted, curved, turned, turned_disc, regular, fine, holed, plain_real, plain_reals, real_figure}
 use Rattle.real_shapes.specs.declared.RealShape.{RealShape}
-use Rattle.real_shapes.specs.declared.RealShape.TheVariants.{Plain, ArcDraw, Slanted, Region, Turned, TurnedDisc, Polygon, Fine}
+use Rattle.real_shapes.specs.declared.RealShape.TheVariants.{Plain, ArcDraw, Slanted, Region, Turned, TurnedDisc, Polygon, Fine, Holed}
 use Rattle.board_shapes.specs.Figures.{Figure, InFigure}
 use Rattle.board_shapes.specs.Pieces.{PlainPiece}
 use Rattle.board_shapes.specs.Plain.{PlainBoard}
@@ -52,6 +52,7 @@ StandBy side (turned contour about angle) figures = TurnedTaken side contour abo
 StandBy side (turned_disc disc) figures = StandTaken side (TurnedDisc disc) figures
 StandBy side (regular g) figures = StandTaken side (Polygon g) figures
 StandBy side (fine f) figures = StandTaken side (Fine f) figures
+StandBy side (holed h) figures = StandTaken side (Holed h) figures
 
 stand_by : (side : Side) (s : RealShape) (figures : List Figure) → StandTaken side s figures ↔ StandBy side (real_figure s) figures
 stand_by side (Plain s) figures = (λ h. h, λ h. h)
@@ -63,6 +64,7 @@ stand_by side (Turned t) figures = (λ h. h, λ h. h)
 stand_by side (TurnedDisc d) figures = (λ h. h, λ h. h)
 stand_by side (Polygon g) figures = (λ h. h, λ h. h)
 stand_by side (Fine f) figures = (λ h. h, λ h. h)
+stand_by side (Holed f) figures = (λ h. h, λ h. h)
 
 stand_alike : (side : Side) (s t : RealShape) (figures : List Figure) → real_figure s ≡ real_figure t → StandTaken side s figures → StandTaken side t figures
 stand_alike side s t figures e h = (stand_by side t figures).1 (subst (λ (f : RealFigure). StandBy side f figures) e ((stand_by side s figures).0 h))
@@ -85,6 +87,7 @@ CopperBy (turned contour about angle) holds = IsTurnedCopper contour about angle
 CopperBy (turned_disc disc) holds = IsCopperOf (TurnedDisc disc) holds
 CopperBy (regular g) holds = IsCopperOf (Polygon g) holds
 CopperBy (fine f) holds = IsCopperOf (Fine f) holds
+CopperBy (holed h) holds = IsCopperOf (Holed h) holds
 
 copper_by : (s : RealShape) (holds : Point → Type 0) → IsCopperOf s holds ↔ CopperBy (real_figure s) holds
 copper_by (Plain s) holds = (λ h. h, λ h. h)
@@ -95,6 +98,7 @@ copper_by (Turned t) holds = (λ h. h, λ h. h)
 copper_by (TurnedDisc d) holds = (λ h. h, λ h. h)
 copper_by (Polygon g) holds = (λ h. h, λ h. h)
 copper_by (Fine f) holds = (λ h. h, λ h. h)
+copper_by (Holed f) holds = (λ h. h, λ h. h)
 
 copper_alike : (s t : RealShape) (holds : Point → Type 0) → real_figure s ≡ real_figure t → IsCopperOf s holds → IsCopperOf t holds
 copper_alike s t holds e h = (copper_by t holds).1 (subst (λ (f : RealFigure). CopperBy f holds) e ((copper_by s holds).0 h))
