@@ -179,11 +179,11 @@ class Asked(made.Case):
         """Where other copper is outside the profile, in any file; and where there is nothing to ask."""
         rows = [["%ADD14C,0.00000035*%"], ["%ADD14C,0.20000015*%", "D14*", "X0Y5000000D02*", "X1Y5000001D01*"], ["%ADD14C,0.20000015*%", "D14*", *HALF], ["%LPC*%", "D11*", "X9000000Y0D03*"], ["D12*", "X0Y5000000D02*", "X1Y5000001D01*"], ["%LR90*%", "D11*", "X9000000Y0D03*"],
                 ["G36*", "X9000000Y0D02*", "G03X9000000Y0I1000000J0D01*", "G37*"], ["X0Y0D03*", "X5Y5*"],
-                ["%AMA*", "20,1,0.2,0,0,0.3,0.4,30*%", "%ADD14A*%", "D14*", "X0Y5000000D03*"], ["%AMA*", "5,1,7,0.1,0,0.2,30*%", "%ADD14A*%", "D14*", "X0Y5000000D03*"],
+                ["%AMA*", "20,1,0.2,0,0,0.3,0.4,30*%", "%ADD14A*%", "D14*", "X0Y5000000D03*"], ["%AMA*", "5,1,7,0.1,0,0.200000000001,30*%", "%ADD14A*%", "D14*", "X0Y5000000D03*"],
                 ["%AMA*", "4,1,4,0,0,1,1,1,0,0,1,0,0,30*%", "%ADD14A*%", "D14*", "X0Y5000000D03*"],
                 ["%AMA*", "20,1,0.0000003,0,0,0.3,0.4,0*%", "%ADD14A*%", "D14*", "X0Y5000000D03*"],
                 ["%AMA*", "1,1,0.2,0,0*", "1,0,0.1,0,0*%", "%ADD14A*%", "D14*", "X0Y5000000D03*"], ["%AMA*", "1,1,0.2,0,0*%", "%ADD14A*%", "D14*", "%LS2*%", "X0Y5000000D03*"],
-                ["%ADD14O,1X1X0.2*%", "D14*", "X0Y5000000D03*"], ["%ADD14C,0.000001X0.0000008*%", "D14*", "X0Y5000000D03*"], ["%ABD15*%", "D11*", "X9000000Y0D03*", "%AB*%", "D15*", "X0Y0D03*"]]
+                ["%ADD14P,1X4X0X0.2*%", "D14*", "X0Y5000000D03*"], ["%ADD14C,0.00000101X0.0000008*%", "D14*", "X0Y5000000D03*"], ["%ABD15*%", "D11*", "X9000000Y0D03*", "%AB*%", "D15*", "X0Y0D03*"]]
         for lines in rows:
             program = Recorder()
             self.assertEqual((self.told(program, [*HALF, *lines], [A, B]), program.texts), (self.bounded, None), lines)
@@ -308,7 +308,7 @@ class Taken(made.Case):
         """What is not taken, and said without the word: an arc that has no place, and an arc and a primitive that `show` alone reads."""
         program = having_between()
         for lines in (["X1000000Y0D02*", "G03X-1000000Y0I0J0D01*"], ["X1000000Y0D02*", "G03X-1000000Y0I-1000000J0D01*", "I1J1*"],
-                      [*HALF, "%AMA*", "5,1,4,0.1,0,2.0,1*%", "%ADD20A*%", "D20*", "X0Y0D03*"]):
+                      [*HALF, "%AMA*", "20,1,0.2,-0.5,-0.5,0.5,0.5,30*%", "%ADD20A*%", "D20*", "X0Y0D03*"]):
             self.board({"m.json": manifest(), "top.gbr": "\n".join([*HEAD, *lines, "M02*", ""]), "n.ipc": netlist(A, B)})
             _, out, _ = self.show("board", program=program)
             self.assertEqual(("between two bounds" in out, "proved" in out), (True, False), out)
