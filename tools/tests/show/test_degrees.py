@@ -186,10 +186,10 @@ class TestPolygons(unittest.TestCase):
         rng = random.Random(68)
         for n in 4 * list(range(3, 13)):
             far = rng.choice((10 ** 3, 10 ** 5, 10 ** 7, 5 * 10 ** 8))
-            d, angle, centre = 2 * rng.randrange(500, 10 ** 7), rng.randrange(1, 4 * RIGHT), (rng.randint(-far, far), rng.randint(1, far))
+            d, angle, centre = rng.randrange(10 ** 3 * PARTS, 2 * 10 ** 7 * PARTS), rng.randrange(1, 4 * RIGHT), (rng.randint(-far, far), rng.randint(1, far))
             quarters, turn = divmod(angle, RIGHT)
             at = turned(tuple(map(exact, centre)), cos_sin(Q(turn, 10 ** 7)))
-            corners = [(plus(p, at[0]), plus(q, at[1])) for p, q in regular(n, 0, 0, Q(d), Q(angle, 10 ** 7))]
+            corners = [(plus(p, at[0]), plus(q, at[1])) for p, q in regular(n, 0, 0, Q(d, PARTS), Q(angle, 10 ** 7))]
             ([(_, inner)], [(_, outer)]) = regular_bounds(n, d, angle, centre, turn)
             with self.subTest(f"{n} {d} {angle} {centre}"):
                 self.assertTrue(all(cross_least(a, b, pointed(w)) >= 0 for a, b in edges(corners) for w in inner))
