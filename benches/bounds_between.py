@@ -110,9 +110,13 @@ class Layer:
     def primitive(self, size):
         text = lambda u: f"{u / self.scale:.7f}"
         w, x, y, dx, dy = (self.length(size) * self.rng.choice((-1, 1)) for _ in range(5))
-        w, end = 2 * abs(w), self.rng.choice(((x + dx, y + dy),) * 4 + ((x + dx, y), (x, y + dy)))
+        w, end = 2 * abs(w) + self.odd_step(w), self.rng.choice(((x + dx, y + dy),) * 4 + ((x + dx, y), (x, y + dy)))
         return self.rng.choice((f"20,1,{text(w)},{text(x)},{text(y)},{text(end[0])},{text(end[1])}",) * 3 + (
-            f"1,1,{text(w)},{text(x)},{text(y)}", f"21,1,{text(w)},{text(2 * abs(dx))},{text(x)},{text(y)}", "20,1,0,0,0,0.1,0.1"))
+            f"1,1,{text(w)},{text(x)},{text(y)}", f"21,1,{text(w)},{text(2 * abs(dx) + self.odd_step(dx))},{text(x)},{text(y)}", "20,1,0,0,0,0.1,0.1"))
+
+    def odd_step(self, seed):
+        """What makes a size an odd number of u, at times."""
+        return self.step() * (random.Random(seed).random() < .3)
 
     def pads(self):
         """Pads of layout tools, and outlines, turned by a parameter or by a number."""

@@ -102,8 +102,9 @@ def vector_line(w, x1, y1, x2, y2):
 
 
 def line(w, x1, y1, x2, y2, degrees):
-    """Along an axis a rectangle from its lower left corner on; else by its ends, where these are whole, and so is the width."""
-    if x1 == x2 or y1 == y2:
+    """Along an axis a rectangle from its lower left corner on, where the width is even or it is turned; else by its ends, where these are whole, and
+    so is the width."""
+    if (x1 == x2 or y1 == y2) and (w % 2 != 1 or degrees % 90):
         aside = (w / 2, 0) if x1 == x2 else (0, w / 2)
         (left, right), (low, high) = sorted((x1, x2)), sorted((y1, y2))
         return placed("convex", rectangle(left - aside[0], low - aside[1], right + aside[0], high + aside[1]), degrees)
@@ -245,7 +246,7 @@ def rows(figures_in_order):
 
 def row(kind, *parts):
     if kind == "line":
-        return (len(line_bounds(*parts)[0]), 1) if parts[2] % 2 == 0 else None
+        return len(line_bounds(*parts)[0]), 1
     if kind == "turned":
         return len(turned_bounds(*parts)[0]), 1
     if kind == "turned disc":
@@ -255,8 +256,18 @@ def row(kind, *parts):
     if kind == "regular":
         return len(regular_bounds(*parts)[0]), 1
     if kind == "disc":
-        return (1, 1) if whole_corners(parts[:1])[1] and parts[1].denominator == 1 else None
+        return (len(disc_bounds(*parts)[0]), 1) if whole_corners(parts[:1])[1] and (2 * parts[1]).denominator == 1 else None
+    if kind == "convex" and is_fine(parts[0]):
+        return len(convex_bounds(parts[0])[0]), 1
     return (1, 1) if kind in ("convex", "outline") and whole_corners(parts[0])[1] else None
+
+
+def is_fine(corners):
+    """Whether they are those of a rectangle along the axes with a whole middle and whole sizes, one of them odd."""
+    sides = [sorted({end for corner in corners for end in corner[k]}) for k in range(2)]
+    if len(corners) != 4 or any(len(ends) != 2 for ends in sides):
+        return False
+    return all((a + b) % 2 == 0 == (b - a) % 1 for a, b in sides) and any((b - a) % 2 for a, b in sides)
 
 
 def macro_bounds(body, parameters, scale):

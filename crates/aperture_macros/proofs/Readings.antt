@@ -1,8 +1,8 @@
 -- What a body word is read as.
-use Rattle.std.proofs.Common.{◌≡◌, ℕ, ◌+◌, ◌-◌, ◌/◌, Bool, true, false, not, ◌&&◌, ◌||◌, cond, nat_le, List, Option, Some, None, Result, Ok, Err, refl, sym, ap, ◌∙◌, subst, arith, inl, inr, zero, suc}
+use Rattle.std.proofs.Common.{◌≡◌, ℕ, ◌+◌, ◌-◌, ◌/◌, Bool, true, false, not, ◌&&◌, cond, nat_le, List, Option, Some, None, Result, Ok, Err, refl, sym, ap, ◌∙◌, subst, arith, zero, suc}
 use Rattle.std.proofs.lemmas.Bool.{leb-true}
 use Rattle.std.specs.Option.{option_and_then}
-use Rattle.std.specs.Prelude.{◌⊎◌, IfSome, codes}
+use Rattle.std.specs.Prelude.{IfSome, codes}
 use Rattle.lengths.specs.Decimal.{Fraction, is_decimal, fraction}
 use Rattle.texts.specs.Words.{begins, is_word}
 use Rattle.aperture_macros.specs.Expression.{is_expression}
@@ -12,10 +12,9 @@ use Rattle.aperture_macros.specs.declared.primitive.Copper.{Copper}
 use Rattle.aperture_macros.specs.declared.primitive.Copper.TheVariants.{Exact, Real}
 use Rattle.aperture_macros.specs.declared.primitive.Form.{Form}
 use Rattle.aperture_macros.specs.declared.primitive.Form.TheVariants.{Circle, Outline, VectorLine, CentreLine, Polygon}
-use Rattle.aperture_macros.specs.declared.primitive.Rotation.TheVariants.{Unturned}
 use Rattle.aperture_macros.specs.declared.primitive.Turning.{Turning}
-use Rattle.aperture_macros.specs.declared.primitive.Turning.TheVariants.{Quarters, Degrees}
-use Rattle.aperture_macros.specs.BodyWord.{PlainPrimitive, are_lengths, commas, fits, form_at, form_in, form_of, has_rotation, is_number, outline_of, part, past, polygon_of, primitive_at, regular_from, regular_of, rotation_text, row, some_form, turned_at, turning_at}
+use Rattle.aperture_macros.specs.declared.primitive.Turning.TheVariants.{Degrees}
+use Rattle.aperture_macros.specs.BodyWord.{PlainPrimitive, are_lengths, commas, fits, form_at, form_in, form_of, is_number, outline_of, part, past, polygon_of, primitive_at, regular_from, regular_of, rotation_text, row, some_form, turned_at, turning_at}
 use Rattle.aperture_macros.specs.Sized.{IsSized}
 use Rattle.aperture_macros.proofs.Strokes.{then_ok}
 
@@ -79,17 +78,17 @@ form_sized copper word n =
 pub record IsRead (copper : Copper) (word : List ℕ) (p : PlainPrimitive) : Type 0 where
   pub sized : IsSized p.form
   pub fitting : fits p.form (commas word) ≡ true
-  pub turning : turning_at copper (fraction (part 1 word)) (has_rotation p.form (commas word)) (rotation_text p.form (commas word) (past (row p.form).head word)) ≡ Ok p.rotation
+  pub turning : turning_at copper (fraction (part 1 word)) (rotation_text p.form (commas word) (past (row p.form).head word)) ≡ Ok p.rotation
 
-record IsTurned (copper : Copper) (form : Form) (exposure : Fraction) (written : Bool) (rotation : List ℕ) (p : PlainPrimitive) : Type 0 where
+record IsTurned (copper : Copper) (form : Form) (exposure : Fraction) (rotation : List ℕ) (p : PlainPrimitive) : Type 0 where
   form_is : form ≡ p.form
-  turning : turning_at copper exposure written rotation ≡ Ok p.rotation
+  turning : turning_at copper exposure rotation ≡ Ok p.rotation
 
-turned_is : (copper : Copper) (form : Form) (exposure : Fraction) (written : Bool) (lengths rotation : List ℕ) (p : PlainPrimitive) → turned_at copper form exposure written lengths rotation ≡ Ok p → IsTurned copper form exposure written rotation p
+turned_is : (copper : Copper) (form : Form) (exposure : Fraction) (lengths rotation : List ℕ) (p : PlainPrimitive) → turned_at copper form exposure lengths rotation ≡ Ok p → IsTurned copper form exposure rotation p
 unfolding turned_at
-turned_is copper form exposure written lengths rotation p h =
+turned_is copper form exposure lengths rotation p h =
     let a = passed (not (are_lengths form lengths)) BadMacro _ p h in
-    let t = then_ok (turning_at copper exposure written rotation) (λ turning. Ok (record { form = form; rotation = turning; lengths = lengths })) p a.1 in
+    let t = then_ok (turning_at copper exposure rotation) (λ turning. Ok (record { form = form; rotation = turning; lengths = lengths })) p a.1 in
     let made : ◌≡◌ {A = Result PlainPrimitive MacroFault} (Ok (record { form = form; rotation = t.0; lengths = lengths })) (Ok p) = t.2 in
     let same : ◌≡◌ {A = PlainPrimitive} (record { form = form; rotation = t.0; lengths = lengths }) p = cc in
     record {
@@ -101,11 +100,11 @@ form_is : (copper : Copper) (form : Form) (word : List ℕ) (p : PlainPrimitive)
 unfolding form_in
 form_is copper form word p sized fitting h =
     let a = passed (not (is_decimal (part 1 word))) BadMacro _ p h in
-    let t = turned_is copper form (fraction (part 1 word)) (has_rotation form (commas word)) (past (row form).head word) (rotation_text form (commas word) (past (row form).head word)) p a.1 in
+    let t = turned_is copper form (fraction (part 1 word)) (past (row form).head word) (rotation_text form (commas word) (past (row form).head word)) p a.1 in
     record {
       sized = subst IsSized t.form_is sized;
       fitting = subst (λ (f : Form). fits f (commas word) ≡ true) t.form_is fitting;
-      turning = subst (λ (f : Form). turning_at copper (fraction (part 1 word)) (has_rotation f (commas word)) (rotation_text f (commas word) (past (row f).head word)) ≡ Ok p.rotation) t.form_is t.turning;
+      turning = subst (λ (f : Form). turning_at copper (fraction (part 1 word)) (rotation_text f (commas word) (past (row f).head word)) ≡ Ok p.rotation) t.form_is t.turning;
     }
 
 pub read_is : (copper : Copper) (word : List ℕ) (p : PlainPrimitive) → primitive_at copper word ≡ Ok (Some p) → IsRead copper word p
@@ -125,33 +124,15 @@ read_is copper word p h = by (begins word (codes "0")) (form_at copper word (com
 pub read_sized : (copper : Copper) (word : List ℕ) (p : PlainPrimitive) → primitive_at copper word ≡ Ok (Some p) → IsSized p.form
 read_sized copper word p h = let r = read_is copper word p h in r.sized
 
--- a rotation that is needed is written
-or_written : (b c : Bool) → (b || (not true && c)) ≡ true → b ≡ true
-or_written true c h = refl
-or_written false c h = cc
-
-written : (form : Form) (n : ℕ) → fits form n ≡ true → (has_rotation form n ≡ true) ⊎ (form ≡ Circle)
-written Circle n h = inr refl
-written (Outline m) n h = inl (or_written (has_rotation (Outline m) n) (has_rotation (Outline m) (n + 1)) h)
-written VectorLine n h = inl (or_written (has_rotation VectorLine n) (has_rotation VectorLine (n + 1)) h)
-written CentreLine n h = inl (or_written (has_rotation CentreLine n) (has_rotation CentreLine (n + 1)) h)
-written (Polygon m) n h = inl (or_written (has_rotation (Polygon m) n) (has_rotation (Polygon m) (n + 1)) h)
-
-by_degrees : (exposure : Fraction) (b : Bool) (rotation : List ℕ) (turning : Turning) → b ≡ true → turning_at Real exposure b rotation ≡ Ok turning → turning ≡ Degrees
+by_degrees : (exposure : Fraction) (rotation : List ℕ) (turning : Turning) → turning_at Real exposure rotation ≡ Ok turning → turning ≡ Degrees
 unfolding turning_at
-by_degrees exposure b rotation turning is h =
+by_degrees exposure rotation turning h =
     let one = passed (not (is_expression rotation)) BadMacro _ turning h in
     let two = passed (not (is_number exposure 1)) ExposureOff _ turning one.1 in
-    by b is two.1
-  where
-    by : (b : Bool) → b ≡ true → ◌≡◌ {A = Result Turning MacroFault} (Ok (cond b Degrees (Quarters Unturned))) (Ok turning) → turning ≡ Degrees
-    by true is h = let same : Degrees ≡ turning = cc in sym same
-    by false is h = cc
+    let made : ◌≡◌ {A = Result Turning MacroFault} (Ok Degrees) (Ok turning) = two.1 in
+    let same : Degrees ≡ turning = cc in
+    sym same
 
--- in real copper what is no circle is turned by degrees
-pub real_turning : (word : List ℕ) (p : PlainPrimitive) → primitive_at Real word ≡ Ok (Some p) → (p.rotation ≡ Degrees) ⊎ (p.form ≡ Circle)
-real_turning word p h = let r = read_is Real word p h in by r (written p.form (commas word) r.fitting)
-  where
-    by : IsRead Real word p → ((has_rotation p.form (commas word) ≡ true) ⊎ (p.form ≡ Circle)) → (p.rotation ≡ Degrees) ⊎ (p.form ≡ Circle)
-    by r (inl has) = inl (by_degrees _ _ _ p.rotation has r.turning)
-    by r (inr is) = inr is
+-- in real copper all is turned by degrees
+pub real_turning : (word : List ℕ) (p : PlainPrimitive) → primitive_at Real word ≡ Ok (Some p) → p.rotation ≡ Degrees
+real_turning word p h = let r = read_is Real word p h in by_degrees _ _ p.rotation r.turning

@@ -1,6 +1,6 @@
 -- What the areas of real copper tell.
-use Rattle.std.proofs.Common.{◌≡◌, ℕ, ◌<◌, ◌==◌, Bool, true, false, cond, List, pos, ◌+ℤ◌, Option, Some, None, Result, Ok, refl, sym, ap, subst, ◌∙◌, arith, inl, inr}
-use Rattle.std.specs.Prelude.{◌⊎◌, unsigned_abs}
+use Rattle.std.proofs.Common.{◌≡◌, ℕ, ◌<◌, ◌==◌, Bool, true, false, cond, List, map, pos, ◌+ℤ◌, Option, Some, None, Result, Ok, Err, refl, sym, ap, subst, ◌∙◌, arith, inl, inr}
+use Rattle.std.specs.Prelude.{◌⊎◌, is_some, unsigned_abs}
 use Rattle.std.specs.List.{list_all}
 use Rattle.planar.specs.Plane.{is_placed}
 use Rattle.planar.specs.declared.Spot.{Spot}
@@ -10,6 +10,7 @@ use Rattle.lengths.specs.declared.decimal.Unit.{Unit as Measure}
 use Rattle.lengths.specs.declared.decimal.Unit.TheVariants.{Mm}
 use Rattle.aperture_macros.specs.declared.degrees.Turn.{Turn}
 use Rattle.aperture_macros.specs.declared.fault.MacroFault.{MacroFault}
+use Rattle.aperture_macros.specs.declared.fault.MacroFault.TheVariants.{OutOfRange}
 use Rattle.aperture_macros.specs.declared.images.Sketch.{Sketch}
 use Rattle.aperture_macros.specs.declared.images.Sketch.TheVariants.{Disc}
 use Rattle.aperture_macros.specs.declared.primitive.Copper.TheVariants.{Real}
@@ -17,12 +18,14 @@ use Rattle.aperture_macros.specs.declared.primitive.Form.{Form}
 use Rattle.aperture_macros.specs.declared.primitive.Form.TheVariants.{Circle}
 use Rattle.aperture_macros.specs.declared.primitive.Rotation.{Rotation}
 use Rattle.aperture_macros.specs.declared.primitive.Turning.{Turning}
-use Rattle.aperture_macros.specs.declared.primitive.Turning.TheVariants.{Quarters, Degrees}
+use Rattle.aperture_macros.specs.declared.primitive.Turning.TheVariants.{Degrees}
 use Rattle.aperture_macros.specs.BodyWord.{PlainPrimitive, ◌>>=◌, part, past}
 use Rattle.aperture_macros.specs.Degrees.{turn_at, turn_of}
-use Rattle.aperture_macros.specs.Flashes.{figure_turned, tell, told_figure, turn_behind}
+use Rattle.aperture_macros.specs.Fine.{fine_at, fine_rest, fine_spots, fine_told}
+use Rattle.aperture_macros.specs.declared.fine.FineSketch.{FineSketch}
+use Rattle.aperture_macros.specs.Flashes.{figure_turned, fine_figure, is_fine, tell, told_figure, turn_behind}
 use Rattle.aperture_macros.specs.Images.{area_at, circle_at, figure_by, set_down, sketch_at}
-use Rattle.aperture_macros.specs.Laws.{IsRoundTold, IsTold, RealAreasAreTold}
+use Rattle.aperture_macros.specs.Laws.{IsFineTold, IsRoundTold, IsTold, RealAreasAreTold}
 use Rattle.aperture_macros.specs.Seen.{IsNoArea, is_circle}
 use Rattle.aperture_macros.specs.Sized.{IsSized}
 use Rattle.aperture_macros.specs.Telling.{is_moved, round_told, told, told_in, told_rest, told_round}
@@ -98,17 +101,51 @@ pub circle_alone : {P : Type 0} (form : Form) (text : List ℕ) (given : List Fr
 circle_alone Circle text given unit rotation at points is h = no_area text given unit rotation at points h
 circle_alone other text given unit rotation at points is h = cc
 
-circle_tells : (turning : Turning) (p : PlainPrimitive) (given : List Fraction) (unit : Measure) (at : Spot) (points : List Spot) → IsSized p.form → p.form ≡ Circle → figure_turned turning p.form p.lengths given unit at ≡ Ok (Some (filled points)) → IsEither p given unit at points
-unfolding figure_turned
-circle_tells (Quarters rotation) p given unit at points sized is h = no_area p.lengths given unit rotation at points (subst (λ (f : Form). figure_by f rotation p.lengths given unit at ≡ Ok (Some (filled points))) is h)
-circle_tells Degrees p given unit at points sized is h = by_degrees p given unit at points sized h
+-- ---- What a fine primitive tells
+
+fine_tells : (p : PlainPrimitive) (given : List Fraction) (unit : Measure) (at : Spot) (points : List Spot) → fine_figure p.form p.lengths given unit at ≡ Ok (Some (filled points)) → IsFineTold p given unit at points
+unfolding fine_figure
+fine_tells p given unit at points h =
+    let t = then_ok (turn_behind p.form p.lengths given) (λ turn. fine_at p.form p.lengths given unit >>= λ f. fine_told turn.quarters at f) (Some (filled points)) h in
+    let f = then_ok (fine_at p.form p.lengths given unit) (λ f. fine_told t.0.quarters at f) (Some (filled points)) t.2 in
+    by t.0 f.0 t.1 f.1 f.2
+  where
+    by : (turn : Turn) (f : Option FineSketch) → turn_behind p.form p.lengths given ≡ Ok turn → fine_at p.form p.lengths given unit ≡ Ok f → fine_told turn.quarters at f ≡ Ok (Some (filled points)) → IsFineTold p given unit at points
+    by turn None said is k = cc
+    by turn (Some f) said is k =
+        let spots = map (set_down turn.quarters at) (fine_spots f) in
+        record {
+          turn = turn;
+          fine = f;
+          said = said;
+          sketched = is;
+          found = ap told_in (sym (area_points (told at (fine_rest f.kind) spots) points k)) ∙ told_is_found at (fine_rest f.kind) spots refl (omega arith);
+        }
+
+-- ---- What has an image, and what has none
+
+pub fine_blank : (form : Form) (text : List ℕ) (given : List Fraction) (unit : Measure) (turn : Turn) (f : Option FineSketch) → turn_behind form text given ≡ Ok turn → fine_at form text given unit ≡ Ok f → is_some f ≡ false → (at : Spot) → fine_figure form text given unit at ≡ Ok None
+unfolding fine_figure
+fine_blank form text given unit turn None said is none at = rw (said, is) refl
+fine_blank form text given unit turn (Some f) said is none at = cc
+
+pub fine_image : (form : Form) (text : List ℕ) (given : List Fraction) (unit : Measure) (turn : Turn) (f : Option FineSketch) → turn_behind form text given ≡ Ok turn → fine_at form text given unit ≡ Ok f → is_some f ≡ true → (at : Spot) → fine_figure form text given unit at ≡ Ok None → ⊥
+unfolding fine_figure
+fine_image form text given unit turn None said is some at h = cc
+fine_image form text given unit turn (Some f) said is some at h =
+    let told_none : fine_told turn.quarters at (Some f) ≡ Ok None = rw (said, is) at h in
+    by (list_all is_placed (told at (fine_rest f.kind) (map (set_down turn.quarters at) (fine_spots f)))) told_none
+  where
+    by : (b : Bool) → cond b (Ok (Some (filled (told at (fine_rest f.kind) (map (set_down turn.quarters at) (fine_spots f)))))) (Err OutOfRange) ≡ Ok None → ⊥
+    by true k = cc
+    by false k = cc
 
 pub real_areas_are_told : RealAreasAreTold
-real_areas_are_told word p given unit at points read h = by (real_turning word p read)
+real_areas_are_told word p given unit at points read h = by (is_fine p.rotation p.form p.lengths given unit) h
   where
-    by : ((p.rotation ≡ Degrees) ⊎ (p.form ≡ Circle)) → IsEither p given unit at points
-    by (inl is) = by_degrees p given unit at points (read_sized Real word p read) (subst (λ (t : Turning). figure_turned t p.form p.lengths given unit at ≡ Ok (Some (filled points))) is h)
-    by (inr is) = circle_tells p.rotation p given unit at points (read_sized Real word p read) is h
+    by : (b : Bool) → cond b (fine_figure p.form p.lengths given unit at) (figure_turned p.rotation p.form p.lengths given unit at) ≡ Ok (Some (filled points)) → IsEither p given unit at points ⊎ IsFineTold p given unit at points
+    by true k = inr (fine_tells p given unit at points k)
+    by false k = inl (by_degrees p given unit at points (read_sized Real word p read) (subst (λ (t : Turning). figure_turned t p.form p.lengths given unit at ≡ Ok (Some (filled points))) (real_turning word p read) k))
 
 -- ---- Spots that are placed flash an area
 

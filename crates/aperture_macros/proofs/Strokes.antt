@@ -26,7 +26,10 @@ use Rattle.aperture_macros.specs.BodyWord.{◌>>=◌, part, past}
 use Rattle.aperture_macros.specs.Images.{area_at, circle_at, centre_at, centred, disc_at, figure_by, is_done, judged_by, line_at, line_between, outline_at, outlined, polygon_at, polygon_spots, set_down, sketch_at, sketched, slanted, strip, stroke_at}
 use Rattle.aperture_macros.specs.declared.primitive.Turning.{Turning}
 use Rattle.aperture_macros.specs.declared.primitive.Turning.TheVariants.{Quarters, Degrees}
-use Rattle.aperture_macros.specs.Flashes.{figure_turned, tell, told_figure, turn_behind, turn_judged}
+use Rattle.aperture_macros.specs.BodyWord.{PlainPrimitive}
+use Rattle.aperture_macros.specs.Fine.{fine_at, fine_rest, fine_spots, fine_told}
+use Rattle.aperture_macros.specs.declared.fine.FineSketch.{FineSketch}
+use Rattle.aperture_macros.specs.Flashes.{figure_turned, fine_figure, fine_judged, is_fine, plainly_judged, tell, told_figure, turn_behind, turn_judged}
 use Rattle.aperture_macros.specs.Telling.{is_moved, told, told_rest, told_round as told_as_round}
 use Rattle.aperture_macros.specs.Laws.{FlashesDiscsAlone, IsSlanted, StrokesAreSlantedLines}
 use Rattle.aperture_macros.specs.Values.{across_at, diameter_at, point_at, size_at}
@@ -263,11 +266,30 @@ round_by Degrees form text given unit at s h =
     let f = then_ok (figure_by form t.0.quarters text given unit at) (λ figure. tell form at t.0.rest figure) (Some (round s)) t.2 in
     (t.0.quarters, f.1 ∙ told_round form at t.0.rest f.0 s f.2)
 
-pub flashes_discs_alone : FlashesDiscsAlone
-flashes_discs_alone p given unit at s j h =
+-- a fine one flashes an area
+fine_none : {P : Type 0} (form : Form) (text : List ℕ) (given : List Fraction) (unit : Measure) (at : Spot) (s : Figured) → fine_figure form text given unit at ≡ Ok (Some (round s)) → P
+unfolding fine_figure
+fine_none {P = P} form text given unit at s h =
+    let t = then_ok (turn_behind form text given) (λ turn. fine_at form text given unit >>= λ f. fine_told turn.quarters at f) (Some (round s)) h in
+    let f = then_ok (fine_at form text given unit) (λ f. fine_told t.0.quarters at f) (Some (round s)) t.2 in
+    by t.0.quarters f.0 f.2
+  where
+    by : (rotation : Rotation) (f : Option FineSketch) → fine_told rotation at f ≡ Ok (Some (round s)) → P
+    by rotation None k = cc
+    by rotation (Some f) k = no_area (told at (fine_rest f.kind) (map (set_down rotation at) (fine_spots f))) s k
+
+plain_discs : (p : PlainPrimitive) (given : List Fraction) (unit : Measure) (at : Spot) (s : Figured) → plainly_judged Exact p given unit ≡ Ok tt → figure_turned p.rotation p.form p.lengths given unit at ≡ Ok (Some (round s)) → s.a ≡ s.b
+plain_discs p given unit at s j h =
     let r = round_by p.rotation p.form p.lengths given unit at s h in
     let d = then_ok (judged_by Exact p.form p.lengths given unit) (λ done. turn_judged p.rotation p.form p.lengths given unit) tt j in
     discs_by p.form r.0 p.lengths given unit at s d.1 r.1
+
+pub flashes_discs_alone : FlashesDiscsAlone
+flashes_discs_alone p given unit at s j h = by (is_fine p.rotation p.form p.lengths given unit) j h
+  where
+    by : (b : Bool) → cond b (fine_judged p.form p.lengths given unit) (plainly_judged Exact p given unit) ≡ Ok tt → cond b (fine_figure p.form p.lengths given unit at) (figure_turned p.rotation p.form p.lengths given unit at) ≡ Ok (Some (round s)) → s.a ≡ s.b
+    by true j h = fine_none p.form p.lengths given unit at s h
+    by false j h = plain_discs p given unit at s j h
 
 strokes_by : (form : Form) (rotation : Rotation) (text : List ℕ) (given : List Fraction) (unit : Measure) (at : Spot) (s : Figured) → figure_by form rotation text given unit at ≡ Ok (Some (round s)) → s.a ≢ s.b → (form ≡ VectorLine) × IsSlanted s
 unfolding figure_by
@@ -280,4 +302,8 @@ strokes_by CentreLine rotation text given unit at s h apart = absurd (apart (fla
 strokes_by (Polygon n) rotation text given unit at s h apart = absurd (apart (flat_by (polygon_at n text given unit) rotation at s (polygon_flat n text given unit) h))
 
 pub strokes_are_slanted_lines : StrokesAreSlantedLines
-strokes_are_slanted_lines p given unit at s h apart = let r = round_by p.rotation p.form p.lengths given unit at s h in strokes_by p.form r.0 p.lengths given unit at s r.1 apart
+strokes_are_slanted_lines p given unit at s h apart = by (is_fine p.rotation p.form p.lengths given unit) h
+  where
+    by : (b : Bool) → cond b (fine_figure p.form p.lengths given unit at) (figure_turned p.rotation p.form p.lengths given unit at) ≡ Ok (Some (round s)) → (p.form ≡ VectorLine) × IsSlanted s
+    by true h = fine_none p.form p.lengths given unit at s h
+    by false h = let r = round_by p.rotation p.form p.lengths given unit at s h in strokes_by p.form r.0 p.lengths given unit at s r.1 apart

@@ -134,28 +134,28 @@ rotation_of d =
     else Err Turn)))
 
 -- The rotation is written as it must be, then the exposure is 1. Where copper is taken exactly, the rotation is a decimal, and then it is by
--- quarter turns. In real copper it is an expression, and the turn by degrees; a circle may have none.
-unfoldable pub turning_at : Copper → Fraction → Bool → List ℕ → Result Turning MacroFault
-turning_at Exact exposure written rotation =
+-- quarter turns. In real copper it is an expression, and the turn by degrees.
+unfoldable pub turning_at : Copper → Fraction → List ℕ → Result Turning MacroFault
+turning_at Exact exposure rotation =
     if not (is_decimal rotation) then Err BadMacro
     else (if not (is_number exposure 1) then Err ExposureOff
     else (rotation_of (fraction rotation) >>= λ turn. Ok (Quarters turn)))
-turning_at Real exposure written rotation =
+turning_at Real exposure rotation =
     if not (is_expression rotation) then Err BadMacro
     else (if not (is_number exposure 1) then Err ExposureOff
-    else Ok (if written then Degrees else Quarters Unturned))
+    else Ok Degrees)
 
 -- the lengths are written as they must be, and then the rotation
-unfoldable pub turned_at : Copper → Form → Fraction → Bool → List ℕ → List ℕ → Result PlainPrimitive MacroFault
-turned_at copper form exposure written lengths rotation =
+unfoldable pub turned_at : Copper → Form → Fraction → List ℕ → List ℕ → Result PlainPrimitive MacroFault
+turned_at copper form exposure lengths rotation =
     if not (are_lengths form lengths) then Err BadMacro
-    else (turning_at copper exposure written rotation >>= λ turning. Ok (record { form = form; rotation = turning; lengths = lengths }))
+    else (turning_at copper exposure rotation >>= λ turning. Ok (record { form = form; rotation = turning; lengths = lengths }))
 
 -- a word of n commas as a primitive of this form; its exposure is a decimal
 unfoldable pub form_in : Copper → Form → ℕ → List ℕ → Result PlainPrimitive MacroFault
 form_in copper form n word =
     if not (is_decimal (part 1 word)) then Err BadMacro
-    else turned_at copper form (fraction (part 1 word)) (has_rotation form n) (past (row form).head word) (rotation_text form n (past (row form).head word))
+    else turned_at copper form (fraction (part 1 word)) (past (row form).head word) (rotation_text form n (past (row form).head word))
 
 -- a word whose code and commas give no form is no primitive
 abbrev pub some_form : Copper → Option Form → ℕ → List ℕ → Result (Option PlainPrimitive) MacroFault

@@ -1,5 +1,5 @@
 -- Laws of the strokes and areas that primitives flash.
-use Rattle.std.specs.Prelude.{◌≡◌, ◌≢◌, ◌≤◌, ◌<◌, ◌⊎◌, ℕ, List, length, pos, unsigned_abs, Some, Ok}
+use Rattle.std.specs.Prelude.{◌≡◌, ◌≢◌, ◌≤◌, ◌<◌, ◌⊎◌, ℕ, List, length, map, pos, unsigned_abs, Some, Ok}
 use Rattle.area_contact.specs.Contour.{IsClosed}
 use Rattle.board_shapes.specs.Figures.{Stroke, filled, round}
 use Rattle.lengths.specs.Decimal.{Fraction}
@@ -9,7 +9,9 @@ use Rattle.aperture_macros.specs.declared.primitive.Form.TheVariants.{VectorLine
 use Rattle.aperture_macros.specs.declared.primitive.Copper.TheVariants.{Exact, Real}
 use Rattle.aperture_macros.specs.declared.degrees.Turn.{Turn}
 use Rattle.aperture_macros.specs.BodyWord.{PlainPrimitive, primitive_at}
-use Rattle.aperture_macros.specs.Images.{figure_by}
+use Rattle.aperture_macros.specs.Fine.{fine_at, fine_rest, fine_spots}
+use Rattle.aperture_macros.specs.Images.{figure_by, set_down}
+use Rattle.aperture_macros.specs.declared.fine.FineSketch.{FineSketch}
 use Rattle.aperture_macros.specs.Flashes.{figure_at, judged, turn_behind}
 use Rattle.aperture_macros.specs.Telling.{round_told, told, told_in, told_rest, told_round}
 
@@ -51,6 +53,14 @@ pub record IsRoundTold (p : PlainPrimitive) (parameters : List Fraction) (unit :
   pub flashed : figure_by p.form turn.quarters p.lengths parameters unit at ≡ Ok (Some (round stroke))
   pub found : round_told points ≡ Some (record { stroke = record { a = stroke.a; b = stroke.b; r = pos (unsigned_abs stroke.r) }; about = at; rest = turn.rest })
 
--- Each area that a primitive of real copper flashes tells its contour, or its disc or stroke, by quarter turns, the spot, and what they leave of the rotation.
+-- a fine figure that is told so
+pub record IsFineTold (p : PlainPrimitive) (parameters : List Fraction) (unit : Measure) (at : Spot) (points : List Spot) : Type 0 where
+  pub turn : Turn
+  pub fine : FineSketch
+  pub said : turn_behind p.form p.lengths parameters ≡ Ok turn
+  pub sketched : fine_at p.form p.lengths parameters unit ≡ Ok (Some fine)
+  pub found : told_in points ≡ Some (record { contour = map (set_down turn.quarters at) (fine_spots fine); about = at; rest = fine_rest fine.kind })
+
+-- Each area that a primitive of real copper flashes tells its contour, or its disc or stroke, by quarter turns, the spot, and what they leave of the rotation; or a fine figure by quarter turns.
 abbrev pub RealAreasAreTold : Type 0
-RealAreasAreTold = (word : List ℕ) (p : PlainPrimitive) (parameters : List Fraction) (unit : Measure) (at : Spot) (points : List Spot) → primitive_at Real word ≡ Ok (Some p) → figure_at p parameters unit at ≡ Ok (Some (filled points)) → IsTold p parameters unit at points ⊎ IsRoundTold p parameters unit at points
+RealAreasAreTold = (word : List ℕ) (p : PlainPrimitive) (parameters : List Fraction) (unit : Measure) (at : Spot) (points : List Spot) → primitive_at Real word ≡ Ok (Some p) → figure_at p parameters unit at ≡ Ok (Some (filled points)) → (IsTold p parameters unit at points ⊎ IsRoundTold p parameters unit at points) ⊎ IsFineTold p parameters unit at points

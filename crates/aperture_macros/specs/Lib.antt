@@ -5,6 +5,7 @@ pub mod Values
 pub mod Images
 pub mod Degrees
 pub mod Telling
+pub mod Fine
 pub mod Flashes
 pub mod Seen
 pub mod Outlines

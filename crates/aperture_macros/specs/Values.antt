@@ -69,6 +69,10 @@ diameter_at text parameters unit = size_at text parameters unit >>= λ d. if nat
 abbrev pub as_natural : ℤ → Result ℕ MacroFault
 as_natural u = if int_lt u (pos 0) then Err OutOfRange else Ok (unsigned_abs u)
 
+-- a size that may be odd
+unfoldable pub extent_at : List ℕ → List Fraction → Measure → Result ℕ MacroFault
+extent_at text parameters unit = coordinate_at text parameters unit >>= as_natural
+
 -- a factor: of a length in a unit, or of a number as in mm, which is in parts of 10^-7 then
 unfoldable pub factor_at : List ℕ → List Fraction → Measure → Result ℕ MacroFault
 factor_at text parameters unit = term_at text parameters unit >>= as_natural
@@ -83,7 +87,7 @@ product_at text parameters unit =
 
 -- a whole number of u in such parts
 unfoldable pub whole_at : List ℕ → List Fraction → Measure → Result ℕ MacroFault
-whole_at text parameters unit = coordinate_at text parameters unit >>= λ u. as_natural u >>= λ n. Ok (n * PARTS)
+whole_at text parameters unit = extent_at text parameters unit >>= λ n. Ok (n * PARTS)
 
 -- the diameter of a polygon, in such parts
 unfoldable pub across_at : List ℕ → List Fraction → Measure → Result ℕ MacroFault

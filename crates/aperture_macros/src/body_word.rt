@@ -1,5 +1,5 @@
 //! How a body word is read.
-ghost use Rattle.std.specs.Prelude.{◌≡◌, Bool, IfSome};
+ghost use Rattle.std.specs.Prelude.{◌≡◌, IfSome};
 ghost use Rattle.aperture_macros.specs.BodyWord as spec;
 ghost use Rattle.aperture_macros.specs.Seen.{seen_body, seen_one};
 ghost use Rattle.aperture_macros.specs.Sized.{IsSized};
@@ -175,13 +175,12 @@ fn form_in(
     };
     let row = form.row();
     let lengths = past(row.head as u32, word);
-    let written = commas == (row.head as u32 + row.count()) as usize;
-    let rotation = if written {
+    let rotation = if commas == (row.head as u32 + row.count()) as usize {
         part(row.count(), lengths)
     } else {
         b"0"
     };
-    turned(copper, form, &exposure, written, lengths, rotation)
+    turned(copper, form, &exposure, lengths, rotation)
 }
 
 #[tactic(auto, unfolding(crate::specs::BodyWord::turned_at))]
@@ -189,17 +188,16 @@ fn turned<'a>(
     copper: Copper,
     form: Form,
     exposure: &Decimal,
-    written: bool,
     lengths: &'a [u8],
     rotation: &[u8],
 ) -> Result<Primitive<'a>, MacroFault>
     requires { IsSized form }
-    ensures { seen_one result ≡ spec.turned_at copper form exposure.now written lengths.now rotation.now }
+    ensures { seen_one result ≡ spec.turned_at copper form exposure.now lengths.now rotation.now }
 {
     if !are_lengths(form, lengths) {
         return Err(MacroFault::BadMacro);
     }
-    let rotation = turning(copper, exposure, written, rotation)?;
+    let rotation = turning(copper, exposure, rotation)?;
     Ok(Primitive {
         form,
         rotation,
@@ -207,15 +205,10 @@ fn turned<'a>(
     })
 }
 
-// How a primitive is turned whose exposure is this, and which has a rotation if one is written.
+// How a primitive is turned whose exposure is this.
 #[tactic(auto, unfolding(crate::specs::BodyWord::turning_at))]
-fn turning(
-    copper: Copper,
-    exposure: &Decimal,
-    written: bool,
-    rotation: &[u8],
-) -> Result<Turning, MacroFault>
-    ensures { result ≡ spec.turning_at copper exposure.now written rotation.now }
+fn turning(copper: Copper, exposure: &Decimal, rotation: &[u8]) -> Result<Turning, MacroFault>
+    ensures { result ≡ spec.turning_at copper exposure.now rotation.now }
 {
     match copper {
         Copper::Exact => exact_turning(exposure, rotation),
@@ -226,18 +219,14 @@ fn turning(
             if !is_number(exposure, 1) {
                 return Err(MacroFault::ExposureOff);
             }
-            Ok(if written {
-                Turning::Degrees
-            } else {
-                Turning::Quarters(Rotation::Unturned)
-            })
+            Ok(Turning::Degrees)
         },
     }
 }
 
 #[tactic(auto, unfolding(crate::specs::BodyWord::turning_at))]
 fn exact_turning(exposure: &Decimal, rotation: &[u8]) -> Result<Turning, MacroFault>
-    ensures { (written : Bool) → result ≡ spec.turning_at Copper.Exact exposure.now written rotation.now }
+    ensures { result ≡ spec.turning_at Copper.Exact exposure.now rotation.now }
 {
     let Some(degrees) = read_decimal(rotation) else {
         return Err(MacroFault::BadMacro);

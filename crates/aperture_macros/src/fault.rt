@@ -11,15 +11,17 @@ pub enum MacroFault {
     #[error("an exposure that is not on")]
     ExposureOff,
     /// In `Exact` copper, the rotation is not equal to 0, 90, 180 or 270 degrees. In `Real` copper, it is no multiple of 90
-    /// degrees, of a vector line along no axis that flashes anything: others may have any.
+    /// degrees, of a vector line along no axis or a figure of an odd size that flashes anything: others may have any, and so may
+    /// a disc about the origin.
     #[error("a turn that is no quarter turn")]
     Turn,
     /// A term is no whole number of u, of a rotation no whole number of 10^-7 degrees, the first factor of a product none of
-    /// 10^-7, a product no whole number of 10^-4 u, or a width, a height or the diameter of a circle is an odd number of u.
+    /// 10^-7, a product no whole number of 10^-4 u, or in `Exact` copper a width, a height or the diameter of a circle is an odd
+    /// number of u.
     #[error("a length off the grid")]
     OffGrid,
     /// A term, a length or a corner is over 1 m from 0, of a rotation a term or the sum over 1,000 degrees, the first factor of
-    /// a product over 1,000, a size or a factor is negative, or a diameter or the width of a vector line along no axis is over 50 mm.
+    /// a product over 1,000, a size or a factor is negative, or a diameter or the width of a vector line along no axis, or of an odd one, is over 50 mm.
     #[error("a length out of range")]
     OutOfRange,
     /// In `Exact` copper, a vector line is along no axis.

@@ -14,8 +14,9 @@ ghost use Rattle.aperture_macros.specs.Sketches.{IsNear, is_disc};
 use crate::body_word::part;
 use crate::degrees::{Turn, read_turn};
 use crate::fault::{FigureFault, MacroFault};
+use crate::fine::{fine, fine_told, is_stiff};
 use crate::images::{Sketch, centre_line, circle, line, polygon};
-use crate::outline::{Outline, bounded};
+use crate::outline::{Outline, area_of};
 use crate::placing::Placing;
 use crate::primitive::{Copper, Form, Primitive, Rotation, Turning};
 use crate::telling::{is_moved, told, told_rest, told_round};
@@ -23,7 +24,7 @@ use crate::values::PARTS;
 use board_shapes::{Shape, rectangle};
 use contact::Capsule;
 use lengths::decimal::{Decimal, Unit};
-use planar::{Spot, are_placed, is_placed};
+use planar::{Spot, is_placed};
 use std::alloc::Global;
 
 impl<'a> Primitive<'a> {
@@ -33,9 +34,10 @@ impl<'a> Primitive<'a> {
     /// First come the lengths in the order written, each term or factor in turn with its `OffGrid` and its
     /// `OutOfRange`, and then the length itself. Then comes `BadMacro`, where an outline's last point
     /// is not its first, or of a vector line along no axis `Slanted`, where copper is `Exact`, and else
-    /// `OutOfRange`, where it is wider than `MOST_DIAMETER`. Then, where it is turned by degrees, the rotation, as a
-    /// length is judged with degrees for mm, and `Turn`, where a line along no axis is turned by no
-    /// quarter turns.
+    /// `OutOfRange`, where it is wider than `MOST_DIAMETER`. A circle or a line of `Real` copper for which that is `OffGrid` is
+    /// judged anew with sizes that may be odd, and a line then is at most `MOST_DIAMETER` wide. Then, where it is turned by
+    /// degrees, the rotation, as a length is judged with degrees for mm, and `Turn`, where a line along no axis, or what was
+    /// judged anew but for a disc about the origin, is turned by no quarter turns.
     pub fn judge(
         &self,
         copper: Copper,
@@ -59,9 +61,62 @@ impl<'a> Primitive<'a> {
         ensures blank { IfOk result (λ has. has ≡ false → flashes.IsBlank (plain self.now) parameters.now unit) }
         ensures image { IfOk result (λ has. has ≡ true → flashes.HasImage (plain self.now) parameters.now unit) }
     {
+        if self.is_fine(parameters, unit) {
+            self.has_fine_image(parameters, unit)
+        } else {
+            self.has_plain_image(copper, parameters, unit)
+        }
+    }
+
+    // The same of one that is not fine.
+    fn has_plain_image(
+        &self,
+        copper: Copper,
+        parameters: &[Decimal],
+        unit: Unit,
+    ) -> Result<bool, MacroFault>
+        ensures lawful { spec.is_done result ≡ flashes.plainly_judged copper (plain self.now) parameters.now unit }
+        ensures blank { IfOk result (λ has. has ≡ false → (at : At) → flashes.figure_turned self.now.rotation self.now.form self.now.lengths.now parameters.now unit at ≡ Ok None) }
+        ensures image { IfOk result (λ has. has ≡ true → (at : At) → flashes.figure_turned self.now.rotation self.now.form self.now.lengths.now parameters.now unit at ≢ Ok None) }
+    {
         let has = self.has_figure(copper, parameters, unit)?;
         self.judge_turn(parameters, unit)?;
         Ok(has)
+    }
+
+    // The same of a fine one.
+    #[tactic(auto, unfolding(crate::specs::Flashes::fine_judged))]
+    fn has_fine_image(&self, parameters: &[Decimal], unit: Unit) -> Result<bool, MacroFault>
+        ensures lawful { spec.is_done result ≡ flashes.fine_judged self.now.form self.now.lengths.now parameters.now unit }
+        ensures blank { IfOk result (λ has. has ≡ false → (at : At) → flashes.fine_figure self.now.form self.now.lengths.now parameters.now unit at ≡ Ok None) }
+        ensures image { IfOk result (λ has. has ≡ true → (at : At) → flashes.fine_figure self.now.form self.now.lengths.now parameters.now unit at ≢ Ok None) }
+    {
+        let fine = fine(self.form, self.lengths, parameters, unit)?;
+        let turn = self.turn(parameters)?;
+        if turn.rest > 0 && is_stiff(fine) {
+            Err(MacroFault::Turn)
+        } else {
+            Ok(fine.is_some())
+        }
+    }
+
+    // Whether it is judged as a fine one.
+    #[tactic(auto, unfolding(crate::specs::Flashes::is_fine))]
+    fn is_fine(&self, parameters: &[Decimal], unit: Unit) -> bool
+        ensures { result ≡ flashes.is_fine self.now.rotation self.now.form self.now.lengths.now parameters.now unit }
+    {
+        match self.rotation {
+            Turning::Quarters(_) => false,
+            Turning::Degrees => match self.form {
+                Form::Circle => is_off_grid(circle(self.lengths, parameters, unit)),
+                Form::VectorLine => {
+                    is_off_grid(line(Copper::Real, self.lengths, parameters, unit))
+                },
+                Form::CentreLine => is_off_grid(centre_line(self.lengths, parameters, unit)),
+                Form::Outline(_) => false,
+                Form::Polygon(_) => false,
+            },
+        }
     }
 
     // Whether its lengths give a figure.
@@ -142,12 +197,12 @@ impl<'a> Primitive<'a> {
     /// exactly where a diameter, a width, a height or the length of a vector line is 0. For a vector line
     /// along no axis stands its stroke: the places at most half its width from the segment between its ends.
     /// Where it is turned by degrees, whole quarter turns are made, and an area is told with what is left, as is a disc that
-    /// this moves. A polygon is told by its middle, the diameter and the number of its corners.
+    /// this moves. A polygon is told by its middle, the diameter and the number of its corners, and a figure of an odd size by
+    /// its middle or its ends and its sizes.
     ///
     /// The fault of its rotation comes first, then that of the lengths as `judge` has it of `Real` copper, then
     /// `OutOfRange`, where the centre of a circle, a corner, an end or a spot that tells a turn is over 1 m from 0 in
-    /// x or y. `NoMemory` comes for areas alone: a circle that tells no turn takes no memory.
-    #[tactic(auto, unfolding(crate::specs::Flashes::figure_turned))]
+    /// x or y. `NoMemory` comes for areas alone: a circle of an even diameter that tells no turn takes no memory.
     pub fn figure(
         &self,
         alloc: Global,
@@ -158,6 +213,50 @@ impl<'a> Primitive<'a> {
         requires placed { IsPlaced at }
         ensures shape { Makes result (flashes.figure_at (plain self.now) parameters.now unit at) }
         ensures no_memory { is_circle self.now.form ≡ true → IsNoArea (flashes.figure_at (plain self.now) parameters.now unit at) → IsMade result (flashes.figure_at (plain self.now) parameters.now unit at) }
+    {
+        if self.is_fine(parameters, unit) {
+            self.fine_figure(alloc, parameters, unit, at)
+        } else {
+            self.plain_figure(alloc, parameters, unit, at)
+        }
+    }
+
+    // The same of a fine one.
+    #[tactic(auto, unfolding(crate::specs::Flashes::fine_figure))]
+    fn fine_figure(
+        &self,
+        alloc: Global,
+        parameters: &[Decimal],
+        unit: Unit,
+        at: Spot,
+    ) -> Result<Option<Shape>, FigureFault>
+        requires placed { IsPlaced at }
+        ensures shape { Makes result (flashes.fine_figure self.now.form self.now.lengths.now parameters.now unit at) }
+        ensures no_memory { IsNoArea (flashes.fine_figure self.now.form self.now.lengths.now parameters.now unit at) → IsMade result (flashes.fine_figure self.now.form self.now.lengths.now parameters.now unit at) }
+    {
+        let turn = match self.turn(parameters) {
+            Ok(turn) => turn,
+            Err(fault) => return Err(FigureFault::Macro(fault)),
+        };
+        let rotation = turn.quarters;
+        match fine(self.form, self.lengths, parameters, unit) {
+            Ok(fine) => fine_told(alloc, Placing { rotation, at }, fine),
+            Err(fault) => Err(FigureFault::Macro(fault)),
+        }
+    }
+
+    // The same of one that is not fine.
+    #[tactic(auto, unfolding(crate::specs::Flashes::figure_turned))]
+    fn plain_figure(
+        &self,
+        alloc: Global,
+        parameters: &[Decimal],
+        unit: Unit,
+        at: Spot,
+    ) -> Result<Option<Shape>, FigureFault>
+        requires placed { IsPlaced at }
+        ensures shape { Makes result (flashes.figure_turned self.now.rotation self.now.form self.now.lengths.now parameters.now unit at) }
+        ensures no_memory { is_circle self.now.form ≡ true → IsNoArea (flashes.figure_turned self.now.rotation self.now.form self.now.lengths.now parameters.now unit at) → IsMade result (flashes.figure_turned self.now.rotation self.now.form self.now.lengths.now parameters.now unit at) }
     {
         match self.rotation {
             Turning::Quarters(rotation) => self.figure_by(alloc, parameters, unit, rotation, at),
@@ -244,6 +343,16 @@ fn turned_round(
     }
 }
 
+// Whether there is none, since a length is off the grid.
+fn is_off_grid(sketch: Result<Option<Sketch>, MacroFault>) -> bool
+    ensures { result ≡ flashes.is_off_grid sketch }
+{
+    match sketch {
+        Err(MacroFault::OffGrid) => true,
+        _ => false,
+    }
+}
+
 // Whether another turn than quarter turns would slant it: a stroke.
 fn is_slanted(sketch: Result<Option<Sketch>, MacroFault>) -> bool
     ensures { result ≡ flashes.is_slanted sketch }
@@ -305,14 +414,7 @@ fn marks(alloc: Global, by: Placing, p: Spot, d: u64, n: u32) -> Result<Option<S
     requires small { d ≤ MOST_DIAMETER * PARTS }
     ensures { Makes result (spec.area_at (map (spec.set_down by.rotation by.at) (spec.polygon_spots p d n))) }
 {
-    let spots = mark_spots(by, p, d, n);
-    if !are_placed(spots.as_slice()) {
-        return Err(FigureFault::Macro(MacroFault::OutOfRange));
-    }
-    match spots.as_slice().to_vec(alloc) {
-        Ok(points) => bounded(alloc, points),
-        Err(_) => Err(FigureFault::NoMemory),
-    }
+    area_of(alloc, mark_spots(by, p, d, n).as_slice())
 }
 
 // Its spots, each set down.
@@ -349,14 +451,7 @@ fn area(alloc: Global, by: Placing, low: Spot, high: Spot) -> Result<Option<Shap
     requires high { IsReachable high }
     ensures { Makes result (spec.area_at (map (spec.set_down by.rotation by.at) (rectangle low high))) }
 {
-    let corners = corners(by, low, high);
-    if !are_placed(corners.as_slice()) {
-        return Err(FigureFault::Macro(MacroFault::OutOfRange));
-    }
-    match corners.as_slice().to_vec(alloc) {
-        Ok(points) => bounded(alloc, points),
-        Err(_) => Err(FigureFault::NoMemory),
-    }
+    area_of(alloc, corners(by, low, high).as_slice())
 }
 
 // The contour of a rectangle, each corner set down.

@@ -11,6 +11,7 @@
 //! - `body_word`: how a body word is read.
 //! - `values`: what lengths are with parameters.
 //! - `images`: figures about the origin of the macro.
+//! - `fine`: circles and lines of odd sizes in real copper.
 //! - `degrees`: how far a primitive is turned in real copper.
 //! - `placing`: where a figure is set down.
 //! - `outline`: the areas of outlines.
@@ -24,6 +25,7 @@ mod degrees;
 mod expression;
 mod fault;
 mod figure;
+mod fine;
 mod images;
 pub mod laws;
 mod outline;

@@ -4,9 +4,9 @@ ghost use Rattle.planar.specs.Plane.{IsPlaced};
 ghost use Rattle.area_contact.specs.Contour.{IsClosed};
 ghost use Rattle.board_shapes.specs.Figures.{filled};
 ghost use Rattle.aperture_macros.specs.BodyWord.{past as past_of};
-ghost use Rattle.aperture_macros.specs.Images.{outline_at, outlined, set_down};
+ghost use Rattle.aperture_macros.specs.Images.{area_at, outline_at, outlined, set_down};
 ghost use Rattle.aperture_macros.specs.Outlines.{closing_at, last_from, moved_from};
-ghost use Rattle.aperture_macros.specs.Seen.{IsRefusal, Makes};
+ghost use Rattle.aperture_macros.specs.Seen.{IsMade, IsNoArea, IsRefusal, Makes};
 ghost use Rattle.aperture_macros.specs.Sized.{IsSized};
 ghost use Rattle.aperture_macros.specs.declared.primitive.Form.TheVariants as form;
 
@@ -110,8 +110,25 @@ impl Outline<'_> {
     }
 }
 
-/// The area that a contour bounds.
-pub fn bounded(alloc: Global, points: Vec<Spot>) -> Result<Option<Shape>, FigureFault>
+/// The area of these spots; `OutOfRange` where one of them is over 1 m from 0 in x or y.
+pub fn area_of(alloc: Global, spots: &[Spot]) -> Result<Option<Shape>, FigureFault>
+    requires closed { IsClosed spots.now }
+    requires enough { 4 ≤ length spots.now }
+    requires not_many { length spots.now ≤ 5001 }
+    ensures shape { Makes result (area_at spots.now) }
+    ensures no_memory { IsNoArea (area_at spots.now) → IsMade result (area_at spots.now) }
+{
+    if !are_placed(spots) {
+        return Err(FigureFault::Macro(MacroFault::OutOfRange));
+    }
+    match spots.to_vec(alloc) {
+        Ok(points) => bounded(alloc, points),
+        Err(_) => Err(FigureFault::NoMemory),
+    }
+}
+
+// The area that a contour bounds.
+fn bounded(alloc: Global, points: Vec<Spot>) -> Result<Option<Shape>, FigureFault>
     requires closed { IsClosed points.items }
     requires enough { 4 ≤ length points.items }
     requires not_many { length points.items ≤ 5001 }

@@ -10,7 +10,7 @@ ghost use Rattle.aperture_macros.specs.declared.primitive.Rotation.TheVariants a
 
 use crate::fault::{FigureFault, MacroFault};
 use crate::images::same;
-use crate::outline::bounded;
+use crate::outline::area_of;
 use crate::placing::Placing;
 use crate::primitive::{Form, Rotation};
 use board_shapes::Shape;
@@ -74,8 +74,8 @@ fn first_spot(contour: &[Spot]) -> Spot
     contour[0]
 }
 
-// Where the way that stands for a turn leads from a spot.
-fn end_of_way(about: Spot, rest: u32) -> Spot
+/// Where the way that stands for a turn leads from a spot.
+pub fn end_of_way(about: Spot, rest: u32) -> Spot
     requires { IsPlaced about }
     ensures { result ≡ set_down rotation.Unturned about (spec.way_of rest) }
 {
@@ -110,14 +110,7 @@ pub fn told_round(
     ensures shape { Makes result (area_at (spec.told_round about rest (record { a = capsule.now.a; b = capsule.now.b; r = capsule.now.r }))) }
     ensures no_memory { IsNoArea (area_at (spec.told_round about rest (record { a = capsule.now.a; b = capsule.now.b; r = capsule.now.r }))) → IsMade result (area_at (spec.told_round about rest (record { a = capsule.now.a; b = capsule.now.b; r = capsule.now.r }))) }
 {
-    let spots = round_spots(about, rest, capsule);
-    if !are_placed(spots.as_slice()) {
-        return Err(FigureFault::Macro(MacroFault::OutOfRange));
-    }
-    match spots.as_slice().to_vec(alloc) {
-        Ok(points) => bounded(alloc, points),
-        Err(_) => Err(FigureFault::NoMemory),
-    }
+    area_of(alloc, round_spots(about, rest, capsule).as_slice())
 }
 
 // Its spots.

@@ -139,6 +139,16 @@ fn natural(u: i64) -> Result<u64, MacroFault>
     }
 }
 
+/// A width or a height in u that may be odd, from 0 to 1 m; or its fault.
+#[tactic(auto, unfolding(crate::specs::Values::extent_at))]
+pub fn extent(text: &[u8], parameters: &[Decimal], unit: Unit) -> Result<u64, MacroFault>
+    ensures value { result ≡ spec.extent_at text.now parameters.now unit }
+    ensures small { IfOk result (λ n. n ≤ METRE) }
+{
+    let u = coordinate(text, parameters, unit)?;
+    natural(u)
+}
+
 // A factor: a length, or a number as in mm, in parts of 10^-7.
 #[tactic(auto, unfolding(crate::specs::Values::factor_at))]
 fn factor(text: &[u8], parameters: &[Decimal], unit: Unit) -> Result<u64, MacroFault>
@@ -169,8 +179,7 @@ fn product(text: &[u8], parameters: &[Decimal], unit: Unit) -> Result<u128, Macr
 fn whole(text: &[u8], parameters: &[Decimal], unit: Unit) -> Result<u128, MacroFault>
     ensures value { result ≡ spec.whole_at text.now parameters.now unit }
 {
-    let u = coordinate(text, parameters, unit)?;
-    let n = natural(u)?;
+    let n = extent(text, parameters, unit)?;
     Ok(u128::from(n) * u128::from(PARTS))
 }
 

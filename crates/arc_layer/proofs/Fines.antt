@@ -9,12 +9,10 @@ use Rattle.planar.specs.Plane.{is_placed}
 use Rattle.planar.specs.declared.Spot.{Spot}
 use Rattle.apertures.specs.Flash.{IsFineSize, NoFlash, leaves, flash_of}
 use Rattle.apertures.specs.Holes.{is_frame}
-use Rattle.apertures.specs.Telling.{Fine, Pierced, fine_told, pierced_told, told_fine, told_holed}
-use Rattle.apertures.specs.declared.aperture.HoledForm.{HoledForm}
+use Rattle.apertures.specs.Telling.{Fine, fine_told, pierced_told, told_fine, told_holed}
 use Rattle.board_shapes.specs.Figures.{Figure, filled}
 use Rattle.fine_figures.specs.declared.FineFigure.{FineFigure}
 use Rattle.fine_figures.specs.declared.FineFigure.TheVariants.{Round, Rectangle}
-use Rattle.fine_figures.specs.declared.HoledFigure.{HoledFigure}
 use Rattle.arc_layer.specs.Fine.{fine_by, fine_figure, fine_sides, fine_stroke, holed_by, holed_figure}
 use Rattle.arc_layer.specs.Laws.{FineCirclesAreUndone, FineObroundsAreUndone, FineRectanglesAreUndone, HoledAreUndone, outline_of}
 use Rattle.arc_layer.specs.Marks.{flash}

@@ -1,4 +1,5 @@
 pub mod EachEdge
+pub mod FinePrimitives
 pub mod Fines
 pub mod Mute
 pub mod Numbers

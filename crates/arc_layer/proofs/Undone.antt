@@ -1,5 +1,5 @@
 -- Turns that are told come back as figures before them.
-use Rattle.std.proofs.Common.{◌≡◌, ℕ, ◌-◌, ◌<◌, ◌≤◌, ◌==◌, pos, nat_lt, Bool, true, false, cond, List, length, take, All, Option, Some, None, option_map, refl, sym, ap, ◌∙◌, subst, arith, le-leb, suc, [], ◌∷◌}
+use Rattle.std.proofs.Common.{◌≡◌, ℕ, ◌*◌, ◌-◌, ◌<◌, ◌≤◌, ◌==◌, pos, nat_lt, Bool, true, false, cond, List, length, take, All, Option, Some, None, option_map, refl, sym, ap, ◌∙◌, subst, arith, le-leb, suc, [], ◌∷◌}
 use Rattle.std.specs.Prelude.{unsigned_abs}
 use Rattle.std.proofs.lemmas.List.{length-take-le}
 use Rattle.std.proofs.lemmas.List.Elements.{All-take}
@@ -12,8 +12,8 @@ use Rattle.aperture_macros.proofs.Told.{spot_same, told_length}
 use Rattle.apertures.specs.Telling.{Fine, Frame, Pierced, Ring, fine_told, frame_told, pierced_told, ring_told}
 use Rattle.board_shapes.specs.Figures.{filled}
 use Rattle.arc_layer.specs.Laws.{DiscsAreUndone, TurnedAreContours, TurnsAreUndone}
-use Rattle.arc_layer.specs.Fine.{fine_figure, holed_figure}
-use Rattle.arc_layer.specs.Real.{bent_or, disc_or, fine_or, frame_or, holed_or, plain, unpierced, ring_draw, told_area, turned, turned_disc, RealFigure, polygon_told, regular_or}
+use Rattle.arc_layer.specs.Fine.{disc_to, fine_figure, holed_figure, line_to, rectangle_to}
+use Rattle.arc_layer.specs.Real.{bent_or, disc_or, fine_or, frame_or, holed_or, plain, unpierced, ring_draw, told_area, turned, turned_disc, RealFigure, figure_or, fine, fine_primitive, polygon_told, regular_or, slanted}
 use Rattle.slants.specs.declared.cones.TheConstants.{RIGHT_ANGLE}
 use Rattle.turned_polygons.specs.declared.TurnedPolygon.{TurnedPolygon}
 use Rattle.arc_layer.proofs.Fines.{no_fine, no_pierced}
@@ -85,8 +85,29 @@ less_left rest h = grind (arith, h)
 pub lawful : TurnedAreContours
 lawful points contour about rest is h = past_pierced (pierced_told points) h
   where
+    no_polygon : (o : Option TurnedPolygon) → regular_or points o ≡ turned contour about rest → ⊥
+    no_polygon (Some g) k = cc
+    no_polygon None k = cc
+
+    no_kind : (p q side : Spot) (a b c : Bool) (o : Option TurnedPolygon) → figure_or (cond a (Some (fine (disc_to p q))) (cond b (Some (fine (rectangle_to p q side))) (cond c (Some (slanted (line_to p q side))) None))) (regular_or points o) ≡ turned contour about rest → ⊥
+    no_kind p q side true b c o k = cc
+    no_kind p q side false true c o k = cc
+    no_kind p q side false false true o k = cc
+    no_kind p q side false false false o k = no_polygon o k
+
+    beyond : (ps : List Spot) (r : ℕ) (o : Option TurnedPolygon) → figure_or (fine_primitive ps r) (regular_or points o) ≡ turned contour about rest → ⊥
+    beyond [] r o k = no_polygon o k
+    beyond (a ∷ []) r o k = no_polygon o k
+    beyond (a ∷ b ∷ []) r o k = no_polygon o k
+    beyond (a ∷ b ∷ c ∷ []) r o k = no_polygon o k
+    beyond (a ∷ b ∷ c ∷ d ∷ []) r o k = no_polygon o k
+    beyond (a ∷ b ∷ c ∷ d ∷ e ∷ []) r o k = no_polygon o k
+    beyond (a ∷ b ∷ c ∷ d ∷ e ∷ f ∷ []) r o k = no_polygon o k
+    beyond (a ∷ b ∷ c ∷ d ∷ e ∷ f ∷ g ∷ []) r o k = no_kind a b c (r == 2 * RIGHT_ANGLE) (r == 3 * RIGHT_ANGLE) (r == 4 * RIGHT_ANGLE) o k
+    beyond (a ∷ b ∷ c ∷ d ∷ e ∷ f ∷ g ∷ h ∷ more) r o k = no_polygon o k
+
     inside : (t : Telling) (none less : Bool) (o : Option TurnedPolygon) → IsTold points t → (t.rest == 0) ≡ none → nat_lt t.rest RIGHT_ANGLE ≡ less
-        → cond none (plain (filled t.contour)) (cond less (turned t.contour t.about t.rest) (regular_or points o)) ≡ turned contour about rest → IsLawful contour about rest
+        → cond none (plain (filled t.contour)) (cond less (turned t.contour t.about t.rest) (figure_or (fine_primitive points t.rest) (regular_or points o))) ≡ turned contour about rest → IsLawful contour about rest
     inside t true less o told e f k = absurd cc
     inside t false true o told e f k =
         let one : t.contour ≡ contour = cc in
@@ -94,8 +115,7 @@ lawful points contour about rest is h = past_pierced (pierced_told points) h
         let three : t.rest ≡ rest = cc in
         subst (λ (c : List Spot). IsLawful c about rest) one (subst (λ (s : Spot). IsLawful t.contour s rest) two (subst (λ (r : ℕ). IsLawful t.contour t.about r) three
         (lawful_so points t is told (some_left t.rest e) (less_left t.rest f))))
-    inside t false false (Some g) told e f k = absurd cc
-    inside t false false None told e f k = absurd cc
+    inside t false false o told e f k = absurd (beyond points t.rest o k)
 
     by : (t : Option Telling) → told_in points ≡ t → told_area points t ≡ turned contour about rest → IsLawful contour about rest
     by None e k = absurd cc

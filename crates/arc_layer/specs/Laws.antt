@@ -3,7 +3,10 @@ use Rattle.std.specs.Prelude.{◌≡◌, ℕ, ◌+◌, ◌-◌, ◌*◌, ◌/◌
 use Rattle.planar.specs.Plane.{IsPlaced}
 use Rattle.planar.specs.declared.Spot.{Spot}
 use Rattle.area_contact.specs.Contour.{IsClosed, IsContour}
-use Rattle.aperture_macros.specs.Images.{polygon_spots, set_down}
+use Rattle.aperture_macros.specs.Fine.{above, fine_rest, fine_spots}
+use Rattle.aperture_macros.specs.Images.{polygon_spots, right_of, set_down}
+use Rattle.aperture_macros.specs.declared.fine.FineKind.TheVariants.{Disc, Line, Rectangle as PlainRectangle}
+use Rattle.contact.specs.declared.Bounds.{Bounds}
 use Rattle.aperture_macros.specs.Telling.{told, told_rest, told_round}
 use Rattle.aperture_macros.specs.declared.primitive.Form.TheVariants.{Polygon}
 use Rattle.aperture_macros.specs.declared.primitive.Rotation.{Rotation}
@@ -20,7 +23,7 @@ use Rattle.gerber_layer.specs.CommandEffects.{edges_in}
 use Rattle.gerber_layer.specs.Settings.{contour_before}
 use Rattle.arc_layer.specs.Marks.{contour, edges_before, flash, mark_behind}
 use Rattle.arc_layer.specs.Fine.{fine_sides, fine_stroke}
-use Rattle.arc_layer.specs.Real.{bent, fine, flashed, frame_region, holed, plain, regular, turned, turned_disc, turned_with, with_mark}
+use Rattle.arc_layer.specs.Real.{bent, fine, flashed, frame_region, holed, plain, regular, slanted, turned, turned_disc, turned_with, with_mark}
 use Rattle.arc_layer.specs.State.{commands_of}
 use Rattle.arc_layer.specs.Words.{Saying}
 use Rattle.arc_layer.specs.declared.draws.Bend.{Bend}
@@ -86,6 +89,25 @@ FineObroundsAreUndone = (x y : ℤ) (at : Spot) (figure : Figure) → IsLawful (
 abbrev pub FineCirclesAreUndone : Type 0
 FineCirclesAreUndone = (d : ℤ) (at : Spot) (figure : Figure) → IsLawful (FineCircle d) → flash_of (FineCircle d) at ≡ Ok (Some figure)
     → with_mark (Some flash) figure ≡ fine (Round (fine_stroke at (unsigned_abs d) (unsigned_abs d)))
+
+-- What tells a fine primitive is that figure by the quarter turns about the flash: a disc as wide, a rectangle as wide and high, which change places at a quarter turn, and a line as wide between its ends.
+abbrev pub FineDiscsComeBack : Type 0
+FineDiscsComeBack = (rotation : Rotation) (at p : Spot) (d : ℕ) → flashed (told at (fine_rest Disc) (map (set_down rotation at) (fine_spots (record { kind = Disc; start = p; end = right_of p d; side = p }))))
+    ≡ fine (Round (fine_stroke (set_down rotation at p) d d))
+
+abbrev pub sides_turned : Rotation → Spot → ℕ → ℕ → Bounds
+sides_turned Unturned m w h = fine_sides m w h
+sides_turned Quarter m w h = fine_sides m h w
+sides_turned Half m w h = fine_sides m w h
+sides_turned ThreeQuarters m w h = fine_sides m h w
+
+abbrev pub FineCentreLinesComeBack : Type 0
+FineCentreLinesComeBack = (rotation : Rotation) (at p : Spot) (w h : ℕ) → flashed (told at (fine_rest PlainRectangle) (map (set_down rotation at) (fine_spots (record { kind = PlainRectangle; start = p; end = right_of p w; side = above p h }))))
+    ≡ fine (Rectangle (sides_turned rotation (set_down rotation at p) w h))
+
+abbrev pub FineLinesComeBack : Type 0
+FineLinesComeBack = (rotation : Rotation) (at p q : Spot) (w : ℕ) → flashed (told at (fine_rest Line) (map (set_down rotation at) (fine_spots (record { kind = Line; start = p; end = q; side = right_of p w }))))
+    ≡ slanted (record { start = set_down rotation at p; end = set_down rotation at q; width = w })
 
 -- One with a hole is such a figure, without what is nearer to the spot than half the hole's diameter.
 abbrev pub outline_of : HoledForm → Spot → FineFigure

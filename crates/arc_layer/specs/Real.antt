@@ -26,7 +26,7 @@ use Rattle.apertures.specs.Telling.{Frame, Ring, frame_told, ring_told}
 use Rattle.aperture_macros.specs.Telling.{RoundTelling, Telling, round_told, told_in}
 use Rattle.arc_layer.specs.Marks.{AreMarks, IsBendRefused, PlainMark, arc, by_pen, contour, flash}
 use Rattle.arc_layer.specs.Centres.{moved, same_spot}
-use Rattle.arc_layer.specs.Fine.{fine_draw, fine_in, holed_in}
+use Rattle.arc_layer.specs.Fine.{disc_to, fine_draw, fine_in, holed_in, line_to, rectangle_to}
 use Rattle.arc_layer.specs.declared.draws.Bend.{Bend}
 use Rattle.arc_layer.specs.declared.kind.RealKind.{RealKind}
 use Rattle.arc_layer.specs.declared.kind.RealKind.TheVariants.{Copper}
@@ -136,12 +136,28 @@ abbrev pub regular_or : List Spot → Option TurnedPolygon → RealFigure
 regular_or points (Some g) = regular g
 regular_or points None = plain (filled points)
 
--- The area of a macro as what its contour tells: the figure before its turn (Gerber Layer Format Specification, 4.5.1), plain where nothing is left to turn. What tells a right angle or more is a polygon.
+-- what two, three or four right angles tell: a disc, a rectangle or a line of an odd size
+abbrev pub fine_kind : Spot → Spot → Spot → ℕ → Option RealFigure
+fine_kind p q side rest =
+    if rest == 2 * RIGHT_ANGLE then Some (fine (disc_to p q))
+    else (if rest == 3 * RIGHT_ANGLE then Some (fine (rectangle_to p q side))
+    else (if rest == 4 * RIGHT_ANGLE then Some (slanted (line_to p q side)) else None))
+
+abbrev pub fine_primitive : List Spot → ℕ → Option RealFigure
+fine_primitive (p ∷ q ∷ side ∷ again ∷ about ∷ to ∷ last ∷ []) rest = fine_kind p q side rest
+fine_primitive other rest = None
+
+abbrev pub figure_or : Option RealFigure → RealFigure → RealFigure
+figure_or (Some figure) area = figure
+figure_or None area = area
+
+-- The area of a macro as what its contour tells: the figure before its turn (Gerber Layer Format Specification, 4.5.1), plain where nothing is left to turn. What tells a right angle or more is a polygon, or has an odd size.
 abbrev pub told_area : List Spot → Option Telling → RealFigure
 told_area points None = plain (filled points)
 told_area points (Some t) =
     if t.rest == 0 then plain (filled t.contour)
-    else (if nat_lt t.rest RIGHT_ANGLE then turned t.contour t.about t.rest else regular_or points (polygon_told points t.rest))
+    else (if nat_lt t.rest RIGHT_ANGLE then turned t.contour t.about t.rest
+    else figure_or (fine_primitive points t.rest) (regular_or points (polygon_told points t.rest)))
 
 -- A disc of a macro as it is told: that before its turn. What tells a stroke, a right angle or more, or nothing to turn, is as it is; no macro's does.
 abbrev pub disc_area : List Spot → RoundTelling → RealFigure

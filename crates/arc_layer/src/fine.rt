@@ -1,12 +1,16 @@
-//! Fine apertures, as the spots of an area tell them, and draws with fine pens.
+//! Fine apertures and primitives of macros, as the spots of an area tell them, and draws with fine pens.
 ghost use Rattle.arc_layer.specs.Fine as spec;
+ghost use Rattle.arc_layer.specs.Real as real;
+ghost use Rattle.arc_layer.specs.Real.{real_figure};
 ghost use Rattle.planar.specs.Plane.{IsPlaced};
 ghost use Rattle.planar.specs.declared.TheConstants.{TWO_METRES};
-ghost use Rattle.std.specs.Prelude.{◌≡◌, ◌≤◌, ◌-ℤ◌, unsigned_abs, All, pos};
+ghost use Rattle.std.specs.Prelude.{◌≡◌, ◌≤◌, ◌-ℤ◌, unsigned_abs, All, option_map, pos};
 
 use contact::{Bounds, Capsule};
 use fine_figures::{FineFigure, FineStroke, HoledFigure, doubled};
 use planar::Spot;
+use real_shapes::RealShape;
+use slants::{RIGHT_ANGLE, Slant};
 
 fn way(n: u64) -> i64
     requires { n ≤ TWO_METRES }
@@ -119,13 +123,102 @@ pub fn fine_in(points: &[Spot]) -> Option<FineFigure>
     fine_by(*middle, *one, *other)
 }
 
-/// How far two spots are apart across.
-fn across(one: Spot, other: Spot) -> u64
-    requires one { IsPlaced one }
-    requires other { IsPlaced other }
-    ensures { result ≡ unsigned_abs (one.x -ℤ other.x) }
+/// How far a spot is from another across.
+fn across(p: Spot, q: Spot) -> u64
+    requires p_placed { IsPlaced p }
+    requires q_placed { IsPlaced q }
+    ensures value { result ≡ spec.across p q }
+    ensures small { result ≤ TWO_METRES }
 {
-    one.x.abs_diff(other.x)
+    q.x.abs_diff(p.x)
+}
+
+/// How far it is from there up.
+fn up(p: Spot, q: Spot) -> u64
+    requires p_placed { IsPlaced p }
+    requires q_placed { IsPlaced q }
+    ensures value { result ≡ spec.up p q }
+    ensures small { result ≤ TWO_METRES }
+{
+    q.y.abs_diff(p.y)
+}
+
+fn greater(n: u64, m: u64) -> u64
+    ensures value { result ≡ spec.greater n m }
+    ensures small { n ≤ TWO_METRES → m ≤ TWO_METRES → result ≤ TWO_METRES }
+{
+    if n < m { m } else { n }
+}
+
+/// How far it is straight across or up.
+fn size_to(p: Spot, q: Spot) -> u64
+    requires p_placed { IsPlaced p }
+    requires q_placed { IsPlaced q }
+    ensures value { result ≡ spec.size_to p q }
+    ensures small { result ≤ TWO_METRES }
+{
+    greater(across(p, q), up(p, q))
+}
+
+fn disc_to(p: Spot, q: Spot) -> FineFigure
+    requires p_placed { IsPlaced p }
+    requires q_placed { IsPlaced q }
+    ensures { result ≡ spec.disc_to p q }
+{
+    let d = size_to(p, q);
+    FineFigure::Round(fine_stroke(p, d, d))
+}
+
+fn rectangle_to(p: Spot, q: Spot, side: Spot) -> FineFigure
+    requires p_placed { IsPlaced p }
+    requires q_placed { IsPlaced q }
+    requires side_placed { IsPlaced side }
+    ensures { result ≡ spec.rectangle_to p q side }
+{
+    let w = greater(across(p, q), across(p, side));
+    let h = greater(up(p, q), up(p, side));
+    FineFigure::Rectangle(fine_sides(p, w, h))
+}
+
+fn line_to(p: Spot, q: Spot, side: Spot) -> Slant
+    requires p_placed { IsPlaced p }
+    requires side_placed { IsPlaced side }
+    ensures { result ≡ spec.line_to p q side }
+{
+    Slant {
+        start: p,
+        end: q,
+        width: size_to(p, side),
+    }
+}
+
+// The disc, the rectangle or the line that two, three or four right angles tell.
+fn fine_kind(p: Spot, q: Spot, side: Spot, rest: u64) -> Option<RealShape>
+    requires p_placed { IsPlaced p }
+    requires q_placed { IsPlaced q }
+    requires side_placed { IsPlaced side }
+    ensures { option_map real_figure result ≡ real.fine_kind p q side rest }
+{
+    if rest == 2 * u64::from(RIGHT_ANGLE) {
+        Some(RealShape::Fine(disc_to(p, q)))
+    } else if rest == 3 * u64::from(RIGHT_ANGLE) {
+        Some(RealShape::Fine(rectangle_to(p, q, side)))
+    } else if rest == 4 * u64::from(RIGHT_ANGLE) {
+        Some(RealShape::Slanted(line_to(p, q, side)))
+    } else {
+        None
+    }
+}
+
+/// The figure of an odd size that a macro's primitive has, where the spots of an area and what they tell of a turn tell one.
+pub fn fine_primitive(points: &[Spot], rest: u64) -> Option<RealShape>
+    requires { All IsPlaced points.now }
+    ensures { option_map real_figure result ≡ real.fine_primitive points.now rest }
+{
+    let [p, q, side, _, _, _, _] = points else {
+        return None;
+    };
+    fine_kind(*p, *q, *side, rest)
 }
 
 /// The figure with a hole that a middle and four spots tell, where the first of these is not as high as the middle.
@@ -144,7 +237,7 @@ fn holed_by(middle: Spot, one: Spot, other: Spot, right: Spot, left: Spot) -> Op
         Some(outline) => Some(HoledFigure {
             outline,
             centre: middle,
-            hole: across(right, left),
+            hole: across(left, right),
         }),
         None => None,
     }

@@ -1,6 +1,6 @@
 //! Laws over the definitions alone.
 ghost use Rattle.arc_layer.specs.Kinds.{RealKindsHaveOwnNumbers};
-ghost use Rattle.arc_layer.specs.Laws.{DiscsAreUndone, EachEdgeHasABend, FineCirclesAreUndone, FineObroundsAreUndone, FineRectanglesAreUndone, FramesAreUndone, HoledAreUndone, MarksFitAreas, PolygonsAreUndone, RingsAreUndone, TurnedAreContours, TurnsAreUndone};
+ghost use Rattle.arc_layer.specs.Laws.{DiscsAreUndone, EachEdgeHasABend, FineCentreLinesComeBack, FineCirclesAreUndone, FineDiscsComeBack, FineLinesComeBack, FineObroundsAreUndone, FineRectanglesAreUndone, FramesAreUndone, HoledAreUndone, MarksFitAreas, PolygonsAreUndone, RingsAreUndone, TurnedAreContours, TurnsAreUndone};
 ghost use Rattle.arc_layer.specs.Real.{HasOneRealAnswer};
 ghost use Rattle.gerber_layer.specs.declared.place.Place.{Place};
 ghost use Rattle.std.specs.Prelude.{ℕ, List};
@@ -51,9 +51,15 @@ pub fn holes_are_told()
     ensures holed { HoledAreUndone }
 {}
 
-/// What a flash of a fine aperture tells is that rectangle, obround or circle, in half u.
+/// What a flash of a fine aperture tells is that rectangle, obround or circle, in half u; and what one of a fine primitive tells
+/// is that disc, rectangle or line.
 pub fn fines_are_told()
     ensures rectangles { FineRectanglesAreUndone }
     ensures obrounds { FineObroundsAreUndone }
     ensures circles { FineCirclesAreUndone }
-{}
+    ensures discs { FineDiscsComeBack }
+    ensures centre_lines { FineCentreLinesComeBack }
+    ensures lines { FineLinesComeBack }
+{
+    told_is_found();
+}

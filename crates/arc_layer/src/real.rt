@@ -308,7 +308,7 @@ fn first_fault(straight: FlattenFault, marks: Result<Marks, RealFault>) -> RealF
 
 /// The real copper of a layer, in the order of the commands that make it; all lengths are in u, a tenth of
 /// a nanometre. A draw under `G02` or `G03` is its arc, a contour with arcs its region, a vector line of a macro that runs along
-/// no axis its rectangle, a macro's area or disc that is turned by degrees its figure before the turn with what is left to
+/// no axis, or is of an odd width, its rectangle, a macro's area or disc that is turned by degrees its figure before the turn with what is left to
 /// turn, a polygon of one that polygon, a flash with a round hole a draw once round, a region, or its figure in half u with that
 /// hole, what is of an odd size its figure in half u, and each other piece what `read_by::<Loose>` has.
 ///

@@ -11,7 +11,7 @@ ghost use Rattle.slants.specs.declared.cones.TheConstants.{RIGHT_ANGLE};
 ghost use Rattle.std.specs.Prelude.{◌≡◌, ◌≤◌, ◌<◌, ◌^◌, ◌*◌, ◌-◌, ◌-ℤ◌, unsigned_abs, All, length, option_map, take, IfErr, IfOk, Some};
 
 use crate::centres::same_spot;
-use crate::fine::{fine_in, holed_in};
+use crate::fine::{fine_in, fine_primitive, holed_in};
 use crate::kind::RealFault;
 use arc_regions::{Bend, Part, Region};
 use arcs::Arc;
@@ -157,6 +157,20 @@ fn polygon_in(points: &[Spot], rest: u64) -> Option<TurnedPolygon>
     }
 }
 
+/// What an area tells by a right angle or more: a figure of an odd size, or a polygon.
+fn beyond(area: Area, rest: u64) -> RealShape
+    requires { RIGHT_ANGLE ≤ rest }
+    ensures { real_figure result ≡ spec.figure_or (spec.fine_primitive area.points.items rest) (spec.regular_or area.points.items (spec.polygon_told area.points.items rest)) }
+{
+    if let Some(shape) = fine_primitive(&area.points, rest) {
+        return shape;
+    }
+    match polygon_in(&area.points, rest) {
+        Some(polygon) => RealShape::Polygon(polygon),
+        None => RealShape::Plain(Shape::Filled(area)),
+    }
+}
+
 /// The area that tells this.
 fn told_area(alloc: Global, area: Area, turning: Turning) -> Result<RealShape, RealFault>
     requires { telling.told_in area.points.items ≡ Some (telling_by area.points.items turning) }
@@ -167,10 +181,7 @@ fn told_area(alloc: Global, area: Area, turning: Turning) -> Result<RealShape, R
         return unturned(alloc, area, turning);
     }
     if turning.rest >= u64::from(RIGHT_ANGLE) {
-        return Ok(match polygon_in(&area.points, turning.rest) {
-            Some(polygon) => RealShape::Polygon(polygon),
-            None => RealShape::Plain(Shape::Filled(area)),
-        });
+        return Ok(beyond(area, turning.rest));
     }
     Ok(RealShape::Turned(TurnedFigure {
         contour: contour_of(area),

@@ -18,7 +18,7 @@ fn of_forms() -> [Word; 15] {
         ("0", "comment"),
         ("01,1,1,0,0", "comment"),
         // Each form.
-        ("1,1,$1,0,0", "Circle Unturned"),
+        ("1,1,$1,0,0", "Circle Degrees"),
         ("1,1,$1+$1,$2,$3,90", "Circle Quarter"),
         ("1,+1.0,1,-0.5,.5,0.0", "Circle Unturned"),
         ("20,1,$1+$1,$2,$3,$4,$5,0", "VectorLine Unturned"),
@@ -106,7 +106,7 @@ fn of_orders() -> [Word; 18] {
 // Of real copper: a rotation is an expression, and each that is written a turn by degrees.
 fn of_degrees() -> [Word; 26] {
     [
-        ("1,1,$1,0,0", "Circle Unturned"),
+        ("1,1,$1,0,0", "Circle Degrees"),
         ("1,1,$1,0,0,$2", "Circle Degrees"),
         ("21,1,$1,$2,0,0,$3", "CentreLine Degrees"),
         (

@@ -561,6 +561,73 @@ fn of_fines() -> [(&'static str, &'static str); 8] {
     ]
 }
 
+// Macros of odd sizes, all of this crate's own: discs and rectangles in half u, and lines, by quarter turns.
+fn of_fine_macros() -> [(&'static str, &'static str); 15] {
+    [
+        (
+            "%AMV*1,1,1.0000001,0.1,0*%%ADD11V*%D11*X0Y0D03*M02*",
+            "in halves 2000000 0, 2000000 0, 10000001 by 9.0",
+        ),
+        (
+            "%AMV*1,1,1.0000001,0.1,0,90*%%ADD11V*%%SRX2Y1I3.0J0*%D11*X1000000Y0D03*%SR*%M02*",
+            "in halves 20000000 2000000, 20000000 2000000, 10000001 by 10.0\nin halves 80000000 2000000, 80000000 2000000, 10000001 by 10.1",
+        ),
+        (
+            "%AMV*1,1,$1,0,0,45*%%ADD11V,1.0000001*%D11*X1000000Y0D03*M02*",
+            "in halves 20000000 0, 20000000 0, 10000001 by 9.0",
+        ),
+        (
+            "%AMV*21,1,$1,$2,0,0,0*%%ADD11V,1.0000001X0.5000001*%D11*X0Y1000000D03*M02*",
+            "in halves from -10000001 14999999 to 10000001 25000001 by 9.0",
+        ),
+        (
+            "%AMV*21,1,1.0000001,0.5000001,0,0,-90*%%ADD11V*%D11*X0Y1000000D03*M02*",
+            "in halves from -5000001 9999999 to 5000001 30000001 by 9.0",
+        ),
+        (
+            "%AMV*21,1,1.0,0.5000001,0.25,0,180*%%ADD11V*%D11*X0Y0D03*M02*",
+            "in halves from -15000000 -5000001 to 5000000 5000001 by 9.0",
+        ),
+        (
+            "%AMV*20,1,0.2000001,0,0,1.0,0,0*%%ADD11V*%D11*X0Y0D03*M02*",
+            "[0 0, 10000000 0] 2000001 by 9.0",
+        ),
+        (
+            "%AMV*20,1,0.2000001,0,0,1.0,0.5,270*%%ADD11V*%D11*X0Y0D03*M02*",
+            "[0 0, 5000000 -10000000] 2000001 by 9.0",
+        ),
+        // Other turns are a disc's about the origin, and of what flashes nothing.
+        (
+            "%AMV*1,1,1.0000001,0.1,0,45*%%ADD11V*%D11*X0Y0D03*M02*",
+            "Copper(Turn) at command 7",
+        ),
+        (
+            "%AMV*21,1,1.0,0.5000001,0,0,30*%%ADD11V*%D11*X0Y0D03*M02*",
+            "Copper(Turn) at command 7",
+        ),
+        (
+            "%AMV*20,1,0.2000001,0,0,0,0,30*1,1,1.0,0,0*%%ADD11V*%D11*X0Y0D03*M02*",
+            "0 0, 0 0, 5000000 by 10.0",
+        ),
+        (
+            "%AMV*1,1,1.0000001,0.00000001,0*%%ADD11V*%M02*",
+            "Copper(Gerber(OffGrid)) at command 7",
+        ),
+        (
+            "%AMV*1,1,50.0000001,0,0*%%ADD11V*%M02*",
+            "Copper(Gerber(OutOfRange)) at command 7",
+        ),
+        (
+            "%AMV*21,1,-0.0000001,1,0,0,0*%%ADD11V*%M02*",
+            "Copper(Gerber(OutOfRange)) at command 7",
+        ),
+        (
+            "%AMV*21,1,1.0000001,1,0,0,0*%%ADD11V*%D11*X999999999Y0D03*M02*",
+            "Copper(Gerber(OutOfRange)) at command 9",
+        ),
+    ]
+}
+
 // Draws with pens of odd sizes, all of this crate's own: straight ones in half u, arcs as wide as the pen.
 fn of_fine_pens() -> [(&'static str, &'static str); 8] {
     [
@@ -652,6 +719,10 @@ fn arcs_are_read(rt: HostRuntime) -> Result<(), Fail> {
         assert_eq!(rt; read.as_str(), expected);
     }
     for (words, expected) in of_fines() {
+        let read = told(rt.alloc(), words)?;
+        assert_eq!(rt; read.as_str(), expected);
+    }
+    for (words, expected) in of_fine_macros() {
         let read = told(rt.alloc(), words)?;
         assert_eq!(rt; read.as_str(), expected);
     }

@@ -23,7 +23,9 @@ use Rattle.aperture_macros.specs.declared.primitive.Rotation.{Rotation}
 use Rattle.aperture_macros.specs.declared.primitive.Turning.{Turning}
 use Rattle.aperture_macros.specs.declared.primitive.Turning.TheVariants.{Quarters, Degrees}
 use Rattle.aperture_macros.specs.BodyWord.{PlainPrimitive, ◌>>=◌, part, past}
-use Rattle.aperture_macros.specs.Flashes.{figure_at, figure_turned, tell, told_figure, turn_behind}
+use Rattle.aperture_macros.specs.Fine.{fine_at, fine_rest, fine_spots, fine_told}
+use Rattle.aperture_macros.specs.declared.fine.FineSketch.{FineSketch}
+use Rattle.aperture_macros.specs.Flashes.{figure_at, figure_turned, fine_figure, is_fine, tell, told_figure, turn_behind}
 use Rattle.aperture_macros.specs.Telling.{is_moved, told, told_rest, told_round}
 use Rattle.aperture_macros.specs.Images.{area_at, circle_at, centre_at, centred, disc_at, figure_by, line_at, line_between, outline_at, polygon_at, polygon_spots, set_down, sketch_at, sketched, slanted, stroke_at, outlined, strip}
 use Rattle.aperture_macros.specs.Outlines.{closing_at, moved_from}
@@ -234,6 +236,25 @@ turned_drawn Degrees form text given unit at f sized h =
     (λ points is. (area_is form t.0.quarters text given unit at points sized (g.1 ∙ ap (λ (o : Option Figure). let r : Result (Option Figure) MacroFault = Ok o in r) is)).few)
     g.2
 
+-- and so is one that tells a fine figure
+fine_drawn : (form : Form) (text : List ℕ) (given : List Fraction) (unit : Measure) (at : Spot) (f : Figure) → fine_figure form text given unit at ≡ Ok (Some f) → IsDrawn f
+unfolding fine_figure
+fine_drawn form text given unit at f h =
+    let t = then_ok (turn_behind form text given) (λ turn. fine_at form text given unit >>= λ s. fine_told turn.quarters at s) (Some f) h in
+    let s = then_ok (fine_at form text given unit) (λ s. fine_told t.0.quarters at s) (Some f) t.2 in
+    by t.0.quarters s.0 s.2
+  where
+    by : (rotation : Rotation) (s : Option FineSketch) → fine_told rotation at s ≡ Ok (Some f) → IsDrawn f
+    by rotation None k = cc
+    by rotation (Some s) k =
+        let spots = map (set_down rotation at) (fine_spots s) in
+        let long = told_length at (fine_rest s.kind) spots (omega arith) in
+        area_drawn (told at (fine_rest s.kind) spots) f (told_closed at (fine_rest s.kind) spots) (omega (arith, long)) (omega (arith, long)) k
+
 -- what a primitive of lawful size flashes
 pub primitive_drawn : (p : PlainPrimitive) (given : List Fraction) (unit : Measure) (at : Spot) (f : Figure) → IsSized p.form → figure_at p given unit at ≡ Ok (Some f) → IsDrawn f
-primitive_drawn p given unit at f sized h = turned_drawn p.rotation p.form p.lengths given unit at f sized h
+primitive_drawn p given unit at f sized h = by (is_fine p.rotation p.form p.lengths given unit) h
+  where
+    by : (b : Bool) → cond b (fine_figure p.form p.lengths given unit at) (figure_turned p.rotation p.form p.lengths given unit at) ≡ Ok (Some f) → IsDrawn f
+    by true k = fine_drawn p.form p.lengths given unit at f k
+    by false k = turned_drawn p.rotation p.form p.lengths given unit at f sized k

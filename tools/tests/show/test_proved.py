@@ -128,6 +128,14 @@ class Asked(made.Case):
         self.told(program, [*HALF, *odd, "D15*", "%SRX2Y1I9.0J0*%", "X0Y5000000D03*", "%SR*%", "D16*", "X0Y5000000D03*", "D14*", "X9000000Y9000000D01*"], [A, B])
         self.assertEqual(program.texts[3].split("\n")[2:-1], ["0 1", "0 1", "1 1", "1 1"])
 
+    def test_counts_of_odd_macros(self):
+        """So for each primitive of an odd size, by quarter turns, and for a disc about the origin by any."""
+        macro = ["%AMA*", "1,1,0.4000001,1,0*", "1,1,0.0000001,2,0,90*", "1,1,0.4000001,0,0,30*", "21,1,1,0.4000001,0,0,90*", "21,1,1.0000001,0.0000001,0,0,0*",
+                 "20,1,0.2000001,0,0,1,0,0*", "20,1,0.2000001,0,0,0.3,0.4,270*%", "%ADD20A*%", "D20*", "X5000000Y5000000D03*"]
+        program = Recorder(Answer(3, b"", "no"))
+        self.told(program, [*HALF, *macro], [A, B])
+        self.assertEqual(program.texts[3].split("\n")[2:-1], ["1 1", "0 1", "1 1", "1 1", "0 1", "1 1", "1 1"])
+
     def test_counts_of_frames(self):
         """A line for each rectangle with a hole, a region, of which there is one area below, or none where it is thin."""
         holes = ["%ADD14R,3X2X1*%", "%ADD15R,1X1X0.99*%", "D14*", "%SRX2Y1I9.0J0*%", "X0Y5000000D03*", "%SR*%", "D15*", "X0Y0D03*"]
@@ -181,7 +189,7 @@ class Asked(made.Case):
                 ["G36*", "X9000000Y0D02*", "G03X9000000Y0I1000000J0D01*", "G37*"], ["X0Y0D03*", "X5Y5*"],
                 ["%AMA*", "20,1,0.2,0,0,0.3,0.4,30*%", "%ADD14A*%", "D14*", "X0Y5000000D03*"], ["%AMA*", "5,1,7,0.1,0,0.200000000001,30*%", "%ADD14A*%", "D14*", "X0Y5000000D03*"],
                 ["%AMA*", "4,1,4,0,0,1,1,1,0,0,1,0,0,30*%", "%ADD14A*%", "D14*", "X0Y5000000D03*"],
-                ["%AMA*", "20,1,0.0000003,0,0,0.3,0.4,0*%", "%ADD14A*%", "D14*", "X0Y5000000D03*"],
+                ["%AMA*", "21,1,1,0.0000003,0,0,30*%", "%ADD14A*%", "D14*", "X0Y5000000D03*"],
                 ["%AMA*", "1,1,0.2,0,0*", "1,0,0.1,0,0*%", "%ADD14A*%", "D14*", "X0Y5000000D03*"], ["%AMA*", "1,1,0.2,0,0*%", "%ADD14A*%", "D14*", "%LS2*%", "X0Y5000000D03*"],
                 ["%ADD14P,1X4X0X0.2*%", "D14*", "X0Y5000000D03*"], ["%ADD14C,0.00000101X0.0000008*%", "D14*", "X0Y5000000D03*"], ["%ABD15*%", "D11*", "X9000000Y0D03*", "%AB*%", "D15*", "X0Y0D03*"]]
         for lines in rows:
@@ -245,6 +253,9 @@ class Taken(made.Case):
         ("odd sizes", ["%ADD14R,2.0000001X0.4*%", "%ADD15O,2.0000001X0.4*%", "%ADD16O,0.4000001X2*%", "%ADD17C,0.0000001*%",
                        *(word for k in range(14, 18) for word in (f"D{k}*", f"X0Y{k - 14}000000D03*"))],
          [A, B, record("B", "J2.1", 1, 1), record("B", "J2.2", -1, 1), record("C", "J3.1", 0, 1.21), record("C", "J3.2", 0, 2.9)], "differs"),
+        ("macros of odd sizes", ["%AMA*", "1,1,2.0000001,0,0,30*", "21,1,2,0.4000001,2,0,90*", "20,1,0.2000001,1,0,2,0,0*", "20,1,0.4000001,-3,0,-4,3,180*%", "%ADD20A*%", "D20*", "X0Y0D03*"],
+         [A, B, record("A", "J1.3", 0, 2.9), record("B", "J2.1", 3.5, -1.5)], "differs"),
+        ("nearer to the border of such a macro", ["%AMA*", "1,1,1.9999999,0,0*%", "%ADD20A*%", "D20*", "X0Y0D03*"], [A, B], "undecided"),
         ("regions with arcs", ROUNDED, [record("A", "J1.1", 1, .5), record("A", "J1.2", .5, 1), record("B", "J2.1", 7.5, .4)], "agrees"),
         ("regions with arcs, two distances", UNEVEN, [record("A", "J1.1", 1, .5), record("A", "J1.2", .8, 1.5)], "agrees"),
     ]
