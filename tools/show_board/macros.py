@@ -181,7 +181,15 @@ def primitive(values, scale):
     else:
         corners = outline(values, u)
         return corners and exposed(values[1], placed_outline(corners, degrees))
-    return corners and exposed(values[1], placed("convex", corners, degrees))
+    return corners and exposed(values[1], begun(placed("convex", corners, degrees)))
+
+
+def begun(figure):
+    """A rectangle of an odd size as `between` takes it, from its lower left corner on; any other figure as it is."""
+    if figure[0] != "convex" or not is_fine(figure[1]):
+        return figure
+    first = figure[1].index(min(figure[1]))
+    return "convex", figure[1][first:] + figure[1][:first]
 
 
 def exposed(on, figure):
