@@ -134,19 +134,3 @@ class Answers(unittest.TestCase):
                 for variant in re.findall(r"(?m)^    ([A-Z]\w*)", body):
                     if variant not in ("NoMemory", "CannotRead", "Build", "Macro", "Gerber"):
                         self.assertIn(f"`{variant}`", told, (crate, enum))
-
-
-class Lemmas(unittest.TestCase):
-    """docs/PROOFS.md lists the files of lemmas that other crates may cite: each that one cites, and none that is not there."""
-
-    def test_cited(self):
-        listed = (lists.TOP / "docs/PROOFS.md").read_text().split("## Lemmas that other crates may cite")[1]
-        rows = re.findall(r"`(\w+)`: ((?:`[^`]+`(?:, )?)+)", listed)
-        told, ours = {(crate, name.split(".")[0]) for crate, row in rows for name in re.findall(r"`([^`]+)`", row)}, set(crates())
-        for crate, name in told:
-            path = name if name.startswith("specs/") else f"proofs/{name}"
-            self.assertTrue((lists.TOP / "crates" / crate / f"{path}.antt").exists(), (crate, name))
-        for path in sorted((lists.TOP / "crates").glob("*/[ps]*/**/*.antt")):
-            cited = re.findall(r"\bRattle\.(\w+)\.proofs\.(\w+)", path.read_text())
-            own = path.relative_to(lists.TOP / "crates").parts[0]
-            self.assertLessEqual({it for it in cited if it[0] in ours - {own}}, told, path)
