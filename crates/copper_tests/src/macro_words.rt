@@ -18,7 +18,7 @@ fn of_forms() -> [Word; 15] {
         ("0", "comment"),
         ("01,1,1,0,0", "comment"),
         // Each form.
-        ("1,1,$1,0,0", "Circle Degrees"),
+        ("1,1,$1,0,0", "Circle Unturned"),
         ("1,1,$1+$1,$2,$3,90", "Circle Quarter"),
         ("1,+1.0,1,-0.5,.5,0.0", "Circle Unturned"),
         ("20,1,$1+$1,$2,$3,$4,$5,0", "VectorLine Unturned"),
