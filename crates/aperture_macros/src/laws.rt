@@ -22,7 +22,7 @@ pub fn round_told_is_found()
 {}
 
 /// Each area that a primitive of real copper flashes tells its contour, or its disc or stroke, by quarter turns, the spot,
-/// and what they leave of the rotation, which is below 90 degrees.
+/// and what they leave of the rotation, which is below 90 degrees. One of odd sizes tells its figure by quarter turns and the spot.
 pub fn real_areas_are_told()
     ensures { RealAreasAreTold }
 {}

@@ -72,7 +72,8 @@ pub enum Rotation {
     ThreeQuarters,
 }
 
-/// How a primitive is turned: by quarter turns, or by the degrees that an expression behind its lengths says.
+/// How a primitive is turned: by quarter turns, or by the degrees that an expression behind its lengths says. In real copper a
+/// circle without a rotation has 0 degrees.
 #[derive(Clone, Copy, Debug, PartialEq, Eq)]
 pub enum Turning {
     Quarters(Rotation),

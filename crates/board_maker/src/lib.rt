@@ -10,6 +10,3 @@ pub mod laws;
 mod made;
 
 pub use made::{MakeFault, make};
-
-#[cfg(test)]
-mod tests;

@@ -1,8 +1,14 @@
-//! Tests of drill files, netlists and packages, through their public calls.
+//! Tests of lengths, lines, made boards, drill files, netlists and packages, through their public calls.
 #![tactic(auto)]
 
 #[cfg(test)]
+mod decimals;
+#[cfg(test)]
 mod drill_files;
+#[cfg(test)]
+mod lines;
+#[cfg(test)]
+mod made_boards;
 #[cfg(test)]
 mod netlists;
 #[cfg(test)]

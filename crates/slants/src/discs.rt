@@ -20,7 +20,7 @@ pub struct TurnedDisc {
     pub radius: u64,
     /// What it is turned about, in u.
     pub about: Spot,
-    /// How far, in 10^-7 degrees: from 1 to 899,999,999.
+    /// How far, in 10^-7 degrees: below 900,000,000, and 0 for a disc that is not turned.
     pub angle: u32,
 }
 

@@ -1,5 +1,5 @@
-// Files, and their lines.
-use super::*;
+//! Files, and their lines.
+use texts::{Line, Lines, trimmed};
 
 fn parts<'a>(line: Option<Line<'a>>) -> Option<(u32, usize, &'a [u8])> {
     match line {

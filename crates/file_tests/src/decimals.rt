@@ -1,7 +1,7 @@
-// Lengths from worked rows, and each call once.
-use crate::decimal::*;
-use crate::rows::*;
-use crate::text::*;
+//! Lengths from worked rows, and each call once.
+use lengths::decimal::{GridFault, LenFault, Unit, read_decimal, scaled};
+use lengths::rows::Rows;
+use lengths::text::{Text, TextFault};
 use std::alloc::Global;
 use std::hash::{DefaultHasher, Hash, Hasher};
 use std::test::Fail;
@@ -14,36 +14,39 @@ fn size(text: &[u8], unit: Unit) -> Option<Result<i64, GridFault>> {
     Some(read_decimal(text)?.size(unit).map(|len| len.u()))
 }
 
+static SIZES: [(&[u8], Unit, Option<Result<i64, GridFault>>); 5] = [
+    (b"0.066929", Unit::Inch, Some(Ok(16_999_966))),
+    (b"1.0000001", Unit::Mm, Some(Err(GridFault::OffGrid))),
+    (b"-0.2", Unit::Mm, Some(Err(GridFault::OutOfRange))),
+    (b"-0", Unit::Mm, Some(Ok(0))),
+    (b"1.2.3", Unit::Mm, None),
+];
+
+static POSITIONS: [(&[u8], Unit, Option<Result<i64, GridFault>>); 6] = [
+    (b"1.0000001", Unit::Mm, Some(Ok(10_000_001))),
+    (b"1000.0000001", Unit::Mm, Some(Err(GridFault::OutOfRange))),
+    (b"+.5", Unit::Inch, Some(Ok(127_000_000))),
+    (b"-5.", Unit::Mm, Some(Ok(-50_000_000))),
+    (b"0000000000000000001", Unit::Mm, None),
+    (b"", Unit::Mm, None),
+];
+
+static SCALED_SIZES: [(&[u8], u8, Result<i64, LenFault>); 4] = [
+    (b"1000001", 6, Ok(10_000_010)),
+    (b"-1", 7, Ok(-1)),
+    (b"1.0", 6, Err(LenFault::NotANumber)),
+    (b"1000000001", 6, Err(LenFault::OutOfRange)),
+];
+
 #[test]
 fn lengths_are_on_the_grid(rt: HostRuntime) -> Result<(), Fail> {
-    let sizes: [(&[u8], Unit, Option<Result<i64, GridFault>>); 5] = [
-        (b"0.066929", Unit::Inch, Some(Ok(16_999_966))),
-        (b"1.0000001", Unit::Mm, Some(Err(GridFault::OffGrid))),
-        (b"-0.2", Unit::Mm, Some(Err(GridFault::OutOfRange))),
-        (b"-0", Unit::Mm, Some(Ok(0))),
-        (b"1.2.3", Unit::Mm, None),
-    ];
-    for (text, unit, want) in &sizes {
+    for (text, unit, want) in &SIZES {
         assert_eq!(rt; size(*text, *unit), *want);
     }
-    let positions: [(&[u8], Unit, Option<Result<i64, GridFault>>); 6] = [
-        (b"1.0000001", Unit::Mm, Some(Ok(10_000_001))),
-        (b"1000.0000001", Unit::Mm, Some(Err(GridFault::OutOfRange))),
-        (b"+.5", Unit::Inch, Some(Ok(127_000_000))),
-        (b"-5.", Unit::Mm, Some(Ok(-50_000_000))),
-        (b"0000000000000000001", Unit::Mm, None),
-        (b"", Unit::Mm, None),
-    ];
-    for (text, unit, want) in &positions {
+    for (text, unit, want) in &POSITIONS {
         assert_eq!(rt; position(*text, *unit), *want);
     }
-    let scaled_sizes: [(&[u8], u8, Result<i64, LenFault>); 4] = [
-        (b"1000001", 6, Ok(10_000_010)),
-        (b"-1", 7, Ok(-1)),
-        (b"1.0", 6, Err(LenFault::NotANumber)),
-        (b"1000000001", 6, Err(LenFault::OutOfRange)),
-    ];
-    for (text, decimals, want) in &scaled_sizes {
+    for (text, decimals, want) in &SCALED_SIZES {
         assert_eq!(rt;
             scaled(*text, *decimals, Unit::Mm).map(|len| len.u()),
             *want
