@@ -136,6 +136,18 @@ fn bound<P: Package>(alloc: Global, name: Text, package: &mut P) -> Result<Board
     }
 }
 
+// Two names as texts. A function of four would cost its proof three times as much.
+fn two_names_of(alloc: Global, first: &str, second: &str) -> Result<(Text, Text), BuildFault>
+    requires first { IsText first.now }
+    requires second { IsText second.now }
+    ensures ok { IfOk result (λ names. (names.0 ≡ first.now) × (names.1 ≡ second.now)) }
+    ensures fault { IfErr result (λ fault. fault ≡ BuildFault.NoMemory) }
+{
+    let first = name_of(alloc, first)?;
+    let second = name_of(alloc, second)?;
+    Ok((first, second))
+}
+
 // The names as texts. The one fault is want of memory.
 fn names_of(
     alloc: Global,
@@ -151,10 +163,8 @@ fn names_of(
     ensures ok { IfOk result (λ names. bound_names names.real names.lower names.upper names.counts ≡ bound_names real.now lower.now upper.now counts.now) }
     ensures fault { IfErr result (λ fault. fault ≡ BuildFault.NoMemory) }
 {
-    let real = name_of(alloc, real)?;
-    let lower = name_of(alloc, lower)?;
-    let upper = name_of(alloc, upper)?;
-    let counts = name_of(alloc, counts)?;
+    let (real, lower) = two_names_of(alloc, real, lower)?;
+    let (upper, counts) = two_names_of(alloc, upper, counts)?;
     Ok(Names {
         real,
         lower,
