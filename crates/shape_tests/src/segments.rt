@@ -2,7 +2,7 @@
 //! faces of the square of parameters, and the place of an edge at the height of a spot.
 ghost use Rattle.planar.specs.Plane.{IsInFrame, IsPlaced};
 
-use super::*;
+use planar::{Frame, MOST_REACH, SIDE, Spot, ray_crosses, segments_meet, segments_within};
 
 /// From a spot to another, from a spot to another, and the least radius at which the two are within
 /// one another.
