@@ -351,57 +351,28 @@ fn turned_pad(alloc: Global, angle: u32) -> Result<Vec<RealPiece>, Fail> {
     Ok(real)
 }
 
-/// Four corners.
-type Four = [(i64, i64); 4];
-
-const WITHIN: Four = [
-    (9_265_551, -6_665_063),
-    (17_925_804, -1_665_063),
-    (15_425_805, 2_665_063),
-    (6_765_552, -2_334_937),
-];
-
-const BEYOND: Four = [
-    (9_265_551, -6_665_063),
-    (17_925_804, -1_665_063),
-    (15_425_805, 2_665_063),
-    (6_765_551, -2_334_937),
-];
-
-const ROUND: Four = [
-    (9_265_551, -6_665_064),
-    (17_925_806, -1_665_064),
-    (15_425_805, 2_665_064),
-    (6_765_550, -2_334_936),
-];
-
-const SHORT: Four = [
-    (9_265_551, -6_665_064),
-    (17_925_805, -1_665_064),
-    (15_425_805, 2_665_064),
-    (6_765_550, -2_334_936),
-];
-
-/// The angle, contours below and above, and what is told.
-type TurnedPad = (u32, Four, Four, Told);
-
-static TURNED_PADS: [TurnedPad; 8] = [
-    (300_000_000, WITHIN, ROUND, Ok(())),
-    (300_000_000, BEYOND, ROUND, BELOW),
-    (300_000_000, WITHIN, SHORT, ABOVE),
-    (300_000_000, ROUND, ROUND, BELOW),
-    (300_000_000, WITHIN, WITHIN, ABOVE),
-    (299_999_000, WITHIN, ROUND, BELOW),
-    (300_001_000, WITHIN, ROUND, BELOW),
-    (900_000_000, WITHIN, ROUND, BELOW),
-];
-
 /// Contours just within a pad that is turned by 30 degrees and just round it, and one u beyond; by other angles they are none.
 #[test]
 fn a_turned_pad(rt: HostRuntime) -> Result<(), Fail> {
     let alloc = rt.alloc();
-    for row in &TURNED_PADS {
-        let (angle, lower, upper, told) = *row;
+    let (first, second) = ((9_265_551, -6_665_063), (17_925_804, -1_665_063));
+    let (third, fourth) = ((15_425_805, 2_665_063), (6_765_552, -2_334_937));
+    let within = [first, second, third, fourth];
+    let beyond = [first, second, third, (6_765_551, -2_334_937)];
+    let (first, second) = ((9_265_551, -6_665_064), (17_925_806, -1_665_064));
+    let (third, fourth) = ((15_425_805, 2_665_064), (6_765_550, -2_334_936));
+    let round = [first, second, third, fourth];
+    let short = [first, (17_925_805, -1_665_064), third, fourth];
+    for (angle, lower, upper, told) in [
+        (300_000_000, within, round, Ok(())),
+        (300_000_000, beyond, round, BELOW),
+        (300_000_000, within, short, ABOVE),
+        (300_000_000, round, round, BELOW),
+        (300_000_000, within, within, ABOVE),
+        (299_999_000, within, round, BELOW),
+        (300_001_000, within, round, BELOW),
+        (900_000_000, within, round, BELOW),
+    ] {
         let real = turned_pad(alloc, angle)?;
         let lower = polygon(alloc, lower)?;
         let upper = polygon(alloc, upper)?;
@@ -416,10 +387,10 @@ fn a_turned_pad(rt: HostRuntime) -> Result<(), Fail> {
 }
 
 /// The points of a contour of six corners.
-fn six(alloc: Global, places: &[(i16, i16); 6]) -> Result<Vec<Spot>, Fail> {
+fn six(alloc: Global, places: [(i16, i16); 6]) -> Result<Vec<Spot>, Fail> {
     let mut points = Vec::new(alloc);
     for place in places {
-        points.push(spot(*place))?;
+        points.push(spot(place))?;
     }
     points.push(spot(places[0]))?;
     Ok(points)
@@ -428,7 +399,7 @@ fn six(alloc: Global, places: &[(i16, i16); 6]) -> Result<Vec<Spot>, Fail> {
 /// It as a piece, and capsules of some radius along so many of its edges.
 fn outlined(
     alloc: Global,
-    places: &[(i16, i16); 6],
+    places: [(i16, i16); 6],
     r: u16,
     edges: usize,
 ) -> Result<Vec<Piece>, Fail> {
@@ -446,62 +417,6 @@ fn outlined(
     Ok(pieces)
 }
 
-/// Six corners.
-type Six = [(i16, i16); 6];
-
-static ANGLE: Six = [
-    (0, 0),
-    (30_000, 0),
-    (30_000, 10_000),
-    (10_000, 10_000),
-    (10_000, 30_000),
-    (0, 30_000),
-];
-
-/// The nearest spots to its corners by 30 degrees.
-const NEAR: Six = [
-    (0, 0),
-    (25_981, 15_000),
-    (20_981, 23_660),
-    (3660, 13_660),
-    (-6340, 30_981),
-    (-15_000, 25_981),
-];
-
-/// 2 u within them.
-const INNER: Six = [
-    (1, 3),
-    (25_978, 15_001),
-    (20_980, 23_657),
-    (3659, 13_657),
-    (-6341, 30_978),
-    (-14_997, 25_980),
-];
-
-/// 1 u within.
-const OUTER: Six = [
-    (0, 1),
-    (25_980, 15_000),
-    (20_981, 23_659),
-    (3660, 13_659),
-    (-6340, 30_980),
-    (-14_999, 25_981),
-];
-
-/// A contour below, how many, the radius of capsules above and along how many edges, how many pieces these are with the
-/// contour, and what is told.
-type Outline = (Six, u32, u16, usize, u32, Told);
-
-static OUTLINES: [Outline; 7] = [
-    (INNER, 1, 1, 6, 7, Ok(())),
-    (INNER, 0, 1, 6, 7, Ok(())),
-    (INNER, 1, 0, 6, 7, ABOVE),
-    (INNER, 1, 1, 5, 6, ABOVE),
-    (INNER, 1, 1, 0, 1, ABOVE),
-    (OUTER, 1, 1, 6, 7, BELOW),
-    (NEAR, 1, 1, 6, 7, BELOW),
-];
-
 /// An L that is turned by 30 degrees: the nearest spots with capsules of 1 u hold it, and a contour 2 u within lies in it, not
 /// one u less. Other capsules, fewer and none do not.
 #[test]
@@ -510,7 +425,17 @@ fn a_turned_outline(rt: HostRuntime) -> Result<(), Fail> {
     let mut real = Vec::new(alloc);
     real.push(Placed {
         shape: RealShape::Turned(TurnedFigure {
-            contour: six(alloc, &ANGLE)?,
+            contour: six(
+                alloc,
+                [
+                    (0, 0),
+                    (30_000, 0),
+                    (30_000, 10_000),
+                    (10_000, 10_000),
+                    (10_000, 30_000),
+                    (0, 30_000),
+                ],
+            )?,
             about: spot((0, 0)),
             angle: 300_000_000,
         }),
@@ -518,15 +443,46 @@ fn a_turned_outline(rt: HostRuntime) -> Result<(), Fail> {
         bottom: 1,
         origin: ORIGIN,
     })?;
-    for row in &OUTLINES {
-        let (places, lower_count, r, edges, upper_count, told) = *row;
-        let lower = outlined(alloc, &places, 0, 0)?;
+    let near = [
+        (0, 0),
+        (25_981, 15_000),
+        (20_981, 23_660),
+        (3660, 13_660),
+        (-6340, 30_981),
+        (-15_000, 25_981),
+    ];
+    let within = [
+        (1, 3),
+        (25_978, 15_001),
+        (20_980, 23_657),
+        (3659, 13_657),
+        (-6341, 30_978),
+        (-14_997, 25_980),
+    ];
+    let beyond = [
+        (0, 1),
+        (25_980, 15_000),
+        (20_981, 23_659),
+        (3660, 13_659),
+        (-6340, 30_980),
+        (-14_999, 25_981),
+    ];
+    for (places, lower_count, r, edges, upper_count, told) in [
+        (within, 1, 1, 6, 7, Ok(())),
+        (within, 0, 1, 6, 7, Ok(())),
+        (within, 1, 0, 6, 7, ABOVE),
+        (within, 1, 1, 5, 6, ABOVE),
+        (within, 1, 1, 0, 1, ABOVE),
+        (beyond, 1, 1, 6, 7, BELOW),
+        (near, 1, 1, 6, 7, BELOW),
+    ] {
+        let lower = outlined(alloc, places, 0, 0)?;
         let lower = if lower_count == 0 {
             Vec::new(alloc)
         } else {
             lower
         };
-        let upper = outlined(alloc, &NEAR, r, edges)?;
+        let upper = outlined(alloc, near, r, edges)?;
         let found = check_between(alloc, &real, &lower, &[lower_count], &upper, &[upper_count]);
         assert!(rt; found == told, "with {edges} of {r}");
     }
