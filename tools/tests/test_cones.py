@@ -36,7 +36,7 @@ def angles():
 def rows():
     """Those of the crate's tests: angles with whole cosines and sines."""
     with open(os.path.join(common.TOP, "crates", "slants", "src", "tests.rt"), encoding="utf-8") as file:
-        text = file.read().split("fn angle_rows")[1].split("\n}\n")[0]
+        text = file.read().split("static ANGLE_ROWS")[1].split("\n];\n")[0]
     return [tuple(int(it.replace("_", "")) for it in row) for row in ROWS.findall(text)]
 
 

@@ -27,6 +27,3 @@ mod side;
 pub use between::{BoundsFault, check_between};
 pub use counts::{Counts, CountsFault, read_counts};
 pub use side::Side;
-
-#[cfg(test)]
-mod tests;

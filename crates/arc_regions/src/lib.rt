@@ -51,6 +51,3 @@ pub struct Stretch {
     pub chain: Vec<Spot>,
     pub radius: u64,
 }
-
-#[cfg(test)]
-mod tests;

@@ -28,6 +28,3 @@ pub const MOST_PIECES: u32 = 200_000;
 
 /// The most layers of such a board.
 pub const MOST_LAYERS: u8 = 32;
-
-#[cfg(test)]
-mod tests;

@@ -108,6 +108,3 @@ pub struct Capsule {
     ghost end: { IsPlaced b },
     ghost radius: { IsCapsuleRadius r },
 }
-
-#[cfg(test)]
-mod tests;

@@ -48,6 +48,3 @@ pub struct HoledFigure {
     pub centre: Spot,
     pub hole: u64,
 }
-
-#[cfg(test)]
-mod tests;

@@ -58,6 +58,3 @@ pub enum Hand {
     On,
     Right,
 }
-
-#[cfg(test)]
-mod tests;

@@ -19,6 +19,3 @@ pub use below::is_below_outline;
 pub use nearest::{slack, turned_corners, turned_spot};
 pub use planar::Spot;
 pub use slants::TurnedFigure;
-
-#[cfg(test)]
-mod tests;

@@ -25,6 +25,3 @@ pub struct TurnedPolygon {
     /// How far, in 10^-7 degrees, below 90 degrees.
     pub angle: u32,
 }
-
-#[cfg(test)]
-mod tests;

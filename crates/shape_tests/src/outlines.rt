@@ -2,7 +2,6 @@
 //! are at most 1 u off, and contours 2 u and 1 u within the polygons of these.
 ghost use Rattle.std.specs.Prelude.{◌<◌, ◌≡◌};
 
-use super::*;
 use area_contact::Area;
 use planar::{Frame, are_placed, is_placed};
 use std::alloc::Global;
@@ -10,6 +9,9 @@ use std::marker::Brand;
 use std::sync::ledger::{Blank, Ledger};
 use std::test::Fail;
 use steps::Steps;
+use turned_outlines::{
+    Spot, TurnedFigure, is_above_outline, is_below_outline, slack, turned_corners,
+};
 
 fn at(p: (i32, i32)) -> Spot {
     Spot {

@@ -1,9 +1,7 @@
 //! A pad and a quarter circle that touches it in one point, between pads and chains, in u.
 ghost use Rattle.planar.specs.Plane.{IsPlaced};
 
-use crate::eighths::is_inside;
-use crate::{BoundsFault, CountsFault, Side, check_between, read_counts};
-use arc_regions::{Bend, Part, Region};
+use arc_covers::{BoundsFault, Side, check_between};
 use arcs::{Arc, Spot};
 use area_contact::Area;
 use board_shapes::{Origin, Piece, Placed, Shape};
@@ -16,13 +14,13 @@ use slants::{Slant, TurnedDisc, TurnedFigure};
 use std::alloc::Global;
 use std::test::Fail;
 
-const ORIGIN: Origin = Origin {
+pub const ORIGIN: Origin = Origin {
     file: 0,
     command: 1,
     copy: 0,
 };
 
-fn spot(p: (i16, i16)) -> Spot
+pub fn spot(p: (i16, i16)) -> Spot
     ensures { IsPlaced result }
 {
     Spot {
@@ -31,11 +29,11 @@ fn spot(p: (i16, i16)) -> Spot
     }
 }
 
-fn capsule(a: (i16, i16), b: (i16, i16), r: u16) -> Shape {
+pub fn capsule(a: (i16, i16), b: (i16, i16), r: u16) -> Shape {
     Shape::Round(Capsule::new(spot(a), spot(b), r as i64))
 }
 
-fn on(layer: u8, shape: Shape) -> Piece {
+pub fn on(layer: u8, shape: Shape) -> Piece {
     let layer = layer.max(1);
     Placed {
         shape,
@@ -57,6 +55,13 @@ fn quarter() -> Arc {
         width: 2000,
     }
 }
+
+/// What `check_between` answers.
+pub type Told = Result<(), BoundsFault>;
+
+pub const BELOW: Told = Err(BoundsFault::Piece(Side::Below, 0));
+
+pub const ABOVE: Told = Err(BoundsFault::Piece(Side::Above, 0));
 
 /// A pad of some radius, and links of radius `r` along the quarter circle: the fourth begins at `bend`, the fifth
 /// is on `layer`, the last has the radius `last`.
@@ -126,70 +131,68 @@ fn checked(
     check_between(alloc, &real, &lower, lower_counts, &upper, upper_counts)
 }
 
-fn sum(counts: &[u32]) -> u64 {
-    let mut all = 0u64;
-    for count in counts {
-        all = all.saturating_add(u64::from(*count));
-    }
-    all
-}
+/// The radius below, that above, the counts of both, and what is told.
+type Chains = (u16, u16, [u32; 2], [u32; 2], Told);
+
+static CHAINS: [Chains; 8] = [
+    (935, 1065, [1, 6], [1, 6], Ok(())),
+    (
+        936,
+        1065,
+        [1, 6],
+        [1, 6],
+        Err(BoundsFault::Piece(Side::Below, 1)),
+    ),
+    (
+        935,
+        1064,
+        [1, 6],
+        [1, 6],
+        Err(BoundsFault::Piece(Side::Above, 1)),
+    ),
+    (
+        1065,
+        935,
+        [1, 6],
+        [1, 6],
+        Err(BoundsFault::Piece(Side::Below, 1)),
+    ),
+    (
+        935,
+        1065,
+        [1, 5],
+        [1, 6],
+        Err(BoundsFault::Counts(Side::Below)),
+    ),
+    (
+        935,
+        1065,
+        [1, 6],
+        [1, 7],
+        Err(BoundsFault::Counts(Side::Above)),
+    ),
+    (
+        935,
+        1065,
+        [2, 5],
+        [1, 6],
+        Err(BoundsFault::Piece(Side::Below, 0)),
+    ),
+    (
+        935,
+        1065,
+        [1, 6],
+        [0, 7],
+        Err(BoundsFault::Piece(Side::Above, 0)),
+    ),
+];
 
 /// Chains at their limits, and one u beyond; counts one off.
 #[test]
 fn a_quarter_circle(rt: HostRuntime) {
     let alloc = rt.alloc();
-    for (low, high, lower_counts, upper_counts, told) in [
-        (935, 1065, [1, 6], [1, 6], Ok(())),
-        (
-            936,
-            1065,
-            [1, 6],
-            [1, 6],
-            Err(BoundsFault::Piece(Side::Below, 1)),
-        ),
-        (
-            935,
-            1064,
-            [1, 6],
-            [1, 6],
-            Err(BoundsFault::Piece(Side::Above, 1)),
-        ),
-        (
-            1065,
-            935,
-            [1, 6],
-            [1, 6],
-            Err(BoundsFault::Piece(Side::Below, 1)),
-        ),
-        (
-            935,
-            1065,
-            [1, 5],
-            [1, 6],
-            Err(BoundsFault::Counts(Side::Below)),
-        ),
-        (
-            935,
-            1065,
-            [1, 6],
-            [1, 7],
-            Err(BoundsFault::Counts(Side::Above)),
-        ),
-        (
-            935,
-            1065,
-            [2, 5],
-            [1, 6],
-            Err(BoundsFault::Piece(Side::Below, 0)),
-        ),
-        (
-            935,
-            1065,
-            [1, 6],
-            [0, 7],
-            Err(BoundsFault::Piece(Side::Above, 0)),
-        ),
-    ] {
+    for row in &CHAINS {
+        let (low, high, lower_counts, upper_counts, told) = *row;
         let found = checked(
             alloc,
             &taken(low),
@@ -360,17 +363,15 @@ fn a_turned_pad(rt: HostRuntime) -> Result<(), Fail> {
     let (third, fourth) = ((15_425_805, 2_665_064), (6_765_550, -2_334_936));
     let round = [first, second, third, fourth];
     let short = [first, (17_925_805, -1_665_064), third, fourth];
-    let below = Err(BoundsFault::Piece(Side::Below, 0));
-    let above = Err(BoundsFault::Piece(Side::Above, 0));
     for (angle, lower, upper, told) in [
         (300_000_000, within, round, Ok(())),
-        (300_000_000, beyond, round, below),
-        (300_000_000, within, short, above),
-        (300_000_000, round, round, below),
-        (300_000_000, within, within, above),
-        (299_999_000, within, round, below),
-        (300_001_000, within, round, below),
-        (900_000_000, within, round, below),
+        (300_000_000, beyond, round, BELOW),
+        (300_000_000, within, short, ABOVE),
+        (300_000_000, round, round, BELOW),
+        (300_000_000, within, within, ABOVE),
+        (299_999_000, within, round, BELOW),
+        (300_001_000, within, round, BELOW),
+        (900_000_000, within, round, BELOW),
     ] {
         let real = turned_pad(alloc, angle)?;
         let lower = polygon(alloc, lower)?;
@@ -380,7 +381,7 @@ fn a_turned_pad(rt: HostRuntime) -> Result<(), Fail> {
         let none = check_between(alloc, &real, &[], &[0], &upper, &[1]);
         assert!(rt; none == Ok(()) || told != Ok(()));
         let nothing = check_between(alloc, &real, &[], &[0], &[], &[0]);
-        assert!(rt; nothing == above);
+        assert!(rt; nothing == ABOVE);
     }
     Ok(())
 }
@@ -466,16 +467,14 @@ fn a_turned_outline(rt: HostRuntime) -> Result<(), Fail> {
         (-6340, 30_980),
         (-14_999, 25_981),
     ];
-    let below = Err(BoundsFault::Piece(Side::Below, 0));
-    let above = Err(BoundsFault::Piece(Side::Above, 0));
     for (places, lower_count, r, edges, upper_count, told) in [
         (within, 1, 1, 6, 7, Ok(())),
         (within, 0, 1, 6, 7, Ok(())),
-        (within, 1, 0, 6, 7, above),
-        (within, 1, 1, 5, 6, above),
-        (within, 1, 1, 0, 1, above),
-        (beyond, 1, 1, 6, 7, below),
-        (near, 1, 1, 6, 7, below),
+        (within, 1, 0, 6, 7, ABOVE),
+        (within, 1, 1, 5, 6, ABOVE),
+        (within, 1, 1, 0, 1, ABOVE),
+        (beyond, 1, 1, 6, 7, BELOW),
+        (near, 1, 1, 6, 7, BELOW),
     ] {
         let lower = outlined(alloc, places, 0, 0)?;
         let lower = if lower_count == 0 {
@@ -513,37 +512,42 @@ fn only(alloc: Global, a: (i16, i16), b: (i16, i16), r: u16) -> Result<Vec<Piece
     Ok(pieces)
 }
 
+const CLOSE: (i16, i16) = (8660, 5000);
+
+/// The angle, ends and radius of a capsule below, the radius of a disc above, and what is told.
+type Discs = (u32, ((i16, i16), (i16, i16), u16), u16, Told);
+
+static DISCS: [Discs; 8] = [
+    (300_000_000, (CLOSE, CLOSE, 2999), 3001, Ok(())),
+    (300_000_000, (CLOSE, CLOSE, 3000), 3001, BELOW),
+    (300_000_000, (CLOSE, CLOSE, 2999), 3000, ABOVE),
+    (
+        300_000_000,
+        ((8660, 5001), (8660, 5001), 2998),
+        3001,
+        Ok(()),
+    ),
+    (300_000_000, ((8660, 5001), (8660, 5001), 2999), 3001, BELOW),
+    (300_000_000, (CLOSE, (8660, 4999), 2000), 3001, BELOW),
+    (299_000_000, (CLOSE, CLOSE, 2999), 3001, BELOW),
+    (900_000_000, (CLOSE, CLOSE, 2999), 3001, BELOW),
+];
+
 /// Discs about spots near its centre at 30 degrees, as large as they may be, and one u more.
 #[test]
 fn a_turned_disc(rt: HostRuntime) -> Result<(), Fail> {
     let alloc = rt.alloc();
-    let below = Err(BoundsFault::Piece(Side::Below, 0));
-    let above = Err(BoundsFault::Piece(Side::Above, 0));
-    let near = (8660, 5000);
-    for (angle, (start, end, small), large, told) in [
-        (300_000_000, (near, near, 2999), 3001, Ok(())),
-        (300_000_000, (near, near, 3000), 3001, below),
-        (300_000_000, (near, near, 2999), 3000, above),
-        (
-            300_000_000,
-            ((8660, 5001), (8660, 5001), 2998),
-            3001,
-            Ok(()),
-        ),
-        (300_000_000, ((8660, 5001), (8660, 5001), 2999), 3001, below),
-        (300_000_000, (near, (8660, 4999), 2000), 3001, below),
-        (299_000_000, (near, near, 2999), 3001, below),
-        (900_000_000, (near, near, 2999), 3001, below),
-    ] {
+    for row in &DISCS {
+        let (angle, (start, end, small), large, told) = *row;
         let real = turned_disc(alloc, angle)?;
         let lower = only(alloc, start, end, small)?;
-        let upper = only(alloc, near, near, large)?;
+        let upper = only(alloc, CLOSE, CLOSE, large)?;
         let found = check_between(alloc, &real, &lower, &[1], &upper, &[1]);
         assert!(rt; found == told, "at {angle}");
         let none = check_between(alloc, &real, &[], &[0], &upper, &[1]);
         assert!(rt; none == Ok(()) || told != Ok(()));
         let nothing = check_between(alloc, &real, &[], &[0], &[], &[0]);
-        assert!(rt; nothing == above);
+        assert!(rt; nothing == ABOVE);
     }
     Ok(())
 }
@@ -560,31 +564,42 @@ fn fine(alloc: Global, figure: FineFigure) -> Result<Vec<RealPiece>, Fail> {
     Ok(real)
 }
 
-/// An obround of 3,001 by 1,001 u about 0, between the sizes that are 1 u off, and not others; and a rectangle as large.
+/// The end of a capsule below, its radius, that of one above, and what is told.
+type Obround = (i16, u16, u16, Told);
+
+static OBROUNDS: [Obround; 5] = [
+    (1000, 500, 501, Ok(())),
+    (1000, 501, 501, BELOW),
+    (1000, 500, 500, ABOVE),
+    (1001, 500, 501, BELOW),
+    (-1000, 500, 501, BELOW),
+];
+
+/// An obround of 3,001 by 1,001 u about 0, between the sizes that are 1 u off, and not others.
 #[test]
-fn odd_pads(rt: HostRuntime) -> Result<(), Fail> {
+fn odd_obrounds(rt: HostRuntime) -> Result<(), Fail> {
     let alloc = rt.alloc();
-    let below = Err(BoundsFault::Piece(Side::Below, 0));
-    let above = Err(BoundsFault::Piece(Side::Above, 0));
     let obround = FineStroke {
         a: spot((-2000, 0)),
         b: spot((2000, 0)),
         r: 1001,
     };
     let real = fine(alloc, FineFigure::Round(obround))?;
-    for (end, small, large, told) in [
-        (1000, 500, 501, Ok(())),
-        (1000, 501, 501, below),
-        (1000, 500, 500, above),
-        (1001, 500, 501, below),
-        (-1000, 500, 501, below),
-    ] {
+    for row in &OBROUNDS {
+        let (end, small, large, told) = *row;
         let lower = only(alloc, (-1000, 0), (end, 0), small)?;
         let upper = only(alloc, (-1000, 0), (1000, 0), large)?;
         assert!(rt; check_between(alloc, &real, &lower, &[1], &upper, &[1]) == told);
         let none = check_between(alloc, &real, &[], &[0], &upper, &[1]);
-        assert!(rt; none == if told == above { above } else { Ok(()) });
+        assert!(rt; none == if told == ABOVE { ABOVE } else { Ok(()) });
     }
+    Ok(())
+}
+
+/// So a rectangle as large.
+#[test]
+fn odd_rectangles(rt: HostRuntime) -> Result<(), Fail> {
+    let alloc = rt.alloc();
     let rectangle = FineFigure::Rectangle(Bounds {
         left: -3001,
         low: -1001,
@@ -601,195 +616,8 @@ fn odd_pads(rt: HostRuntime) -> Result<(), Fail> {
         [(-1501, -501), (1501, -501), (1501, 501), (-1501, 501)],
     )?;
     assert!(rt; check_between(alloc, &real, &within, &[1], &round, &[1]) == Ok(()));
-    assert!(rt; check_between(alloc, &real, &round, &[1], &round, &[1]) == below);
-    assert!(rt; check_between(alloc, &real, &within, &[1], &within, &[1]) == above);
-    assert!(rt; check_between(alloc, &real, &[], &[0], &[], &[0]) == above);
-    Ok(())
-}
-
-/// Half a disc of radius 5,000 u about 0, of which the arc goes counterclockwise or back.
-fn half_disc(alloc: Global, back: bool) -> Result<RealPiece, Fail> {
-    let (first, last) = if back { (5000, -5000) } else { (-5000, 5000) };
-    let bend = Bend {
-        centre: spot((0, 0)),
-        end: spot((0, last)),
-        counterclockwise: !back,
-    };
-    let mut parts = Vec::new(alloc);
-    parts.push(Part::Curved(bend))?;
-    parts.push(Part::Straight(spot((0, first))))?;
-    Ok(Placed {
-        shape: RealShape::Region(Region {
-            start: spot((0, first)),
-            parts,
-        }),
-        top: 1,
-        bottom: 1,
-        origin: ORIGIN,
-    })
-}
-
-/// The polygon of its chain, and the capsules of radius `r` along it, counterclockwise.
-fn around(alloc: Global, back: bool, r: u16) -> Result<Vec<Piece>, Fail> {
-    let chain = [
-        (0, -5000),
-        (3000, -4000),
-        (4000, -3000),
-        (5000, 0),
-        (4000, 3000),
-        (3000, 4000),
-        (0, 5000),
-    ];
-    let mut points = Vec::new(alloc);
-    for corner in chain {
-        points.push(spot(corner))?;
-    }
-    if back {
-        points.reverse();
-    }
-    points.push(if back {
-        spot((0, 5000))
-    } else {
-        spot((0, -5000))
-    })?;
-    if !are_placed(&points) {
-        return Ok(Vec::new(alloc));
-    }
-    let mut pieces = Vec::new(alloc);
-    pieces.push(on(1, Shape::Filled(Area::new(alloc, points)?)))?;
-    for i in 1..chain.len() {
-        pieces.push(on(1, capsule(chain[i - 1], chain[i], r)))?;
-    }
-    Ok(pieces)
-}
-
-/// A region: the chords leave its circle by less than 257 u, and by more than 256. Nothing lies below it.
-#[test]
-fn regions(rt: HostRuntime) -> Result<(), Fail> {
-    let alloc = rt.alloc();
-    for (back, turned, r, told) in [
-        (false, false, 257, Ok(())),
-        (true, true, 257, Ok(())),
-        (false, false, 256, Err(BoundsFault::Piece(Side::Above, 0))),
-        (true, false, 257, Err(BoundsFault::Piece(Side::Above, 0))),
-        (false, true, 257, Err(BoundsFault::Piece(Side::Above, 0))),
-    ] {
-        let mut real = Vec::new(alloc);
-        real.push(half_disc(alloc, back)?)?;
-        let upper = around(alloc, turned, r)?;
-        let found = check_between(alloc, &real, &[], &[0], &upper, &[7]);
-        assert!(rt; found == told);
-        assert!(rt; upper.len() == 7);
-        let fewer = check_between(alloc, &real, &[], &[0], &upper[..6], &[6]);
-        assert!(rt; fewer == Err(BoundsFault::Piece(Side::Above, 0)));
-        let lower = check_between(alloc, &real, &upper[..1], &[1], &upper, &[7]);
-        assert!(rt; lower == Err(BoundsFault::Piece(Side::Below, 0)));
-    }
-    Ok(())
-}
-
-/// A box from `left` to `right`, 2,000 u high.
-fn pane(alloc: Global, left: i16, right: i16) -> Result<Vec<Piece>, Fail> {
-    let mut points = Vec::new(alloc);
-    for corner in [
-        (left, -1000),
-        (right, -1000),
-        (right, 1000),
-        (left, 1000),
-        (left, -1000),
-    ] {
-        points.push(spot(corner))?;
-    }
-    let mut pieces = Vec::new(alloc);
-    if are_placed(&points) {
-        pieces.push(on(1, Shape::Filled(Area::new(alloc, points)?)))?;
-    }
-    Ok(pieces)
-}
-
-/// Boxes below it: more than 424 u from the chords of its eighth turns, and off the straight part.
-#[test]
-fn boxes_below(rt: HostRuntime) -> Result<(), Fail> {
-    let alloc = rt.alloc();
-    for back in [false, true] {
-        let upper = around(alloc, back, 257)?;
-        let mut real = Vec::new(alloc);
-        real.push(half_disc(alloc, back)?)?;
-        for (left, right, told) in [
-            (1, 4126, true),
-            (1, 4127, false),
-            (0, 1000, false),
-            (-1000, 1000, false),
-            (-1000, -1, false),
-        ] {
-            let lower = pane(alloc, left, right)?;
-            let found = check_between(alloc, &real, &lower, &[1], &upper, &[7]);
-            let lies = found == Ok(());
-            assert!(rt; lies == told, "at {right}");
-        }
-    }
-    Ok(())
-}
-
-/// A quarter of a disc of radius `r` about 0 and some more, as far as 9,000 u beyond the centre.
-fn quarter_disc(alloc: Global, r: i64) -> Result<Region, Fail> {
-    let start = Spot { x: r, y: 0 };
-    let bend = Bend {
-        centre: spot((0, 0)),
-        end: Spot { x: 0, y: r },
-        counterclockwise: true,
-    };
-    let mut parts = Vec::new(alloc);
-    parts.push(Part::Curved(bend))?;
-    parts.push(Part::Straight(spot((-9000, -9000))))?;
-    parts.push(Part::Straight(start))?;
-    Ok(Region { start, parts })
-}
-
-/// The widest arc that may have a contour below: its draws have the greatest radius that one may have.
-#[test]
-fn the_widest_arc(rt: HostRuntime) -> Result<(), Fail> {
-    let alloc = rt.alloc();
-    let lower = pane(alloc, 1, 1000)?;
-    for (r, told) in [(2_999_999_915, true), (2_999_999_916, false)] {
-        let region = quarter_disc(alloc, r)?;
-        let found = is_inside(alloc, &region, &lower)?;
-        assert!(rt; found == told);
-    }
-    Ok(())
-}
-
-/// The file's forms, and the first line of another.
-#[test]
-fn files_of_counts(rt: HostRuntime) -> Result<(), Fail> {
-    let alloc = rt.alloc();
-    for (file, told) in [
-        (b"boardnet-bounds 1\n".as_slice(), Ok((0, 0))),
-        (b"boardnet-bounds 1\n1 1\n6 17\n", Ok((7, 18))),
-        (b"boardnet-bounds 1\n0 4294967295\n", Ok((0, 4_294_967_295))),
-        (
-            b"boardnet-bounds 1\n1 4294967296\n",
-            Err(CountsFault::Line(2)),
-        ),
-        (b"boardnet-bounds 1\n1 1\n01 6\n", Err(CountsFault::Line(3))),
-        (b"boardnet-bounds 1\n1 1\n1 +6\n", Err(CountsFault::Line(3))),
-        (b"boardnet-bounds 1\n1 1\n1  6\n", Err(CountsFault::Line(3))),
-        (b"boardnet-bounds 1\n1 1\n1 6 \n", Err(CountsFault::Line(3))),
-        (
-            b"boardnet-bounds 1\n1 1\n1 6\r\n",
-            Err(CountsFault::Line(3)),
-        ),
-        (b"boardnet-bounds 1\n1 1\n\n", Err(CountsFault::Line(3))),
-        (b"boardnet-bounds 1\n1 1\n1 6", Err(CountsFault::Line(3))),
-        (b"boardnet-bounds 1\r\n1 1\n", Err(CountsFault::Line(1))),
-        (b"boardnet-bounds 2\n1 1\n", Err(CountsFault::Line(1))),
-        (b"", Err(CountsFault::Line(1))),
-    ] {
-        let found = match read_counts(alloc, file) {
-            Ok(counts) => Ok((sum(counts.lower.as_slice()), sum(counts.upper.as_slice()))),
-            Err(fault) => Err(fault),
-        };
-        assert!(rt; found == told);
-    }
+    assert!(rt; check_between(alloc, &real, &round, &[1], &round, &[1]) == BELOW);
+    assert!(rt; check_between(alloc, &real, &within, &[1], &within, &[1]) == ABOVE);
+    assert!(rt; check_between(alloc, &real, &[], &[0], &[], &[0]) == ABOVE);
     Ok(())
 }

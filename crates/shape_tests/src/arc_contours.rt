@@ -2,7 +2,7 @@
 //! parts. Their longest chords leave the circle by less than 257 u, and by more than 256.
 ghost use Rattle.std.specs.Prelude.{◌<◌, ◌≡◌};
 
-use super::*;
+use arc_regions::{Bend, Part, Spot, Stretch, is_above, is_below};
 use area_contact::Area;
 use planar::{Frame, are_placed};
 use std::alloc::Global;

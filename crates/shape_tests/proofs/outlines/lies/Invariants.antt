@@ -1,4 +1,4 @@
-use Rattle.arc_regions.proofs.tests.lies.Given as goal
+use Rattle.shape_tests.proofs.outlines.lies.Given as goal
 
 abbrev pub ghosts-lies_by : goal.ghosts-lies_by
 ghosts-lies_by a = record { name = a.blank.name; parts = a.blank.parts }

@@ -1,11 +1,11 @@
-// Worked rows of pieces, boards and shifts.
+//! Worked rows of pieces, boards and shifts.
 ghost use Rattle.board_shapes.specs.Lawful.{IsOnLayers};
 ghost use Rattle.contact.specs.Round.{IsCapsuleRadius};
 ghost use Rattle.planar.specs.Plane.{IsPlaced};
 ghost use Rattle.std.specs.Prelude.{All, IfOk, length, ◌<◌, ◌≡◌, ◌≤◌};
 
-use crate::{Board, BoardFault, MoveFault, Origin, Piece, Placed, Shape};
 use area_contact::{Area, AreaFault};
+use board_shapes::{Board, BoardFault, MoveFault, Origin, Piece, Placed, Shape};
 use contact::{Bounds, Capsule, Closed, Meets};
 use lengths::rows::Rows;
 use planar::{Frame, Spot};
@@ -64,21 +64,27 @@ fn touch_and_under<S: Meets<S>, L: Ledger>(
     )
 }
 
+/// Two spans of layers, a layer, whether the solids touch, and whether the first is under the place on that layer.
+type Span = (u8, u8, u8, u8, u8, bool, bool);
+
+static SPANS: [Span; 7] = [
+    (1, 1, 1, 1, 1, true, true),
+    (1, 1, 2, 2, 2, false, false),
+    (1, 2, 2, 3, 3, true, false),
+    (1, 2, 3, 4, 0, false, false),
+    (1, 4, 2, 3, 3, true, true),
+    (2, 3, 1, 4, 1, true, false),
+    (3, 4, 1, 2, 4, false, true),
+];
+
 #[test]
 fn spans(rt: HostRuntime) {
     let at = Spot {
         x: 5_000_000,
         y: 5_000_000,
     };
-    for (top, bottom, other_top, other_bottom, layer, touch, under) in [
-        (1, 1, 1, 1, 1, true, true),
-        (1, 1, 2, 2, 2, false, false),
-        (1, 2, 2, 3, 3, true, false),
-        (1, 2, 3, 4, 0, false, false),
-        (1, 4, 2, 3, 3, true, true),
-        (2, 3, 1, 4, 1, true, false),
-        (3, 4, 1, 2, 4, false, true),
-    ] {
+    for row in &SPANS {
+        let (top, bottom, other_top, other_bottom, layer, touch, under) = *row;
         assert!(rt; 1 <= top && top <= bottom, "a span");
         assert!(rt; 1 <= other_top && other_top <= other_bottom, "a span");
         let first = disc(at, 5_000_000, top, bottom);

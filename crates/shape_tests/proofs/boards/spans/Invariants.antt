@@ -1,4 +1,4 @@
-use Rattle.board_shapes.proofs.tests.spans.Given as goal
+use Rattle.shape_tests.proofs.boards.spans.Given as goal
 
 abbrev pub ghosts-touch_and_under : goal.ghosts-touch_and_under
 ghosts-touch_and_under g a = record { name = a.blank.name; parts = a.blank.parts }
