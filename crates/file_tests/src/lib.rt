@@ -1,11 +1,15 @@
-//! Tests of drill files, netlists and packages, through their public calls.
+//! Tests of drill files, labels, netlists, packages, takes and puts, through their public calls.
 #![tactic(auto)]
 
 #[cfg(test)]
 mod drill_files;
+#[cfg(test)]
+mod labels;
 #[cfg(test)]
 mod netlists;
 #[cfg(test)]
 mod packages;
 #[cfg(test)]
 mod real_packages;
+#[cfg(test)]
+mod takes_and_puts;
