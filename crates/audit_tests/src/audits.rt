@@ -110,7 +110,7 @@ const FINDINGS: &[u8] =
 const MORE: &[u8] =
     b"spots 3\nspot 0 10000000 0\nspot 1 25000000 0\nspot 2 90000000 0\nsources 3\nsource 0 0 1 0 1 1\nsource 1 0 1 0 1 1\nsource 2 0 1 0 1 1\n";
 
-// The parts of a report.
+// The parts of a report, and what the audit says of it.
 #[derive(Clone, Copy)]
 struct Case {
     front: &'static [u8],
@@ -118,28 +118,35 @@ struct Case {
     points: &'static [u8],
     findings: &'static [u8],
     more: &'static [u8],
+    ruling: Ruling,
 }
 
-// The right report but for its nets and points.
-fn wrong(nets: &'static [u8], points: &'static [u8]) -> Case {
-    Case {
-        front: FRONT,
-        nets,
-        points,
-        findings: FINDINGS,
-        more: b"",
-    }
+// The right report but for its nets and points, and the clause that does not hold.
+macro_rules! wrong {
+    ($nets:expr, $points:expr, $clause:expr $(,)?) => {
+        Case {
+            front: FRONT,
+            nets: $nets,
+            points: $points,
+            findings: FINDINGS,
+            more: b"",
+            ruling: Ruling::Untrue($clause),
+        }
+    };
 }
 
 // The right report but for what is not nets and points.
-fn part(front: &'static [u8], findings: &'static [u8], more: &'static [u8]) -> Case {
-    Case {
-        front,
-        nets: NETS,
-        points: POINTS,
-        findings,
-        more,
-    }
+macro_rules! part {
+    ($front:expr, $findings:expr, $more:expr, $ruling:expr $(,)?) => {
+        Case {
+            front: $front,
+            nets: NETS,
+            points: POINTS,
+            findings: $findings,
+            more: $more,
+            ruling: $ruling,
+        }
+    };
 }
 
 const NONE: &[u8] = b"points 0\n";
@@ -155,65 +162,60 @@ const COPIED: &[u8] =
 const MOVED: &[u8] =
     b"spots 3\nspot 0 10000000 0\nspot 1 -25000000 0\nspot 2 90000000 0\nsources 3\nsource 0 0 1 0 1 1\nsource 1 0 1 0 1 1\nsource 2 0 1 1 1 1\n";
 
-// Nets and points that are not those of the right report, and the clause that does not hold.
-static WRONG: [(&'static [u8], &'static [u8], u8); 18] = [
+static CASES: [Case; 27] = [
     // no nets, an empty net, parents in a circle, its own parent, and that again
-    (b"nets 0\n", NONE, 2),
-    (b"nets 3\nnet 0\nnet 1 0 1:0\nnet 2 2\n", NONE, 1),
-    (b"nets 1\nnet 0 0 1:2 2:1\n", NONE, 1),
-    (b"nets 2\nnet 0 0 1:1\nnet 1 2\n", NONE, 1),
-    (b"nets 2\nnet 0 0 1:0 1:1\nnet 1 2\n", NONE, 1),
+    wrong!(b"nets 0\n", NONE, 2),
+    wrong!(b"nets 3\nnet 0\nnet 1 0 1:0\nnet 2 2\n", NONE, 1),
+    wrong!(b"nets 1\nnet 0 0 1:2 2:1\n", NONE, 1),
+    wrong!(b"nets 2\nnet 0 0 1:1\nnet 1 2\n", NONE, 1),
+    wrong!(b"nets 2\nnet 0 0 1:0 1:1\nnet 1 2\n", NONE, 1),
     // a parent of another net, one that does not touch, and one past the board
-    (b"nets 3\nnet 0 0\nnet 1 1 1:0\nnet 2 2\n", NONE, 1),
-    (b"nets 1\nnet 0 0 1:0 2:1\n", NONE, 1),
-    (b"nets 1\nnet 0 0 1:4294967295\n", NONE, 1),
+    wrong!(b"nets 3\nnet 0 0\nnet 1 1 1:0\nnet 2 2\n", NONE, 1),
+    wrong!(b"nets 1\nnet 0 0 1:0 2:1\n", NONE, 1),
+    wrong!(b"nets 1\nnet 0 0 1:4294967295\n", NONE, 1),
     // past the board, and far past it
-    (b"nets 1\nnet 0 0 3:0\n", NONE, 1),
-    (b"nets 1\nnet 0 4294967295\n", NONE, 1),
+    wrong!(b"nets 1\nnet 0 0 3:0\n", NONE, 1),
+    wrong!(b"nets 1\nnet 0 4294967295\n", NONE, 1),
     // the first is not the least, and equal first pieces
-    (b"nets 2\nnet 0 1 0:1\nnet 1 2\n", NONE, 1),
-    (b"nets 3\nnet 0 0 1:0\nnet 1 0\nnet 2 2\n", NONE, 1),
+    wrong!(b"nets 2\nnet 0 1 0:1\nnet 1 2\n", NONE, 1),
+    wrong!(b"nets 3\nnet 0 0 1:0\nnet 1 0\nnet 2 2\n", NONE, 1),
     // a piece twice, the first piece twice, a piece of two nets, and a net in two
-    (b"nets 2\nnet 0 0 1:0 1:0\nnet 1 2\n", NONE, 2),
-    (b"nets 2\nnet 0 0 1:0 0:1\nnet 1 2\n", NONE, 2),
-    (b"nets 3\nnet 0 0 1:0\nnet 1 1\nnet 2 2\n", NONE, 2),
-    (b"nets 3\nnet 0 0\nnet 1 1\nnet 2 2\n", NONE, 3),
+    wrong!(b"nets 2\nnet 0 0 1:0 1:0\nnet 1 2\n", NONE, 2),
+    wrong!(b"nets 2\nnet 0 0 1:0 0:1\nnet 1 2\n", NONE, 2),
+    wrong!(b"nets 3\nnet 0 0 1:0\nnet 1 1\nnet 2 2\n", NONE, 2),
+    wrong!(b"nets 3\nnet 0 0\nnet 1 1\nnet 2 2\n", NONE, 3),
     // a net that is not there, and a line too few
-    (
+    wrong!(
         NETS,
         b"points 3\npoint 0 1 1 0 9\npoint 1 2 1 1 0\npoint 2 3 1 0 -\n",
         4,
     ),
-    (NETS, b"points 2\npoint 0 1 1 0 0\npoint 1 2 1 1 0\n", 4),
-];
-
-// First lines, findings and supplements beside the right nets and points, and what the audit says of them.
-static PARTS: [(&'static [u8], &'static [u8], &'static [u8], Ruling); 9] = [
+    wrong!(NETS, b"points 2\npoint 0 1 1 0 0\npoint 1 2 1 1 0\n", 4),
     // right, and then spoilt at one part more a row
-    (FRONT, FINDINGS, b"", Ruling::True),
-    (SECOND, FINDINGS, MORE, Ruling::True),
-    (SECOND, FINDINGS, COPIED, Ruling::Untrue(11)),
-    (SECOND, FINDINGS, MOVED, Ruling::Untrue(10)),
-    (MANY, FINDINGS, MOVED, Ruling::Untrue(9)),
-    (
+    part!(FRONT, FINDINGS, b"", Ruling::True),
+    part!(SECOND, FINDINGS, MORE, Ruling::True),
+    part!(SECOND, FINDINGS, COPIED, Ruling::Untrue(11)),
+    part!(SECOND, FINDINGS, MOVED, Ruling::Untrue(10)),
+    part!(MANY, FINDINGS, MOVED, Ruling::Untrue(9)),
+    part!(
         MANY,
         b"opens 0\nshorts 1\nshort 0 2\nbranch 0 0 0\nbranch 1 1 1 0\nmissing 2\nbare 0\nbare 2\n",
         MOVED,
         Ruling::Untrue(8),
     ),
-    (
+    part!(
         MANY,
         b"opens 0\nshorts 1\nshort 0 2\nbranch 0 0 0\nbranch 1 1 1\nmissing 2\nbare 0\nbare 2\n",
         MOVED,
         Ruling::Untrue(7),
     ),
-    (
+    part!(
         MANY,
         b"opens 0\nshorts 0\nmissing 2\nbare 0\nbare 2\n",
         MOVED,
         Ruling::Untrue(6),
     ),
-    (
+    part!(
         MANY,
         b"opens 1\nopen 0 0 1 2\nshorts 0\nmissing 2\nbare 0\nbare 2\n",
         MOVED,
@@ -245,19 +247,9 @@ fn verdict(alloc: Global, case: &Case) -> Result<Verdict, Fail> {
 fn verdicts_from_anywhere(rt: HostRuntime) -> Result<(), Fail> {
     let alloc = rt.alloc();
     let board = Board::new(discs(alloc)?, probes(alloc)?, names(alloc)?, 1).expect(&rt, "a board");
-    for (k, row) in WRONG.iter().enumerate() {
-        let (nets, points, clause) = *row;
-        let v = verdict(alloc, &wrong(nets, points))?;
-        assert_eq!(rt;
-            audit(alloc, &board, &v)?,
-            Ruling::Untrue(clause),
-            "wrong {k}"
-        );
-    }
-    for (k, row) in PARTS.iter().enumerate() {
-        let (front, findings, more, ruling) = *row;
-        let v = verdict(alloc, &part(front, findings, more))?;
-        assert_eq!(rt; audit(alloc, &board, &v)?, ruling, "part {k}");
+    for (k, case) in CASES.iter().enumerate() {
+        let v = verdict(alloc, case)?;
+        assert_eq!(rt; audit(alloc, &board, &v)?, case.ruling, "case {k}");
     }
     Ok(())
 }
