@@ -122,104 +122,106 @@ struct Case {
 }
 
 // The right report but for its nets and points, and the clause that does not hold.
-fn wrong(nets: &'static [u8], points: &'static [u8], clause: u8) -> Case {
-    Case {
-        front: FRONT,
-        nets,
-        points,
-        findings: FINDINGS,
-        more: b"",
-        ruling: Ruling::Untrue(clause),
-    }
+macro_rules! wrong {
+    ($nets:expr, $points:expr, $clause:expr $(,)?) => {
+        Case {
+            front: FRONT,
+            nets: $nets,
+            points: $points,
+            findings: FINDINGS,
+            more: b"",
+            ruling: Ruling::Untrue($clause),
+        }
+    };
 }
 
 // The right report but for what is not nets and points.
-fn part(
-    front: &'static [u8],
-    findings: &'static [u8],
-    more: &'static [u8],
-    ruling: Ruling,
-) -> Case {
-    Case {
-        front,
-        nets: NETS,
-        points: POINTS,
-        findings,
-        more,
-        ruling,
-    }
+macro_rules! part {
+    ($front:expr, $findings:expr, $more:expr, $ruling:expr $(,)?) => {
+        Case {
+            front: $front,
+            nets: NETS,
+            points: POINTS,
+            findings: $findings,
+            more: $more,
+            ruling: $ruling,
+        }
+    };
 }
 
-fn cases() -> [Case; 27] {
-    let none: &'static [u8] = b"points 0\n";
-    let second: &'static [u8] = b"boardnet 2\npieces 3\n";
-    let many: &'static [u8] = b"boardnet 2\npieces 4\n";
-    // the last disc is another copy, and then the second probe is elsewhere too
-    let copied: &'static [u8] =
-        b"spots 3\nspot 0 10000000 0\nspot 1 25000000 0\nspot 2 90000000 0\nsources 3\nsource 0 0 1 0 1 1\nsource 1 0 1 0 1 1\nsource 2 0 1 1 1 1\n";
-    let moved: &'static [u8] =
-        b"spots 3\nspot 0 10000000 0\nspot 1 -25000000 0\nspot 2 90000000 0\nsources 3\nsource 0 0 1 0 1 1\nsource 1 0 1 0 1 1\nsource 2 0 1 1 1 1\n";
-    [
-        // no nets, an empty net, parents in a circle, its own parent, and that again
-        wrong(b"nets 0\n", none, 2),
-        wrong(b"nets 3\nnet 0\nnet 1 0 1:0\nnet 2 2\n", none, 1),
-        wrong(b"nets 1\nnet 0 0 1:2 2:1\n", none, 1),
-        wrong(b"nets 2\nnet 0 0 1:1\nnet 1 2\n", none, 1),
-        wrong(b"nets 2\nnet 0 0 1:0 1:1\nnet 1 2\n", none, 1),
-        // a parent of another net, one that does not touch, and one past the board
-        wrong(b"nets 3\nnet 0 0\nnet 1 1 1:0\nnet 2 2\n", none, 1),
-        wrong(b"nets 1\nnet 0 0 1:0 2:1\n", none, 1),
-        wrong(b"nets 1\nnet 0 0 1:4294967295\n", none, 1),
-        // past the board, and far past it
-        wrong(b"nets 1\nnet 0 0 3:0\n", none, 1),
-        wrong(b"nets 1\nnet 0 4294967295\n", none, 1),
-        // the first is not the least, and equal first pieces
-        wrong(b"nets 2\nnet 0 1 0:1\nnet 1 2\n", none, 1),
-        wrong(b"nets 3\nnet 0 0 1:0\nnet 1 0\nnet 2 2\n", none, 1),
-        // a piece twice, the first piece twice, a piece of two nets, and a net in two
-        wrong(b"nets 2\nnet 0 0 1:0 1:0\nnet 1 2\n", none, 2),
-        wrong(b"nets 2\nnet 0 0 1:0 0:1\nnet 1 2\n", none, 2),
-        wrong(b"nets 3\nnet 0 0 1:0\nnet 1 1\nnet 2 2\n", none, 2),
-        wrong(b"nets 3\nnet 0 0\nnet 1 1\nnet 2 2\n", none, 3),
-        // a net that is not there, and a line too few
-        wrong(
-            NETS,
-            b"points 3\npoint 0 1 1 0 9\npoint 1 2 1 1 0\npoint 2 3 1 0 -\n",
-            4,
-        ),
-        wrong(NETS, b"points 2\npoint 0 1 1 0 0\npoint 1 2 1 1 0\n", 4),
-        // right, and then spoilt at one part more a row
-        part(FRONT, FINDINGS, b"", Ruling::True),
-        part(second, FINDINGS, MORE, Ruling::True),
-        part(second, FINDINGS, copied, Ruling::Untrue(11)),
-        part(second, FINDINGS, moved, Ruling::Untrue(10)),
-        part(many, FINDINGS, moved, Ruling::Untrue(9)),
-        part(
-            many,
-            b"opens 0\nshorts 1\nshort 0 2\nbranch 0 0 0\nbranch 1 1 1 0\nmissing 2\nbare 0\nbare 2\n",
-            moved,
-            Ruling::Untrue(8),
-        ),
-        part(
-            many,
-            b"opens 0\nshorts 1\nshort 0 2\nbranch 0 0 0\nbranch 1 1 1\nmissing 2\nbare 0\nbare 2\n",
-            moved,
-            Ruling::Untrue(7),
-        ),
-        part(
-            many,
-            b"opens 0\nshorts 0\nmissing 2\nbare 0\nbare 2\n",
-            moved,
-            Ruling::Untrue(6),
-        ),
-        part(
-            many,
-            b"opens 1\nopen 0 0 1 2\nshorts 0\nmissing 2\nbare 0\nbare 2\n",
-            moved,
-            Ruling::Untrue(5),
-        ),
-    ]
-}
+const NONE: &[u8] = b"points 0\n";
+
+const SECOND: &[u8] = b"boardnet 2\npieces 3\n";
+
+const MANY: &[u8] = b"boardnet 2\npieces 4\n";
+
+// The last disc is another copy, and then the second probe is elsewhere too.
+const COPIED: &[u8] =
+    b"spots 3\nspot 0 10000000 0\nspot 1 25000000 0\nspot 2 90000000 0\nsources 3\nsource 0 0 1 0 1 1\nsource 1 0 1 0 1 1\nsource 2 0 1 1 1 1\n";
+
+const MOVED: &[u8] =
+    b"spots 3\nspot 0 10000000 0\nspot 1 -25000000 0\nspot 2 90000000 0\nsources 3\nsource 0 0 1 0 1 1\nsource 1 0 1 0 1 1\nsource 2 0 1 1 1 1\n";
+
+static CASES: [Case; 27] = [
+    // no nets, an empty net, parents in a circle, its own parent, and that again
+    wrong!(b"nets 0\n", NONE, 2),
+    wrong!(b"nets 3\nnet 0\nnet 1 0 1:0\nnet 2 2\n", NONE, 1),
+    wrong!(b"nets 1\nnet 0 0 1:2 2:1\n", NONE, 1),
+    wrong!(b"nets 2\nnet 0 0 1:1\nnet 1 2\n", NONE, 1),
+    wrong!(b"nets 2\nnet 0 0 1:0 1:1\nnet 1 2\n", NONE, 1),
+    // a parent of another net, one that does not touch, and one past the board
+    wrong!(b"nets 3\nnet 0 0\nnet 1 1 1:0\nnet 2 2\n", NONE, 1),
+    wrong!(b"nets 1\nnet 0 0 1:0 2:1\n", NONE, 1),
+    wrong!(b"nets 1\nnet 0 0 1:4294967295\n", NONE, 1),
+    // past the board, and far past it
+    wrong!(b"nets 1\nnet 0 0 3:0\n", NONE, 1),
+    wrong!(b"nets 1\nnet 0 4294967295\n", NONE, 1),
+    // the first is not the least, and equal first pieces
+    wrong!(b"nets 2\nnet 0 1 0:1\nnet 1 2\n", NONE, 1),
+    wrong!(b"nets 3\nnet 0 0 1:0\nnet 1 0\nnet 2 2\n", NONE, 1),
+    // a piece twice, the first piece twice, a piece of two nets, and a net in two
+    wrong!(b"nets 2\nnet 0 0 1:0 1:0\nnet 1 2\n", NONE, 2),
+    wrong!(b"nets 2\nnet 0 0 1:0 0:1\nnet 1 2\n", NONE, 2),
+    wrong!(b"nets 3\nnet 0 0 1:0\nnet 1 1\nnet 2 2\n", NONE, 2),
+    wrong!(b"nets 3\nnet 0 0\nnet 1 1\nnet 2 2\n", NONE, 3),
+    // a net that is not there, and a line too few
+    wrong!(
+        NETS,
+        b"points 3\npoint 0 1 1 0 9\npoint 1 2 1 1 0\npoint 2 3 1 0 -\n",
+        4,
+    ),
+    wrong!(NETS, b"points 2\npoint 0 1 1 0 0\npoint 1 2 1 1 0\n", 4),
+    // right, and then spoilt at one part more a row
+    part!(FRONT, FINDINGS, b"", Ruling::True),
+    part!(SECOND, FINDINGS, MORE, Ruling::True),
+    part!(SECOND, FINDINGS, COPIED, Ruling::Untrue(11)),
+    part!(SECOND, FINDINGS, MOVED, Ruling::Untrue(10)),
+    part!(MANY, FINDINGS, MOVED, Ruling::Untrue(9)),
+    part!(
+        MANY,
+        b"opens 0\nshorts 1\nshort 0 2\nbranch 0 0 0\nbranch 1 1 1 0\nmissing 2\nbare 0\nbare 2\n",
+        MOVED,
+        Ruling::Untrue(8),
+    ),
+    part!(
+        MANY,
+        b"opens 0\nshorts 1\nshort 0 2\nbranch 0 0 0\nbranch 1 1 1\nmissing 2\nbare 0\nbare 2\n",
+        MOVED,
+        Ruling::Untrue(7),
+    ),
+    part!(
+        MANY,
+        b"opens 0\nshorts 0\nmissing 2\nbare 0\nbare 2\n",
+        MOVED,
+        Ruling::Untrue(6),
+    ),
+    part!(
+        MANY,
+        b"opens 1\nopen 0 0 1 2\nshorts 0\nmissing 2\nbare 0\nbare 2\n",
+        MOVED,
+        Ruling::Untrue(5),
+    ),
+];
 
 // The verdict of a report that differs.
 fn verdict(alloc: Global, case: &Case) -> Result<Verdict, Fail> {
@@ -245,7 +247,7 @@ fn verdict(alloc: Global, case: &Case) -> Result<Verdict, Fail> {
 fn verdicts_from_anywhere(rt: HostRuntime) -> Result<(), Fail> {
     let alloc = rt.alloc();
     let board = Board::new(discs(alloc)?, probes(alloc)?, names(alloc)?, 1).expect(&rt, "a board");
-    for (k, case) in cases().iter().enumerate() {
+    for (k, case) in CASES.iter().enumerate() {
         let v = verdict(alloc, case)?;
         assert_eq!(rt; audit(alloc, &board, &v)?, case.ruling, "case {k}");
     }

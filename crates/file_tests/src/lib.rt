@@ -1,10 +1,12 @@
-//! Tests of lengths, lines, made boards, drill files, netlists and packages, through their public calls.
+//! Tests of lengths, lines, made boards, drill files, labels, netlists, packages, takes and puts, through their public calls.
 #![tactic(auto)]
 
 #[cfg(test)]
 mod decimals;
 #[cfg(test)]
 mod drill_files;
+#[cfg(test)]
+mod labels;
 #[cfg(test)]
 mod lines;
 #[cfg(test)]
@@ -15,3 +17,5 @@ mod netlists;
 mod packages;
 #[cfg(test)]
 mod real_packages;
+#[cfg(test)]
+mod takes_and_puts;

@@ -17,79 +17,87 @@ fn fault_of(alloc: Global, file: &[u8], layers: u8) -> Option<RecordFault> {
     }
 }
 
+static REFUSALS: [(&'static [u8], RecordKind, u32); 16] = [
+    (
+        b"327A                                  A01X+000000Y+000000\n999\n",
+        RecordKind::MissingUnits,
+        1,
+    ),
+    (
+        b"P  UNITS CUST 1\n327A                                  A02X+000000Y+000000\n999\n",
+        RecordKind::BadAccess,
+        2,
+    ),
+    (
+        b"P  UNITS CUST 1\n017 more\n999\n",
+        RecordKind::Continuation,
+        2,
+    ),
+    (b"P  UNITS CUST 1\n", RecordKind::NotEnded, 2),
+    (
+        b"P  UNITS CUST 1\nC a comment\n\n320A\n999\n",
+        RecordKind::UnknownCode,
+        4,
+    ),
+    (
+        b"P  UNITS CUST 1\nP  UNITS CUST 0\n999\n",
+        RecordKind::UnitsTwice,
+        2,
+    ),
+    (b"P  UNITS CUST 2\n999\n", RecordKind::BadUnits, 1),
+    (
+        b"P  UNITS CUST 1\n327A                                  B00X+000000Y+000000\n999\n",
+        RecordKind::BadAccess,
+        2,
+    ),
+    (
+        b"P  UNITS CUST 1\n327A                                  A1 X+000000Y+000000\n999\n",
+        RecordKind::BadAccess,
+        2,
+    ),
+    (
+        b"P  UNITS CUST 1\n327A                                  A01X+0000 0Y+000000\n999\n",
+        RecordKind::BadNumber,
+        2,
+    ),
+    (
+        b"P  UNITS CUST 1\n327A                                  A01X+000000Y+00000\n999\n",
+        RecordKind::BadNumber,
+        2,
+    ),
+    (
+        b"P  UNITS CUST 1\n317A B                                A00X+000000Y+000000\n999\n",
+        RecordKind::BadName,
+        2,
+    ),
+    (
+        b"P  UNITS CUST 0\n317A                                  A00X+000000Y-393701\n999\n",
+        RecordKind::OutOfRange,
+        2,
+    ),
+    (b"P  UNITS CUST 1\n999\n\nC\n", RecordKind::AfterEnd, 4),
+    (b"327A               X\n999\n", RecordKind::MissingUnits, 1),
+    (
+        b"P  UNITS CUST 1\n327A               X\n999\n",
+        RecordKind::BadAccess,
+        2,
+    ),
+];
+
 #[test]
 fn the_least_faulty_line(rt: HostRuntime) {
-    let refusals: [(&[u8], RecordKind, u32); 16] = [
-        (
-            b"327A                                  A01X+000000Y+000000\n999\n",
-            RecordKind::MissingUnits,
-            1,
-        ),
-        (
-            b"P  UNITS CUST 1\n327A                                  A02X+000000Y+000000\n999\n",
-            RecordKind::BadAccess,
-            2,
-        ),
-        (
-            b"P  UNITS CUST 1\n017 more\n999\n",
-            RecordKind::Continuation,
-            2,
-        ),
-        (b"P  UNITS CUST 1\n", RecordKind::NotEnded, 2),
-        (
-            b"P  UNITS CUST 1\nC a comment\n\n320A\n999\n",
-            RecordKind::UnknownCode,
-            4,
-        ),
-        (
-            b"P  UNITS CUST 1\nP  UNITS CUST 0\n999\n",
-            RecordKind::UnitsTwice,
-            2,
-        ),
-        (b"P  UNITS CUST 2\n999\n", RecordKind::BadUnits, 1),
-        (
-            b"P  UNITS CUST 1\n327A                                  B00X+000000Y+000000\n999\n",
-            RecordKind::BadAccess,
-            2,
-        ),
-        (
-            b"P  UNITS CUST 1\n327A                                  A1 X+000000Y+000000\n999\n",
-            RecordKind::BadAccess,
-            2,
-        ),
-        (
-            b"P  UNITS CUST 1\n327A                                  A01X+0000 0Y+000000\n999\n",
-            RecordKind::BadNumber,
-            2,
-        ),
-        (
-            b"P  UNITS CUST 1\n327A                                  A01X+000000Y+00000\n999\n",
-            RecordKind::BadNumber,
-            2,
-        ),
-        (
-            b"P  UNITS CUST 1\n317A B                                A00X+000000Y+000000\n999\n",
-            RecordKind::BadName,
-            2,
-        ),
-        (
-            b"P  UNITS CUST 0\n317A                                  A00X+000000Y-393701\n999\n",
-            RecordKind::OutOfRange,
-            2,
-        ),
-        (b"P  UNITS CUST 1\n999\n\nC\n", RecordKind::AfterEnd, 4),
-        (b"327A               X\n999\n", RecordKind::MissingUnits, 1),
-        (
-            b"P  UNITS CUST 1\n327A               X\n999\n",
-            RecordKind::BadAccess,
-            2,
-        ),
-    ];
-    for (file, kind, line) in refusals {
+    for row in &REFUSALS {
+        let (file, kind, line) = *row;
         let fault = RecordFault::Refused { kind, line };
         assert_eq!(rt; fault_of(rt.alloc(), file, 1), Some(fault));
     }
 }
+
+static FILES: [&'static [u8]; 3] = [
+    b"P  UNITS CUST 1\n317GND                                A00X+001000Y-000020\n327                                   A01X-000005Y+000000\n327N/C                                A02X+000007Y+000007\n327GND                                A02X+000000Y+000000\n999\n",
+    b"P  UNITS CUST 1\n317GND              U1   -7    D0350PAA00X+001000Y-000020\n327              VIA   U1   -7    D035A01X-000005Y+000000\n327N/C           xxxxxxxxxxxxxxxxxxxxxA02X+000007Y+000007\n327GND                                A02X+000000Y+000000\n999\n",
+    b"C                   \nP  JOB x\nP  UNITS CUST 1  \n317 GND                               A00X+001000Y-000020S0                     \n367yyyyyyyyyyyyyyyyy\n\t \n327                                   A01X-000005Y+000000z\n327N/C                                A02X      7Y     07\n327GND                                A 2X+000000Y+000000\n999\n\n\n",
+];
 
 #[test]
 fn probes_and_names(rt: HostRuntime) -> Result<(), Fail> {
@@ -106,16 +114,11 @@ fn probes_and_names(rt: HostRuntime) -> Result<(), Fail> {
         probe(3, 70_000, 70_000, 2, 1),
         probe(4, 0, 0, 2, 0),
     ];
-    let files: [&[u8]; 3] = [
-        b"P  UNITS CUST 1\n317GND                                A00X+001000Y-000020\n327                                   A01X-000005Y+000000\n327N/C                                A02X+000007Y+000007\n327GND                                A02X+000000Y+000000\n999\n",
-        b"P  UNITS CUST 1\n317GND              U1   -7    D0350PAA00X+001000Y-000020\n327              VIA   U1   -7    D035A01X-000005Y+000000\n327N/C           xxxxxxxxxxxxxxxxxxxxxA02X+000007Y+000007\n327GND                                A02X+000000Y+000000\n999\n",
-        b"C                   \nP  JOB x\nP  UNITS CUST 1  \n317 GND                               A00X+001000Y-000020S0                     \n367yyyyyyyyyyyyyyyyy\n\t \n327                                   A01X-000005Y+000000z\n327N/C                                A02X      7Y     07\n327GND                                A 2X+000000Y+000000\n999\n\n\n",
-    ];
-    for file in files {
+    for file in &FILES {
         if file.len() > MOST_BYTES {
             return Ok(());
         }
-        let netlist = read_netlist(rt.alloc(), file, 2)?;
+        let netlist = read_netlist(rt.alloc(), *file, 2)?;
         assert_eq!(rt; netlist.probes.as_slice(), wanted.as_slice());
         let names = netlist.names.as_slice();
         assert_eq!(rt; names.len(), 2);

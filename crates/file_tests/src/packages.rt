@@ -31,59 +31,60 @@ fn named(alloc: Global, len: usize) -> Result<Vec<u8>, AllocError> {
     Ok(text)
 }
 
+static REFUSED: [(&'static [u8], ManifestFault); 14] = [
+    (b"", ManifestFault::NotJson),
+    (b"{\"copper\":[\"t.gbr\"]", ManifestFault::NotJson),
+    (
+        b"{\"copper\":[\"\xff\"],\"drills\":[],\"netlist\":\"n\"}",
+        ManifestFault::NotJson,
+    ),
+    (b"[]", ManifestFault::BadManifest),
+    (
+        b"{\"copper\":[],\"drills\":[],\"netlist\":\"n\"}",
+        ManifestFault::BadManifest,
+    ),
+    (
+        b"{\"copper\":[\"\"],\"drills\":[],\"netlist\":\"n\"}",
+        ManifestFault::BadManifest,
+    ),
+    (
+        b"{\"copper\":[\"t\"],\"drills\":[],\"netlist\":1}",
+        ManifestFault::BadManifest,
+    ),
+    (
+        b"{\"copper\":[\"t\"],\"drills\":[]}",
+        ManifestFault::BadManifest,
+    ),
+    (
+        b"{\"copper\":[\"t\"],\"drills\":[],\"netlist\":\"n\",\"more\":1}",
+        ManifestFault::BadManifest,
+    ),
+    (
+        b"{\"copper\":[\"t\"],\"drills\":[{\"file\":\"d\",\"from\":1.0,\"to\":1}],\"netlist\":\"n\"}",
+        ManifestFault::BadManifest,
+    ),
+    (
+        b"{\"copper\":[\"t\"],\"drills\":[{\"file\":\"d\",\"from\":1,\"to\":1e0}],\"netlist\":\"n\"}",
+        ManifestFault::BadManifest,
+    ),
+    (
+        b"{\"copper\":[\"t\"],\"drills\":[{\"file\":\"d\",\"from\":0,\"to\":1}],\"netlist\":\"n\"}",
+        ManifestFault::BadManifest,
+    ),
+    (
+        b"{\"copper\":[\"t\",\"b\"],\"drills\":[{\"file\":\"d\",\"from\":2,\"to\":1}],\"netlist\":\"n\"}",
+        ManifestFault::BadManifest,
+    ),
+    (
+        b"{\"copper\":[\"t\"],\"drills\":[{\"file\":\"d\",\"from\":1,\"to\":2}],\"netlist\":\"n\"}",
+        ManifestFault::BadManifest,
+    ),
+];
+
 #[test]
 fn manifests(rt: HostRuntime) -> Result<(), Fail> {
     let alloc = rt.alloc();
-    let refused: [(&[u8], ManifestFault); 14] = [
-        (b"", ManifestFault::NotJson),
-        (b"{\"copper\":[\"t.gbr\"]", ManifestFault::NotJson),
-        (
-            b"{\"copper\":[\"\xff\"],\"drills\":[],\"netlist\":\"n\"}",
-            ManifestFault::NotJson,
-        ),
-        (b"[]", ManifestFault::BadManifest),
-        (
-            b"{\"copper\":[],\"drills\":[],\"netlist\":\"n\"}",
-            ManifestFault::BadManifest,
-        ),
-        (
-            b"{\"copper\":[\"\"],\"drills\":[],\"netlist\":\"n\"}",
-            ManifestFault::BadManifest,
-        ),
-        (
-            b"{\"copper\":[\"t\"],\"drills\":[],\"netlist\":1}",
-            ManifestFault::BadManifest,
-        ),
-        (
-            b"{\"copper\":[\"t\"],\"drills\":[]}",
-            ManifestFault::BadManifest,
-        ),
-        (
-            b"{\"copper\":[\"t\"],\"drills\":[],\"netlist\":\"n\",\"more\":1}",
-            ManifestFault::BadManifest,
-        ),
-        (
-            b"{\"copper\":[\"t\"],\"drills\":[{\"file\":\"d\",\"from\":1.0,\"to\":1}],\"netlist\":\"n\"}",
-            ManifestFault::BadManifest,
-        ),
-        (
-            b"{\"copper\":[\"t\"],\"drills\":[{\"file\":\"d\",\"from\":1,\"to\":1e0}],\"netlist\":\"n\"}",
-            ManifestFault::BadManifest,
-        ),
-        (
-            b"{\"copper\":[\"t\"],\"drills\":[{\"file\":\"d\",\"from\":0,\"to\":1}],\"netlist\":\"n\"}",
-            ManifestFault::BadManifest,
-        ),
-        (
-            b"{\"copper\":[\"t\",\"b\"],\"drills\":[{\"file\":\"d\",\"from\":2,\"to\":1}],\"netlist\":\"n\"}",
-            ManifestFault::BadManifest,
-        ),
-        (
-            b"{\"copper\":[\"t\"],\"drills\":[{\"file\":\"d\",\"from\":1,\"to\":2}],\"netlist\":\"n\"}",
-            ManifestFault::BadManifest,
-        ),
-    ];
-    for (i, (bytes, want)) in refused.iter().enumerate() {
+    for (i, (bytes, want)) in REFUSED.iter().enumerate() {
         assert_eq!(rt; manifest_fault(alloc, *bytes), Some(*want), "row {i}");
     }
     let mut deep = vec![in alloc; b'['; 200]?;
@@ -245,42 +246,43 @@ fn labelled(alloc: Global, package: &mut MemoryPackage) -> Result<String, Fail> 
     Ok(text)
 }
 
+static LABELLED: [(&'static [u8], &'static str); 9] = [
+    (b"X0Y0D03*%TO.N,A*%", "pieces 2"),
+    (
+        b"%TO.N,A*%X0Y0D03*%TD*%X2000000Y0D03*%TO.N,*%X4000000Y0D03*",
+        "pieces 4, 1 0 0 1 A, 3 4000 0 1 N/C",
+    ),
+    (
+        b"%TO.N,B*%X0Y0D03*%TO.N,A*%X2000000Y0D03*%TO.N,B*%X4000000Y1000000D01*",
+        "pieces 4, 1 0 0 1 B, 2 2000 0 1 A, 3 2000 0 1 B",
+    ),
+    (
+        b"%TO.N,A*%G36*X1000000Y0D02*X2000000D01*Y1000000D01*%TO.N,B*%X1000000Y0D01*%TO.N,C*%G37*",
+        "pieces 2, 1 1000 0 1 C",
+    ),
+    (
+        b"%TO.N,A*%%SRX2Y1I3.0J0*%X0Y0D03*%TO.N,B*%X0Y2000000D03*%SR*%X0Y9000000D03*",
+        "pieces 6, 1 0 0 1 A, 2 0 2000 1 B, 3 3000 0 1 A, 4 3000 2000 1 B, 5 0 9000 1 B",
+    ),
+    (
+        b"%TO.N,A*%X0Y0D03*%TD.P*%X2000000Y0D03*",
+        "pieces 3, 1 0 0 1 A, 2 2000 0 1 A",
+    ),
+    (b"%TO.N,\x7f*%X0Y0D03*", "t.gbr 5 38"),
+    (
+        b"%TO.N,\x7f*%X0Y0D04*",
+        "Layer { file: Text { text: \"t.gbr\" }, kind: BadWord, command: 6, at: 46 }",
+    ),
+    (
+        b"%TO.N,A*%X0Y0D03*M02*%TO.N,\x7f*%",
+        "Layer { file: Text { text: \"t.gbr\" }, kind: AfterEnd, command: 8, at: 59 }",
+    ),
+];
+
 #[test]
 fn labels_of_pieces(rt: HostRuntime) -> Result<(), Fail> {
     let alloc = rt.alloc();
-    let rows: [(&[u8], &str); 9] = [
-        (b"X0Y0D03*%TO.N,A*%", "pieces 2"),
-        (
-            b"%TO.N,A*%X0Y0D03*%TD*%X2000000Y0D03*%TO.N,*%X4000000Y0D03*",
-            "pieces 4, 1 0 0 1 A, 3 4000 0 1 N/C",
-        ),
-        (
-            b"%TO.N,B*%X0Y0D03*%TO.N,A*%X2000000Y0D03*%TO.N,B*%X4000000Y1000000D01*",
-            "pieces 4, 1 0 0 1 B, 2 2000 0 1 A, 3 2000 0 1 B",
-        ),
-        (
-            b"%TO.N,A*%G36*X1000000Y0D02*X2000000D01*Y1000000D01*%TO.N,B*%X1000000Y0D01*%TO.N,C*%G37*",
-            "pieces 2, 1 1000 0 1 C",
-        ),
-        (
-            b"%TO.N,A*%%SRX2Y1I3.0J0*%X0Y0D03*%TO.N,B*%X0Y2000000D03*%SR*%X0Y9000000D03*",
-            "pieces 6, 1 0 0 1 A, 2 0 2000 1 B, 3 3000 0 1 A, 4 3000 2000 1 B, 5 0 9000 1 B",
-        ),
-        (
-            b"%TO.N,A*%X0Y0D03*%TD.P*%X2000000Y0D03*",
-            "pieces 3, 1 0 0 1 A, 2 2000 0 1 A",
-        ),
-        (b"%TO.N,\x7f*%X0Y0D03*", "t.gbr 5 38"),
-        (
-            b"%TO.N,\x7f*%X0Y0D04*",
-            "Layer { file: Text { text: \"t.gbr\" }, kind: BadWord, command: 6, at: 46 }",
-        ),
-        (
-            b"%TO.N,A*%X0Y0D03*M02*%TO.N,\x7f*%",
-            "Layer { file: Text { text: \"t.gbr\" }, kind: AfterEnd, command: 8, at: 59 }",
-        ),
-    ];
-    for (i, (words, want)) in rows.iter().enumerate() {
+    for (i, (words, want)) in LABELLED.iter().enumerate() {
         let mut package = with_labels(alloc, *words)?;
         assert_eq!(rt; labelled(alloc, &mut package)?.as_str(), *want, "row {i}");
     }

@@ -68,57 +68,58 @@ fn outcome(alloc: Global, package: &mut MemoryPackage) -> Result<String, Fail> {
     Ok(format!(in alloc; "{given}, {} files", package.calls())?)
 }
 
+static PACKAGES: [(&'static str, &'static [u8], &'static str); 9] = [
+    (
+        "%AMV*20,1,0.2,0,0,1.0,0.5,0*%%ADD11V*%D11*X0Y0D03*",
+        BARRELS,
+        "layers 2 pieces 3 arcs 0 lines 1 probes 2, 5 files",
+    ),
+    (
+        "%AMV*20,1,0.2,0,0,1.0,0.5,45*%%ADD11V*%",
+        b"",
+        "t.gbr 35 Turn 7 68, 2 files",
+    ),
+    (
+        "G75*G02X1000000I500000J0D01*G01X0D01*",
+        BARRELS,
+        "layers 2 pieces 4 arcs 1 lines 0 probes 2, 5 files",
+    ),
+    (
+        "G75*G02X1000000I500000J0D01*",
+        b"M48\nMETRIC\nT1C0.4\n%\nT2\n",
+        "Drill { file: Text { text: \"d.drl\" }, kind: NoTool, line: 5, at: 20 }, 4 files",
+    ),
+    (
+        "G75*G02X1000000D01*",
+        b"",
+        "t.gbr 38 NoOffsets 6 41, 2 files",
+    ),
+    (
+        "G75*G01X1000000I1J1D01*",
+        b"",
+        "t.gbr 39 OffsetsAmiss 6 41, 2 files",
+    ),
+    (
+        "G02X1000000I5J0D01*",
+        b"",
+        "t.gbr 40 NoQuadrants 5 37, 2 files",
+    ),
+    (
+        "G74*G02X10Y10I10J10D01*",
+        b"",
+        "t.gbr 41 NoCentre 6 41, 2 files",
+    ),
+    (
+        "D11*G75*G02X1D01*",
+        b"",
+        "Layer { file: Text { text: \"t.gbr\" }, kind: NoAperture, command: 5, at: 37 }, 2 files",
+    ),
+];
+
 #[test]
 fn real_packages(rt: HostRuntime) -> Result<(), Fail> {
     let alloc = rt.alloc();
-    let rows: [(&str, &[u8], &str); 9] = [
-        (
-            "%AMV*20,1,0.2,0,0,1.0,0.5,0*%%ADD11V*%D11*X0Y0D03*",
-            BARRELS,
-            "layers 2 pieces 3 arcs 0 lines 1 probes 2, 5 files",
-        ),
-        (
-            "%AMV*20,1,0.2,0,0,1.0,0.5,45*%%ADD11V*%",
-            b"",
-            "t.gbr 35 Turn 7 68, 2 files",
-        ),
-        (
-            "G75*G02X1000000I500000J0D01*G01X0D01*",
-            BARRELS,
-            "layers 2 pieces 4 arcs 1 lines 0 probes 2, 5 files",
-        ),
-        (
-            "G75*G02X1000000I500000J0D01*",
-            b"M48\nMETRIC\nT1C0.4\n%\nT2\n",
-            "Drill { file: Text { text: \"d.drl\" }, kind: NoTool, line: 5, at: 20 }, 4 files",
-        ),
-        (
-            "G75*G02X1000000D01*",
-            b"",
-            "t.gbr 38 NoOffsets 6 41, 2 files",
-        ),
-        (
-            "G75*G01X1000000I1J1D01*",
-            b"",
-            "t.gbr 39 OffsetsAmiss 6 41, 2 files",
-        ),
-        (
-            "G02X1000000I5J0D01*",
-            b"",
-            "t.gbr 40 NoQuadrants 5 37, 2 files",
-        ),
-        (
-            "G74*G02X10Y10I10J10D01*",
-            b"",
-            "t.gbr 41 NoCentre 6 41, 2 files",
-        ),
-        (
-            "D11*G75*G02X1D01*",
-            b"",
-            "Layer { file: Text { text: \"t.gbr\" }, kind: NoAperture, command: 5, at: 37 }, 2 files",
-        ),
-    ];
-    for (i, (words, barrels, want)) in rows.iter().enumerate() {
+    for (i, (words, barrels, want)) in PACKAGES.iter().enumerate() {
         let mut package = package_of(alloc, *words, *barrels)?;
         assert_eq!(rt; outcome(alloc, &mut package)?.as_str(), *want, "row {i}");
     }
@@ -140,16 +141,17 @@ fn agrees(alloc: Global, netlist: &[u8]) -> Result<bool, Fail> {
     Ok(has_its_netlist(&real, &board))
 }
 
+static OTHERS: [&'static [u8]; 3] = [
+    b"P  UNITS CUST 1\n317B                                  A00X+000000Y+000000\n999\n",
+    b"P  UNITS CUST 1\n317A                                  A00X+000001Y+000000\n999\n",
+    b"P  UNITS CUST 1\n317A                                  A01X+000000Y+000000\n999\n",
+];
+
 #[test]
 fn netlists_agree(rt: HostRuntime) -> Result<(), Fail> {
     let alloc = rt.alloc();
     assert!(rt; agrees(alloc, NETLIST)?);
-    let rows: [&[u8]; 3] = [
-        b"P  UNITS CUST 1\n317B                                  A00X+000000Y+000000\n999\n",
-        b"P  UNITS CUST 1\n317A                                  A00X+000001Y+000000\n999\n",
-        b"P  UNITS CUST 1\n317A                                  A01X+000000Y+000000\n999\n",
-    ];
-    for (i, netlist) in rows.iter().enumerate() {
+    for (i, netlist) in OTHERS.iter().enumerate() {
         assert!(rt; !agrees(alloc, *netlist)?, "row {i}");
     }
     Ok(())

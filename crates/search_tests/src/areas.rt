@@ -98,136 +98,130 @@ impl Outline {
 /// Two contours, how far the second is moved, and whether the areas share a point.
 type Pair = (Outline, Outline, (i16, i16), bool);
 
-fn pairs() -> [Pair; 60] {
-    [
-        (Wide, High, (0, 0), true),
-        (Wide, High, (5, 0), true),
-        (Wide, High, (6, 0), false),
-        (Wide, High, (5, 5), true),
-        (Wide, High, (5, 6), false),
-        (Wide, Wide, (0, 0), true),
-        (Wide, Wide, (0, 2), true),
-        (Wide, Wide, (0, 3), false),
-        (Wide, Wide, (8, 2), true),
-        (Wide, Wide, (9, 2), false),
-        (Plate, Square, (9, 9), false),
-        (Plate, Square, (7, 7), false),
-        (Plate, Square, (6, 7), true),
-        (Plate, Square, (12, 12), true),
-        (Plate, Square, (11, 11), false),
-        (Plate, Square, (1, 1), true),
-        (Plate, Square, (1, 12), true),
-        (Plate, Square, (20, 20), true),
-        (Plate, Square, (21, 20), false),
-        (Plate, Steps, (0, 0), true),
-        (Plate, Dot, (10, 10), false),
-        (Plate, Dot, (14, 6), true),
-        (Plate, Dot, (3, 10), true),
-        (Plate, Dot, (2, 2), true),
-        (Plate, Thread, (7, 10), true),
-        (Plate, Thread, (-4, 10), true),
-        (Plate, Thread, (-11, 10), false),
-        (Twice, Square, (9, 9), false),
-        (Twice, Square, (18, 9), true),
-        (Twice, Square, (17, 9), false),
-        (Twice, Square, (20, 20), true),
-        (Twice, Twice, (1, 1), true),
-        (Twice, Plate, (0, 0), true),
-        (Bow, Dot, (5, 5), true),
-        (Bow, Dot, (8, 5), true),
-        (Bow, Dot, (5, 8), false),
-        (Bow, Square, (4, 8), false),
-        (Bow, Square, (8, 4), true),
-        (Bow, Wedge, (3, 0), true),
-        (Thread, Thread, (10, 0), true),
-        (Thread, Thread, (11, 0), false),
-        (Thread, Thread, (0, 1), false),
-        (Dot, Dot, (0, 0), true),
-        (Dot, Dot, (0, 1), false),
-        (Wedge, Wedge, (4, 3), false),
-        (Wedge, Wedge, (2, 1), true),
-        (Wedge, Dot, (2, 1), true),
-        (Wedge, Dot, (2, 2), false),
-        (Star, Dot, (0, 0), false),
-        (Star, Dot, (0, 5), true),
-        (Star, Square, (-1, -1), false),
-        (Star, Square, (-1, 2), true),
-        (Star, Star, (0, 0), true),
-        (Angle, Square, (5, 5), false),
-        (Angle, Square, (3, 3), false),
-        (Angle, Square, (2, 2), true),
-        (Angle, Steps, (3, 3), false),
-        (Steps, Square, (6, 2), false),
-        (Steps, Square, (5, 3), true),
-        (Steps, Dot, (5, 5), true),
-    ]
-}
+static PAIRS: [Pair; 60] = [
+    (Wide, High, (0, 0), true),
+    (Wide, High, (5, 0), true),
+    (Wide, High, (6, 0), false),
+    (Wide, High, (5, 5), true),
+    (Wide, High, (5, 6), false),
+    (Wide, Wide, (0, 0), true),
+    (Wide, Wide, (0, 2), true),
+    (Wide, Wide, (0, 3), false),
+    (Wide, Wide, (8, 2), true),
+    (Wide, Wide, (9, 2), false),
+    (Plate, Square, (9, 9), false),
+    (Plate, Square, (7, 7), false),
+    (Plate, Square, (6, 7), true),
+    (Plate, Square, (12, 12), true),
+    (Plate, Square, (11, 11), false),
+    (Plate, Square, (1, 1), true),
+    (Plate, Square, (1, 12), true),
+    (Plate, Square, (20, 20), true),
+    (Plate, Square, (21, 20), false),
+    (Plate, Steps, (0, 0), true),
+    (Plate, Dot, (10, 10), false),
+    (Plate, Dot, (14, 6), true),
+    (Plate, Dot, (3, 10), true),
+    (Plate, Dot, (2, 2), true),
+    (Plate, Thread, (7, 10), true),
+    (Plate, Thread, (-4, 10), true),
+    (Plate, Thread, (-11, 10), false),
+    (Twice, Square, (9, 9), false),
+    (Twice, Square, (18, 9), true),
+    (Twice, Square, (17, 9), false),
+    (Twice, Square, (20, 20), true),
+    (Twice, Twice, (1, 1), true),
+    (Twice, Plate, (0, 0), true),
+    (Bow, Dot, (5, 5), true),
+    (Bow, Dot, (8, 5), true),
+    (Bow, Dot, (5, 8), false),
+    (Bow, Square, (4, 8), false),
+    (Bow, Square, (8, 4), true),
+    (Bow, Wedge, (3, 0), true),
+    (Thread, Thread, (10, 0), true),
+    (Thread, Thread, (11, 0), false),
+    (Thread, Thread, (0, 1), false),
+    (Dot, Dot, (0, 0), true),
+    (Dot, Dot, (0, 1), false),
+    (Wedge, Wedge, (4, 3), false),
+    (Wedge, Wedge, (2, 1), true),
+    (Wedge, Dot, (2, 1), true),
+    (Wedge, Dot, (2, 2), false),
+    (Star, Dot, (0, 0), false),
+    (Star, Dot, (0, 5), true),
+    (Star, Square, (-1, -1), false),
+    (Star, Square, (-1, 2), true),
+    (Star, Star, (0, 0), true),
+    (Angle, Square, (5, 5), false),
+    (Angle, Square, (3, 3), false),
+    (Angle, Square, (2, 2), true),
+    (Angle, Steps, (3, 3), false),
+    (Steps, Square, (6, 2), false),
+    (Steps, Square, (5, 3), true),
+    (Steps, Dot, (5, 5), true),
+];
 
 /// A contour, the ends and the radius of a capsule, and whether the two share a point.
 type Round = (Outline, (i16, i16), (i16, i16), i16, bool);
 
-fn rounds() -> [Round; 24] {
-    [
-        (Plate, (3, 16), (3, 16), 1, true),
-        (Plate, (10, 10), (10, 10), 3, false),
-        (Plate, (10, 10), (10, 10), 4, true),
-        (Plate, (10, 10), (10, 12), 2, true),
-        (Plate, (10, 10), (10, 12), 1, false),
-        (Plate, (1, 1), (2, 2), 0, true),
-        (Plate, (23, 24), (23, 24), 5, true),
-        (Plate, (23, 24), (23, 24), 4, false),
-        (Plate, (7, 7), (13, 13), 0, false),
-        (Plate, (7, 7), (14, 14), 0, true),
-        (Twice, (10, 10), (10, 10), 9, false),
-        (Twice, (10, 10), (10, 10), 10, true),
-        (Wedge, (5, 5), (5, 5), 3, false),
-        (Wedge, (5, 5), (5, 5), 4, false),
-        (Bow, (0, 5), (2, 5), 2, true),
-        (Bow, (0, 5), (3, 5), 1, true),
-        (Bow, (1, 5), (1, 5), 2, true),
-        (Thread, (5, 3), (20, 3), 3, true),
-        (Thread, (5, 3), (20, 3), 2, false),
-        (Dot, (3, 4), (3, 4), 5, true),
-        (Dot, (3, 4), (3, 4), 4, false),
-        (Star, (0, 0), (0, 0), 1, false),
-        (Star, (0, 0), (0, 0), 4, true),
-        (Star, (-30, 0), (30, 0), 0, true),
-    ]
-}
+static ROUNDS: [Round; 24] = [
+    (Plate, (3, 16), (3, 16), 1, true),
+    (Plate, (10, 10), (10, 10), 3, false),
+    (Plate, (10, 10), (10, 10), 4, true),
+    (Plate, (10, 10), (10, 12), 2, true),
+    (Plate, (10, 10), (10, 12), 1, false),
+    (Plate, (1, 1), (2, 2), 0, true),
+    (Plate, (23, 24), (23, 24), 5, true),
+    (Plate, (23, 24), (23, 24), 4, false),
+    (Plate, (7, 7), (13, 13), 0, false),
+    (Plate, (7, 7), (14, 14), 0, true),
+    (Twice, (10, 10), (10, 10), 9, false),
+    (Twice, (10, 10), (10, 10), 10, true),
+    (Wedge, (5, 5), (5, 5), 3, false),
+    (Wedge, (5, 5), (5, 5), 4, false),
+    (Bow, (0, 5), (2, 5), 2, true),
+    (Bow, (0, 5), (3, 5), 1, true),
+    (Bow, (1, 5), (1, 5), 2, true),
+    (Thread, (5, 3), (20, 3), 3, true),
+    (Thread, (5, 3), (20, 3), 2, false),
+    (Dot, (3, 4), (3, 4), 5, true),
+    (Dot, (3, 4), (3, 4), 4, false),
+    (Star, (0, 0), (0, 0), 1, false),
+    (Star, (0, 0), (0, 0), 4, true),
+    (Star, (-30, 0), (30, 0), 0, true),
+];
 
 /// A contour, a spot, and whether the spot lies in the area.
 type Holding = (Outline, (i16, i16), bool);
 
-fn holdings() -> [Holding; 26] {
-    [
-        (Plate, (2, 2), true),
-        (Plate, (3, 10), true),
-        (Plate, (10, 10), false),
-        (Plate, (6, 8), true),
-        (Plate, (14, 14), true),
-        (Plate, (15, 10), true),
-        (Plate, (20, 20), true),
-        (Plate, (21, 10), false),
-        (Plate, (-1, 10), false),
-        (Twice, (10, 10), false),
-        (Twice, (0, 10), true),
-        (Twice, (20, 20), true),
-        (Bow, (5, 5), true),
-        (Bow, (2, 5), true),
-        (Bow, (8, 5), true),
-        (Bow, (5, 3), false),
-        (Bow, (10, 4), true),
-        (Thread, (7, 0), true),
-        (Thread, (7, 1), false),
-        (Dot, (0, 0), true),
-        (Dot, (1, 0), false),
-        (Star, (0, 0), false),
-        (Star, (0, 6), true),
-        (Star, (8, -8), false),
-        (Wedge, (2, 1), true),
-        (Wedge, (2, 2), false),
-    ]
-}
+static HOLDINGS: [Holding; 26] = [
+    (Plate, (2, 2), true),
+    (Plate, (3, 10), true),
+    (Plate, (10, 10), false),
+    (Plate, (6, 8), true),
+    (Plate, (14, 14), true),
+    (Plate, (15, 10), true),
+    (Plate, (20, 20), true),
+    (Plate, (21, 10), false),
+    (Plate, (-1, 10), false),
+    (Twice, (10, 10), false),
+    (Twice, (0, 10), true),
+    (Twice, (20, 20), true),
+    (Bow, (5, 5), true),
+    (Bow, (2, 5), true),
+    (Bow, (8, 5), true),
+    (Bow, (5, 3), false),
+    (Bow, (10, 4), true),
+    (Thread, (7, 0), true),
+    (Thread, (7, 1), false),
+    (Dot, (0, 0), true),
+    (Dot, (1, 0), false),
+    (Star, (0, 0), false),
+    (Star, (0, 6), true),
+    (Star, (8, -8), false),
+    (Wedge, (2, 1), true),
+    (Wedge, (2, 2), false),
+];
 
 const FRAME: Frame = Frame {
     left: -1_000_000,
@@ -261,7 +255,7 @@ struct View {
     turn: bool,
 }
 
-const VIEWS: [View; 6] = [
+static VIEWS: [View; 6] = [
     View {
         parts: 1,
         all: true,
@@ -466,10 +460,11 @@ fn holds(area: &Area, p: Corner) -> Option<bool> {
 
 #[test]
 fn pairs_of_areas(rt: HostRuntime) -> Result<(), Fail> {
-    for (first, second, by, want) in pairs() {
-        for view in VIEWS {
-            let first = contour(rt.alloc(), first.corners(), (0, 0), view)?.expect(&rt, "first");
-            let second = contour(rt.alloc(), second.corners(), by, view)?.expect(&rt, "second");
+    for row in &PAIRS {
+        let (first, second, by, want) = *row;
+        for view in &VIEWS {
+            let first = contour(rt.alloc(), first.corners(), (0, 0), *view)?.expect(&rt, "first");
+            let second = contour(rt.alloc(), second.corners(), by, *view)?.expect(&rt, "second");
             assert!(rt; areas_share(&first, &second) == Some(want));
             assert!(rt; areas_share(&second, &first) == Some(want));
         }
@@ -479,16 +474,18 @@ fn pairs_of_areas(rt: HostRuntime) -> Result<(), Fail> {
 
 #[test]
 fn areas_with_capsules_and_spots(rt: HostRuntime) -> Result<(), Fail> {
-    for view in VIEWS {
-        for (outline, a, b, r, want) in rounds() {
-            let area = contour(rt.alloc(), outline.corners(), (0, 0), view)?.expect(&rt, "area");
-            let track = track_of(a, b, r, view);
+    for view in &VIEWS {
+        for row in &ROUNDS {
+            let (outline, a, b, r, want) = *row;
+            let area = contour(rt.alloc(), outline.corners(), (0, 0), *view)?.expect(&rt, "area");
+            let track = track_of(a, b, r, *view);
             assert!(rt; area_shares(&area, track) == Some(want));
             assert!(rt; capsule_shares(track, &area) == Some(want));
         }
-        for (outline, p, want) in holdings() {
-            let area = contour(rt.alloc(), outline.corners(), (0, 0), view)?.expect(&rt, "area");
-            assert!(rt; holds(&area, spot(p, view)) == Some(want));
+        for row in &HOLDINGS {
+            let (outline, p, want) = *row;
+            let area = contour(rt.alloc(), outline.corners(), (0, 0), *view)?.expect(&rt, "area");
+            assert!(rt; holds(&area, spot(p, *view)) == Some(want));
         }
     }
     Ok(())

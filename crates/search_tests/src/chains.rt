@@ -14,39 +14,35 @@ fn arc(centre: (i64, i64), start: (i64, i64), end: (i64, i64)) -> Arc {
     }
 }
 
-fn quarter() -> [Spot; 7] {
-    [
-        spot((3000, 4000)),
-        spot((1581, 4743)),
-        spot((0, 5000)),
-        spot((-1149, 4866)),
-        spot((-2236, 4472)),
-        spot((-3204, 3839)),
-        spot((-4000, 3000)),
-    ]
-}
+static QUARTER: [Spot; 7] = [
+    Spot { x: 3000, y: 4000 },
+    Spot { x: 1581, y: 4743 },
+    Spot { x: 0, y: 5000 },
+    Spot { x: -1149, y: 4866 },
+    Spot { x: -2236, y: 4472 },
+    Spot { x: -3204, y: 3839 },
+    Spot { x: -4000, y: 3000 },
+];
 
-fn round() -> [Spot; 17] {
-    [
-        spot((5000, 0)),
-        spot((4619, 1914)),
-        spot((3536, 3536)),
-        spot((1914, 4619)),
-        spot((0, 5000)),
-        spot((-1914, 4619)),
-        spot((-3536, 3536)),
-        spot((-4619, 1914)),
-        spot((-5000, 0)),
-        spot((-4619, -1914)),
-        spot((-3536, -3536)),
-        spot((-1914, -4619)),
-        spot((0, -5000)),
-        spot((1914, -4619)),
-        spot((3536, -3536)),
-        spot((4619, -1914)),
-        spot((5000, 0)),
-    ]
-}
+static ROUND: [Spot; 17] = [
+    Spot { x: 5000, y: 0 },
+    Spot { x: 4619, y: 1914 },
+    Spot { x: 3536, y: 3536 },
+    Spot { x: 1914, y: 4619 },
+    Spot { x: 0, y: 5000 },
+    Spot { x: -1914, y: 4619 },
+    Spot { x: -3536, y: 3536 },
+    Spot { x: -4619, y: 1914 },
+    Spot { x: -5000, y: 0 },
+    Spot { x: -4619, y: -1914 },
+    Spot { x: -3536, y: -3536 },
+    Spot { x: -1914, y: -4619 },
+    Spot { x: 0, y: -5000 },
+    Spot { x: 1914, y: -4619 },
+    Spot { x: 3536, y: -3536 },
+    Spot { x: 4619, y: -1914 },
+    Spot { x: 5000, y: 0 },
+];
 
 /// Whether the chain is taken below with the radius `low` and no greater one, and above with `high` and no lesser one.
 fn lies_between(a: &Arc, chain: &[Spot], low: u64, high: u64) -> bool {
@@ -59,23 +55,22 @@ fn lies_between(a: &Arc, chain: &[Spot], low: u64, high: u64) -> bool {
 #[test]
 fn a_quarter(rt: HostRuntime) {
     let mut a = arc((0, 0), (3000, 4000), (-4000, 3000));
-    assert!(rt; lies_between(&a, &quarter(), 935, 1065));
+    assert!(rt; lies_between(&a, &QUARTER, 935, 1065));
     a.width = 2001;
-    assert!(rt; lies_between(&a, &quarter(), 935, 1066));
+    assert!(rt; lies_between(&a, &QUARTER, 935, 1066));
 }
 
 #[test]
 fn a_half_turn_and_more(rt: HostRuntime) {
-    let chain = round();
     let half = arc((0, 0), (5000, 0), (-5000, 0));
-    assert!(rt; lies_between(&half, &chain[..9], 903, 1097));
+    assert!(rt; lies_between(&half, &ROUND[..9], 903, 1097));
     let more = arc((0, 0), (5000, 0), (0, -5000));
-    assert!(rt; lies_between(&more, &chain[..13], 903, 1097));
+    assert!(rt; lies_between(&more, &ROUND[..13], 903, 1097));
 }
 
 #[test]
 fn nearly_a_whole_turn(rt: HostRuntime) {
-    let mut chain = round();
+    let mut chain = ROUND;
     chain[16] = spot((4800, -1400));
     let a = arc((0, 0), (5000, 0), (4800, -1400));
     assert!(rt; lies_between(&a, &chain, 903, 1097));
@@ -85,7 +80,7 @@ fn nearly_a_whole_turn(rt: HostRuntime) {
 /// through both from the distances of the ends. Where it is further than half the pen, nothing is sure.
 #[test]
 fn nearly_a_whole_turn_with_unlike_ends(rt: HostRuntime) {
-    let mut chain = round();
+    let mut chain = ROUND;
     chain[16] = spot((4999, -100));
     let one_off = arc((0, 0), (5000, 0), (4999, -100));
     assert!(rt; lies_between(&one_off, &chain, 902, 1098));
@@ -104,7 +99,7 @@ fn nearly_a_whole_turn_with_unlike_ends(rt: HostRuntime) {
 /// Some 338 degrees.
 #[test]
 fn unlike_ends_further_apart(rt: HostRuntime) {
-    let mut chain = round();
+    let mut chain = ROUND;
     chain[15] = spot((4619, -1920));
     let a = arc((0, 0), (5000, 0), (4619, -1920));
     assert!(rt; lies_between(&a, &chain[..16], 894, 1106));
@@ -113,25 +108,24 @@ fn unlike_ends_further_apart(rt: HostRuntime) {
 /// A whole turn, also where no spot is opposite to the start, and the other way round.
 #[test]
 fn a_whole_turn(rt: HostRuntime) {
-    let chain = round();
     let a = arc((0, 0), (5000, 0), (5000, 0));
-    assert!(rt; lies_between(&a, &chain, 903, 1097));
-    let mut other = chain;
+    assert!(rt; lies_between(&a, &ROUND, 903, 1097));
+    let mut other = ROUND;
     other[8] = spot((-4900, 100));
     assert!(rt; lies_between(&a, &other, 839, 1161));
     let back = arc((0, 0), (0, 5000), (5000, 0));
-    assert!(rt; !is_below(&back, &chain[..5], 0) && !is_above(&back, &chain[..5], 9000));
+    assert!(rt; !is_below(&back, &ROUND[..5], 0) && !is_above(&back, &ROUND[..5], 9000));
 }
 
 /// Ends at two distances: the allowance is reckoned from both. In one direction they may be a whole turn
 /// apart or none.
 #[test]
 fn two_distances(rt: HostRuntime) {
-    let mut chain = round();
+    let mut chain = ROUND;
     chain[4] = spot((0, 5010));
     let a = arc((0, 0), (5000, 0), (0, 5010));
     assert!(rt; lies_between(&a, &chain[..5], 893, 1107));
-    let mut loops = round();
+    let mut loops = ROUND;
     loops[16] = spot((5010, 0));
     let b = arc((0, 0), (5000, 0), (5010, 0));
     assert!(rt; !is_below(&b, &loops, 0) && is_above(&b, &loops, 1107));
@@ -140,7 +134,7 @@ fn two_distances(rt: HostRuntime) {
 /// Past a half turn a curve may leave both distances.
 #[test]
 fn two_distances_past_a_half_turn(rt: HostRuntime) {
-    let mut chain = round();
+    let mut chain = ROUND;
     chain[12] = spot((0, -5010));
     let a = arc((0, 0), (5000, 0), (0, -5010));
     assert!(rt; lies_between(&a, &chain[..13], 883, 1117));
@@ -157,14 +151,13 @@ fn ends_too_unlike(rt: HostRuntime) {
 /// A chain that goes past an end, one that stops before it, one that leaves a spot out, and one spot alone.
 #[test]
 fn too_long_and_too_short(rt: HostRuntime) {
-    let chain = round();
     let a = arc((0, 0), (5000, 0), (0, 5000));
-    assert!(rt; lies_between(&a, &chain[..5], 903, 1097));
-    assert!(rt; !is_below(&a, &chain[..6], 0) && !is_above(&a, &chain[..4], 9000));
-    let mut gap = chain;
-    gap[1] = chain[2];
-    gap[2] = chain[3];
-    gap[3] = chain[4];
+    assert!(rt; lies_between(&a, &ROUND[..5], 903, 1097));
+    assert!(rt; !is_below(&a, &ROUND[..6], 0) && !is_above(&a, &ROUND[..4], 9000));
+    let mut gap = ROUND;
+    gap[1] = ROUND[2];
+    gap[2] = ROUND[3];
+    gap[3] = ROUND[4];
     assert!(rt; lies_between(&a, &gap[..4], 619, 1381) && !is_below(&a, &gap[..4], 903));
-    assert!(rt; is_below(&a, &chain[..1], 1000) && !is_above(&a, &chain[..1], 9000));
+    assert!(rt; is_below(&a, &ROUND[..1], 1000) && !is_above(&a, &ROUND[..1], 9000));
 }

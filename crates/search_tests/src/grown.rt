@@ -29,46 +29,42 @@ enum Form {
 /// Two forms, and the least whole number that is not under their distance.
 type Pair = (Form, Form, i16);
 
-fn pairs() -> [Pair; 20] {
-    [
-        (Bar((0, 0), (0, 0), 5), Bar((30, 40), (30, 40), 5), 40),
-        (Bar((0, 0), (10, 0), 1), Bar((0, 10), (10, 10), 2), 7),
-        (Bar((0, 0), (0, 0), 0), Bar((1, 1), (1, 1), 0), 2),
-        (Bar((0, 0), (10, 0), 5), Bar((5, 0), (5, 30), 1), 0),
-        (Square((0, 0), 10), Square((13, 14), 10), 5),
-        (Square((0, 0), 10), Square((20, 3), 10), 10),
-        (Square((0, 0), 10), Square((11, 11), 10), 2),
-        (Square((0, 0), 10), Square((0, 0), 10), 0),
-        (Square((0, 0), 10), Square((10, 10), 10), 0),
-        (Square((0, 0), 30), Square((10, 10), 5), 0),
-        (Hollow, Square((40, 40), 20), 20),
-        (Hollow, Square((25, 40), 10), 5),
-        (Hollow, Square((90, 90), 5), 0),
-        (Hollow, Square((103, 104), 10), 5),
-        (Hollow, Bar((50, 50), (50, 50), 10), 20),
-        (Hollow, Bar((30, 30), (70, 70), 3), 7),
-        (Square((0, 0), 10), Bar((20, 5), (40, 5), 3), 7),
-        (Square((0, 0), 10), Bar((13, 14), (40, 50), 1), 4),
-        (Square((0, 0), 10), Bar((5, 5), (5, 5), 1), 0),
-        (Square((0, 0), 10), Bar((11, 11), (11, 11), 0), 2),
-    ]
-}
+static PAIRS: [Pair; 20] = [
+    (Bar((0, 0), (0, 0), 5), Bar((30, 40), (30, 40), 5), 40),
+    (Bar((0, 0), (10, 0), 1), Bar((0, 10), (10, 10), 2), 7),
+    (Bar((0, 0), (0, 0), 0), Bar((1, 1), (1, 1), 0), 2),
+    (Bar((0, 0), (10, 0), 5), Bar((5, 0), (5, 30), 1), 0),
+    (Square((0, 0), 10), Square((13, 14), 10), 5),
+    (Square((0, 0), 10), Square((20, 3), 10), 10),
+    (Square((0, 0), 10), Square((11, 11), 10), 2),
+    (Square((0, 0), 10), Square((0, 0), 10), 0),
+    (Square((0, 0), 10), Square((10, 10), 10), 0),
+    (Square((0, 0), 30), Square((10, 10), 5), 0),
+    (Hollow, Square((40, 40), 20), 20),
+    (Hollow, Square((25, 40), 10), 5),
+    (Hollow, Square((90, 90), 5), 0),
+    (Hollow, Square((103, 104), 10), 5),
+    (Hollow, Bar((50, 50), (50, 50), 10), 20),
+    (Hollow, Bar((30, 30), (70, 70), 3), 7),
+    (Square((0, 0), 10), Bar((20, 5), (40, 5), 3), 7),
+    (Square((0, 0), 10), Bar((13, 14), (40, 50), 1), 4),
+    (Square((0, 0), 10), Bar((5, 5), (5, 5), 1), 0),
+    (Square((0, 0), 10), Bar((11, 11), (11, 11), 0), 2),
+];
 
 /// A form, a spot and the least whole number that is not under their distance.
 type Holding = (Form, (i16, i16), i16);
 
-fn holdings() -> [Holding; 8] {
-    [
-        (Bar((0, 0), (10, 0), 5), (5, 5), 0),
-        (Bar((0, 0), (10, 0), 5), (5, 12), 7),
-        (Bar((0, 0), (10, 0), 5), (40, 40), 45),
-        (Square((0, 0), 10), (3, 4), 0),
-        (Square((0, 0), 10), (13, 14), 5),
-        (Hollow, (50, 50), 30),
-        (Hollow, (25, 50), 5),
-        (Hollow, (10, 50), 0),
-    ]
-}
+static HOLDINGS: [Holding; 8] = [
+    (Bar((0, 0), (10, 0), 5), (5, 5), 0),
+    (Bar((0, 0), (10, 0), 5), (5, 12), 7),
+    (Bar((0, 0), (10, 0), 5), (40, 40), 45),
+    (Square((0, 0), 10), (3, 4), 0),
+    (Square((0, 0), 10), (13, 14), 5),
+    (Hollow, (50, 50), 30),
+    (Hollow, (25, 50), 5),
+    (Hollow, (10, 50), 0),
+];
 
 const FRAME: Frame = Frame {
     left: -1_000_000,
@@ -176,7 +172,8 @@ fn holds(grown: &Fat<'_>, p: Spot) -> Option<bool>
 
 #[test]
 fn grown_pairs(rt: HostRuntime) -> Result<(), Fail> {
-    for (first, second, gap) in pairs() {
+    for row in &PAIRS {
+        let (first, second, gap) = *row;
         let first = shape(rt.alloc(), first)?.expect(&rt, "first");
         let second = shape(rt.alloc(), second)?.expect(&rt, "second");
         for part in [0, 1, gap / 2, gap] {
@@ -196,7 +193,8 @@ fn grown_pairs(rt: HostRuntime) -> Result<(), Fail> {
 
 #[test]
 fn grown_spots(rt: HostRuntime) -> Result<(), Fail> {
-    for (form, at, gap) in holdings() {
+    for row in &HOLDINGS {
+        let (form, at, gap) = *row;
         let form = shape(rt.alloc(), form)?.expect(&rt, "form");
         assert!(rt; holds(&fat(&form, gap), spot(at)) == Some(true));
         let less = fat(&form, gap.wrapping_sub(1));

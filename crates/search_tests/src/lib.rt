@@ -1,4 +1,4 @@
-//! Tests of areas, arcs, fields, gaps and reports, through their public calls.
+//! Tests of areas, arcs, fields, gaps, nets and reports, through their public calls.
 #![tactic(auto)]
 
 #[cfg(test)]
@@ -9,5 +9,7 @@ mod chains;
 mod fields;
 #[cfg(test)]
 mod grown;
+#[cfg(test)]
+mod nets;
 #[cfg(test)]
 mod reports;

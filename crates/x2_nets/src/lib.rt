@@ -13,6 +13,3 @@ mod said;
 
 pub use label_table::{Label, label_among, label_at};
 pub use listing::{LabelFault, labels};
-
-#[cfg(test)]
-mod tests;

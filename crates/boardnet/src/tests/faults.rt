@@ -5,37 +5,35 @@ use std::alloc::Global;
 use std::test::Fail;
 
 // Words that are no command.
-fn wrong() -> [&'static [&'static str]; 19] {
-    [
-        &[],
-        &["check"],
-        &["check", "m.json", "x"],
-        &["check", "m.json", "2"],
-        &["check", "m.json", "01"],
-        &["check", "m.json", "+1"],
-        &["check", "m.json", "1 "],
-        &["check", "m.json", ""],
-        &["check", "", "1"],
-        &["check", "m.json", "1", "1"],
-        &["trial", "01", "5"],
-        &["trial", "1"],
-        &["trial", "+1", "5"],
-        &["trial", "1", "05"],
-        &["check", ""],
-        &["audit"],
-        &["audit", "m.json"],
-        &["audit", "m.json", ""],
-        &["audit", "m.json", "r.txt", "x"],
-    ]
-}
+static WRONG: [&'static [&'static str]; 19] = [
+    &[],
+    &["check"],
+    &["check", "m.json", "x"],
+    &["check", "m.json", "2"],
+    &["check", "m.json", "01"],
+    &["check", "m.json", "+1"],
+    &["check", "m.json", "1 "],
+    &["check", "m.json", ""],
+    &["check", "", "1"],
+    &["check", "m.json", "1", "1"],
+    &["trial", "01", "5"],
+    &["trial", "1"],
+    &["trial", "+1", "5"],
+    &["trial", "1", "05"],
+    &["check", ""],
+    &["audit"],
+    &["audit", "m.json"],
+    &["audit", "m.json", ""],
+    &["audit", "m.json", "r.txt", "x"],
+];
 
 #[test]
 fn words_that_are_no_command(rt: HostRuntime) -> Result<(), Fail> {
     let alloc = rt.alloc();
-    for given in wrong() {
+    for given in &WRONG {
         let mut package = one_layer(alloc, TIE, ENDS)?;
         let line = "boardnet: words not understood\n";
-        wants(alloc, given, &mut package, 2, line, "")?;
+        wants(alloc, *given, &mut package, 2, line, "")?;
         assert_eq!(rt; package.calls(), 0);
     }
     Ok(())

@@ -167,138 +167,136 @@ pub const BURIED_FILES: &[(&str, &[&str])] = &[
 pub const BURIED_REPORT: &[u8] =
     b"boardnet 1\npieces 5\nnets 3\nnet 0 0\nnet 1 1 4:1 2:4\nnet 2 3\nnames 1\nname 0 A\npoints 2\npoint 0 1 1 0 0\npoint 1 1 4 0 2\nopens 1\nopen 0 0 2 1\nshorts 0\nmissing 0\ndiffers\n";
 
-fn packages() -> [Files; 9] {
-    [
-        // a buried barrel
-        (
-            BURIED_FILES,
-            1,
-            b"boardnet: differs, opens 1, shorts 0, missing 0\n",
-            BURIED_REPORT,
-        ),
-        // a file that is not held
-        (
-            &[
-                ("m.json", &[BURIED]),
-                ("l1.gbr", DISC),
-                ("l3.gbr", DISC),
-                ("l4.gbr", DISC),
-                ("d.drl", BARREL),
-                ("n.ipc", THROUGH_POINT),
-            ],
-            4,
-            b"boardnet: l2.gbr: cannot be read\n",
-            b"",
-        ),
-        // routs
-        (
-            &[
-                ("m.json", &[ROUTED]),
-                ("t.gbr", TWO_DISCS),
-                (
-                    "d.drl",
-                    &[
-                        "M48",
-                        "METRIC",
-                        "T1C0.5",
-                        "%",
-                        "T1",
-                        "G00X0.0Y0.0",
-                        "M15",
-                        "G01X5.0Y0.0",
-                        "M16",
-                        "G05",
-                        "M30",
-                    ],
-                ),
-                ("n.ipc", NO_POINTS),
-            ],
-            0,
-            b"boardnet: agrees\n",
-            b"nets 1\nnet 0 0 2:0 1:2\n",
-        ),
-        (
-            &[
-                ("m.json", &[ROUTED]),
-                ("t.gbr", TWO_DISCS),
-                (
-                    "d.drl",
-                    &[
-                        "M48",
-                        "METRIC",
-                        "T1C0.5",
-                        "%",
-                        "T1",
-                        "G00X0.0Y0.0",
-                        "M15",
-                        "G02X5.0Y0.0A2.5",
-                        "M16",
-                        "G05",
-                        "M30",
-                    ],
-                ),
-                ("n.ipc", NO_POINTS),
-            ],
-            3,
-            b"boardnet: d.drl: drill 9 ArcRout at line 8, byte 39\n",
-            b"",
-        ),
-        (
-            &[
-                ("m.json", &[ROUTED]),
-                ("t.gbr", TWO_DISCS),
-                (
-                    "d.drl",
-                    &["M48", "METRIC", "T1C0.5", "%", "T1", "X0Y0", "M30"],
-                ),
-                ("n.ipc", NO_POINTS),
-            ],
-            3,
-            b"boardnet: d.drl: drill 6 ImpliedDecimals at line 6, byte 23\n",
-            b"",
-        ),
-        // nothing at all
-        (
-            &[
-                ("m.json", &[MANIFEST]),
-                ("t.gbr", &["%FSLAX46Y46*%", "%MOMM*%", "M02*"]),
-                ("n.ipc", &["999"]),
-            ],
-            0,
-            b"boardnet: agrees\n",
-            b"boardnet 1\npieces 0\nnets 0\nnames 0\npoints 0\nopens 0\nshorts 0\nmissing 0\nagrees\n",
-        ),
-        // manifests that are none
-        (
-            &[("m.json", &["{\"copper\":[\"t.gbr\"]"])],
-            3,
-            b"boardnet: m.json: not JSON\n",
-            b"",
-        ),
-        (
-            &[(
-                "m.json",
-                &["{\"copper\":[],\"drills\":[],\"netlist\":\"n.ipc\"}"],
-            )],
-            3,
-            b"boardnet: m.json: not a manifest\n",
-            b"",
-        ),
-        // ordinary use
-        (
-            &[
-                ("m.json", KICAD_MANIFEST),
-                ("F_Cu.gbr", KICAD_TOP),
-                ("B_Cu.gbr", KICAD_BOTTOM),
-                ("PTH.drl", KICAD_DRILL),
-                ("n.d356", KICAD_NETLIST),
-            ],
-            0,
-            b"boardnet: agrees\n",
-            KICAD_REPORT,
-        ),
-    ]
-}
+static PACKAGES: [Files; 9] = [
+    // a buried barrel
+    (
+        BURIED_FILES,
+        1,
+        b"boardnet: differs, opens 1, shorts 0, missing 0\n",
+        BURIED_REPORT,
+    ),
+    // a file that is not held
+    (
+        &[
+            ("m.json", &[BURIED]),
+            ("l1.gbr", DISC),
+            ("l3.gbr", DISC),
+            ("l4.gbr", DISC),
+            ("d.drl", BARREL),
+            ("n.ipc", THROUGH_POINT),
+        ],
+        4,
+        b"boardnet: l2.gbr: cannot be read\n",
+        b"",
+    ),
+    // routs
+    (
+        &[
+            ("m.json", &[ROUTED]),
+            ("t.gbr", TWO_DISCS),
+            (
+                "d.drl",
+                &[
+                    "M48",
+                    "METRIC",
+                    "T1C0.5",
+                    "%",
+                    "T1",
+                    "G00X0.0Y0.0",
+                    "M15",
+                    "G01X5.0Y0.0",
+                    "M16",
+                    "G05",
+                    "M30",
+                ],
+            ),
+            ("n.ipc", NO_POINTS),
+        ],
+        0,
+        b"boardnet: agrees\n",
+        b"nets 1\nnet 0 0 2:0 1:2\n",
+    ),
+    (
+        &[
+            ("m.json", &[ROUTED]),
+            ("t.gbr", TWO_DISCS),
+            (
+                "d.drl",
+                &[
+                    "M48",
+                    "METRIC",
+                    "T1C0.5",
+                    "%",
+                    "T1",
+                    "G00X0.0Y0.0",
+                    "M15",
+                    "G02X5.0Y0.0A2.5",
+                    "M16",
+                    "G05",
+                    "M30",
+                ],
+            ),
+            ("n.ipc", NO_POINTS),
+        ],
+        3,
+        b"boardnet: d.drl: drill 9 ArcRout at line 8, byte 39\n",
+        b"",
+    ),
+    (
+        &[
+            ("m.json", &[ROUTED]),
+            ("t.gbr", TWO_DISCS),
+            (
+                "d.drl",
+                &["M48", "METRIC", "T1C0.5", "%", "T1", "X0Y0", "M30"],
+            ),
+            ("n.ipc", NO_POINTS),
+        ],
+        3,
+        b"boardnet: d.drl: drill 6 ImpliedDecimals at line 6, byte 23\n",
+        b"",
+    ),
+    // nothing at all
+    (
+        &[
+            ("m.json", &[MANIFEST]),
+            ("t.gbr", &["%FSLAX46Y46*%", "%MOMM*%", "M02*"]),
+            ("n.ipc", &["999"]),
+        ],
+        0,
+        b"boardnet: agrees\n",
+        b"boardnet 1\npieces 0\nnets 0\nnames 0\npoints 0\nopens 0\nshorts 0\nmissing 0\nagrees\n",
+    ),
+    // manifests that are none
+    (
+        &[("m.json", &["{\"copper\":[\"t.gbr\"]"])],
+        3,
+        b"boardnet: m.json: not JSON\n",
+        b"",
+    ),
+    (
+        &[(
+            "m.json",
+            &["{\"copper\":[],\"drills\":[],\"netlist\":\"n.ipc\"}"],
+        )],
+        3,
+        b"boardnet: m.json: not a manifest\n",
+        b"",
+    ),
+    // ordinary use
+    (
+        &[
+            ("m.json", KICAD_MANIFEST),
+            ("F_Cu.gbr", KICAD_TOP),
+            ("B_Cu.gbr", KICAD_BOTTOM),
+            ("PTH.drl", KICAD_DRILL),
+            ("n.d356", KICAD_NETLIST),
+        ],
+        0,
+        b"boardnet: agrees\n",
+        KICAD_REPORT,
+    ),
+];
 
 /// The example of KiCad with these lines of its lower layer, and without its netlist.
 pub fn kicad(alloc: Global, bottom: &[&str]) -> Result<MemoryPackage, NoMemory> {
@@ -316,7 +314,8 @@ pub fn kicad(alloc: Global, bottom: &[&str]) -> Result<MemoryPackage, NoMemory> 
 #[test]
 fn worked_packages(rt: HostRuntime) -> Result<(), Fail> {
     let alloc = rt.alloc();
-    for (given, status, line, part) in packages() {
+    for row in &PACKAGES {
+        let (given, status, line, part) = *row;
         let mut package = files(alloc, given)?;
         assert!(rt; answers(alloc, &mut package, status, line, part)?);
     }

@@ -34,92 +34,92 @@ fn replaced(alloc: Global, text: &[u8], part: &[u8], by: &[u8]) -> Result<Vec<u8
     Ok(changed)
 }
 
-// A change of the report, two parts with what stands in the place of each, and what the audit says then.
-type Change = ([(&'static [u8], &'static [u8]); 2], Ruling);
+// A part of the report, and what stands in its place.
+type Swap = (&'static [u8], &'static [u8]);
 
-const NOTHING: (&[u8], &[u8]) = (b"boardnet 1", b"boardnet 1");
+// A change of the report, two parts with what stands in the place of each, and what the audit says then.
+type Change = ((Swap, Swap), Ruling);
+
+const NOTHING: Swap = (b"boardnet 1", b"boardnet 1");
 
 fn audits(alloc: Global, changes: &[Change]) -> Result<(), Fail> {
     for (parts, ruling) in changes {
-        let once = replaced(alloc, SHORT_REPORT, parts[0].0, parts[0].1)?;
-        let report = replaced(alloc, once.as_slice(), parts[1].0, parts[1].1)?;
+        let (first, second) = *parts;
+        let once = replaced(alloc, SHORT_REPORT, first.0, first.1)?;
+        let report = replaced(alloc, once.as_slice(), second.0, second.1)?;
         let mut package = one_layer(alloc, SHORTED, THREE)?;
         rules(alloc, &mut package, report.as_slice(), *ruling)?;
     }
     Ok(())
 }
 
-fn changes() -> [Change; 14] {
-    [
-        ([NOTHING, NOTHING], Ruling::True),
-        (
-            [(b"4:2", b"4:3"), (b"branch 2 2 4 2", b"branch 2 2 4 3 1")],
-            Ruling::True,
-        ),
-        ([(b"4:2", b"4:0"), NOTHING], Ruling::Untrue(1)),
-        ([(b" 4:2", b""), NOTHING], Ruling::Untrue(2)),
-        (
-            [(b"nets 1", b"nets 2"), (b" 4:2", b"\nnet 1 4")],
-            Ruling::Untrue(3),
-        ),
-        (
-            [(b"point 0 1 1 0 0", b"point 0 1 1 0 -"), NOTHING],
-            Ruling::Untrue(4),
-        ),
-        (
-            [(b"opens 0", b"opens 1\nopen 0 0 0 0"), NOTHING],
-            Ruling::Untrue(5),
-        ),
-        (
-            [(SHORTS, b"shorts 0\n"), (b"differs", b"agrees")],
-            Ruling::Untrue(6),
-        ),
-        ([(SHORTS, b"shorts 0\n"), NOTHING], Ruling::NoReport),
-        (
-            [(b"branch 2 2 4 2", b"branch 2 2 4 3 1"), NOTHING],
-            Ruling::Untrue(7),
-        ),
-        (
-            [(b"missing 0", b"missing 1\nbare 0"), NOTHING],
-            Ruling::Untrue(8),
-        ),
-        ([(b"name 0 A", b"name 0 Z"), NOTHING], Ruling::Untrue(9)),
-        ([(b"differs\n", b"differs"), NOTHING], Ruling::NoReport),
-        ([(b"boardnet 1", b"boardnet 2"), NOTHING], Ruling::NoReport),
-    ]
-}
+static CHANGES: [Change; 14] = [
+    ((NOTHING, NOTHING), Ruling::True),
+    (
+        ((b"4:2", b"4:3"), (b"branch 2 2 4 2", b"branch 2 2 4 3 1")),
+        Ruling::True,
+    ),
+    (((b"4:2", b"4:0"), NOTHING), Ruling::Untrue(1)),
+    (((b" 4:2", b""), NOTHING), Ruling::Untrue(2)),
+    (
+        ((b"nets 1", b"nets 2"), (b" 4:2", b"\nnet 1 4")),
+        Ruling::Untrue(3),
+    ),
+    (
+        ((b"point 0 1 1 0 0", b"point 0 1 1 0 -"), NOTHING),
+        Ruling::Untrue(4),
+    ),
+    (
+        ((b"opens 0", b"opens 1\nopen 0 0 0 0"), NOTHING),
+        Ruling::Untrue(5),
+    ),
+    (
+        ((SHORTS, b"shorts 0\n"), (b"differs", b"agrees")),
+        Ruling::Untrue(6),
+    ),
+    (((SHORTS, b"shorts 0\n"), NOTHING), Ruling::NoReport),
+    (
+        ((b"branch 2 2 4 2", b"branch 2 2 4 3 1"), NOTHING),
+        Ruling::Untrue(7),
+    ),
+    (
+        ((b"missing 0", b"missing 1\nbare 0"), NOTHING),
+        Ruling::Untrue(8),
+    ),
+    (((b"name 0 A", b"name 0 Z"), NOTHING), Ruling::Untrue(9)),
+    (((b"differs\n", b"differs"), NOTHING), Ruling::NoReport),
+    (((b"boardnet 1", b"boardnet 2"), NOTHING), Ruling::NoReport),
+];
 
 #[test]
 fn audits_of_a_report(rt: HostRuntime) -> Result<(), Fail> {
-    audits(rt.alloc(), &changes())
+    audits(rt.alloc(), &CHANGES)
 }
 
 // Reports that only a hostile hand writes.
-fn hostile() -> [Change; 8] {
-    [
-        ([(b" 1:0", b" 1:2"), NOTHING], Ruling::Untrue(1)),
-        ([(b"4:2", b"4294967295:2"), NOTHING], Ruling::Untrue(1)),
-        ([(b"4:2", b"4:4"), NOTHING], Ruling::Untrue(1)),
-        (
-            [(b"nets 1\nnet 0", b"nets 2\nnet 0\nnet 1"), NOTHING],
-            Ruling::Untrue(1),
-        ),
-        ([(b" 1:0", b" 1:0 1:0"), NOTHING], Ruling::Untrue(2)),
-        (
-            [(b"point 0 1 1 0 0", b"point 0 1 1 0 7"), NOTHING],
-            Ruling::Untrue(4),
-        ),
-        ([(b"short 0 3", b"short 5 3"), NOTHING], Ruling::Untrue(6)),
-        (
-            [(b"branch 2 2 4 2", b"branch 2 9 4 2"), NOTHING],
-            Ruling::Untrue(7),
-        ),
-    ]
-}
+static HOSTILE: [Change; 8] = [
+    (((b" 1:0", b" 1:2"), NOTHING), Ruling::Untrue(1)),
+    (((b"4:2", b"4294967295:2"), NOTHING), Ruling::Untrue(1)),
+    (((b"4:2", b"4:4"), NOTHING), Ruling::Untrue(1)),
+    (
+        ((b"nets 1\nnet 0", b"nets 2\nnet 0\nnet 1"), NOTHING),
+        Ruling::Untrue(1),
+    ),
+    (((b" 1:0", b" 1:0 1:0"), NOTHING), Ruling::Untrue(2)),
+    (
+        ((b"point 0 1 1 0 0", b"point 0 1 1 0 7"), NOTHING),
+        Ruling::Untrue(4),
+    ),
+    (((b"short 0 3", b"short 5 3"), NOTHING), Ruling::Untrue(6)),
+    (
+        ((b"branch 2 2 4 2", b"branch 2 9 4 2"), NOTHING),
+        Ruling::Untrue(7),
+    ),
+];
 
 #[test]
 fn audits_of_hostile_reports(rt: HostRuntime) -> Result<(), Fail> {
-    audits(rt.alloc(), &hostile())
+    audits(rt.alloc(), &HOSTILE)
 }
 
 // The report of ordinary use is that of a right verdict.
@@ -181,51 +181,50 @@ fn a_report_that_is_too_long(rt: HostRuntime) -> Result<(), Fail> {
 }
 
 // A part of the report, what stands in its place, and what the audit says then.
-fn supplement_changes() -> [(&'static str, &'static str, Ruling); 12] {
-    [
-        ("boardnet 2", "boardnet 2", Ruling::True),
-        ("spot 1 10000000 0", "spot 1 10000010 0", Ruling::Untrue(10)),
-        (
-            "spot 1 10000000 0",
-            "spot 1 10000000 -1",
-            Ruling::Untrue(10),
-        ),
-        (
-            "spots 2\nspot 0 0 0\nspot 1 10000000 0\n",
-            "spots 1\nspot 0 0 0\n",
-            Ruling::Untrue(10),
-        ),
-        (
-            "spots 2\nspot 0 0 0\nspot 1 10000000 0\nsources 2\nsource 0 0 5 0",
-            "spots 0\nsources 2\nsource 0 0 6 0",
-            Ruling::Untrue(10),
-        ),
-        (
-            "source 1 0 6 0 1 1",
-            "source 1 0 7 0 1 1",
-            Ruling::Untrue(11),
-        ),
-        (
-            "source 1 0 6 0 1 1",
-            "source 1 0 6 1 1 1",
-            Ruling::Untrue(11),
-        ),
-        (
-            "source 1 0 6 0 1 1",
-            "source 1 0 6 0 1 2",
-            Ruling::Untrue(11),
-        ),
-        ("name 0 A", "name 0 Z", Ruling::Untrue(9)),
-        ("boardnet 2", "boardnet 1", Ruling::NoReport),
-        ("spot 0 0 0", "spot 0 -0 0", Ruling::NoReport),
-        ("spots 2", "spots 3", Ruling::NoReport),
-    ]
-}
+static SUPPLEMENT_CHANGES: [(&'static str, &'static str, Ruling); 12] = [
+    ("boardnet 2", "boardnet 2", Ruling::True),
+    ("spot 1 10000000 0", "spot 1 10000010 0", Ruling::Untrue(10)),
+    (
+        "spot 1 10000000 0",
+        "spot 1 10000000 -1",
+        Ruling::Untrue(10),
+    ),
+    (
+        "spots 2\nspot 0 0 0\nspot 1 10000000 0\n",
+        "spots 1\nspot 0 0 0\n",
+        Ruling::Untrue(10),
+    ),
+    (
+        "spots 2\nspot 0 0 0\nspot 1 10000000 0\nsources 2\nsource 0 0 5 0",
+        "spots 0\nsources 2\nsource 0 0 6 0",
+        Ruling::Untrue(10),
+    ),
+    (
+        "source 1 0 6 0 1 1",
+        "source 1 0 7 0 1 1",
+        Ruling::Untrue(11),
+    ),
+    (
+        "source 1 0 6 0 1 1",
+        "source 1 0 6 1 1 1",
+        Ruling::Untrue(11),
+    ),
+    (
+        "source 1 0 6 0 1 1",
+        "source 1 0 6 0 1 2",
+        Ruling::Untrue(11),
+    ),
+    ("name 0 A", "name 0 Z", Ruling::Untrue(9)),
+    ("boardnet 2", "boardnet 1", Ruling::NoReport),
+    ("spot 0 0 0", "spot 0 -0 0", Ruling::NoReport),
+    ("spots 2", "spots 3", Ruling::NoReport),
+];
 
 #[test]
 fn audits_of_supplements(rt: HostRuntime) -> Result<(), Fail> {
     let alloc = rt.alloc();
-    for (part, by, ruling) in supplement_changes() {
+    for row in &SUPPLEMENT_CHANGES {
+        let (part, by, ruling) = *row;
         let mut package = one_layer(alloc, TIE, ENDS)?;
         let report = TIED.replace(alloc, part, by)?;
         rules(alloc, &mut package, report.as_bytes(), ruling)?;

@@ -108,111 +108,109 @@ fn row_package(alloc: Global, row: &Row) -> Result<MemoryPackage, NoMemory> {
     Ok(package)
 }
 
-fn rows() -> [Row; 11] {
-    [
-        // touches in one point, and misses by one u
-        (PAD, THIN, THICK, ONE_NAME, COUNTS, 1, UNDECIDED),
-        (
-            "%ADD11C,0.0019998*%",
-            THIN,
-            THICK,
-            ONE_NAME,
-            COUNTS,
-            1,
-            UNDECIDED,
-        ),
-        // touches the chain below, and misses the one above
-        (
-            "%ADD11C,0.0022*%",
-            THIN,
-            THICK,
-            ONE_NAME,
-            COUNTS,
-            0,
-            "boardnet: agrees\n",
-        ),
-        (
-            "%ADD11C,0.0018*%",
-            THIN,
-            THICK,
-            ONE_NAME,
-            COUNTS,
-            1,
-            "boardnet: differs, opens 1, shorts 0, missing 0\n",
-        ),
-        // the same of two names
-        (
-            PAD,
-            THIN,
-            THICK,
-            TWO_NAMES,
-            COUNTS,
-            1,
-            "boardnet: undecided, opens 0, shorts 1, missing 0\n",
-        ),
-        (
-            "%ADD11C,0.0022*%",
-            THIN,
-            THICK,
-            TWO_NAMES,
-            COUNTS,
-            1,
-            "boardnet: differs, opens 0, shorts 1, missing 0\n",
-        ),
-        (
-            "%ADD11C,0.0018*%",
-            THIN,
-            THICK,
-            TWO_NAMES,
-            COUNTS,
-            0,
-            "boardnet: agrees\n",
-        ),
-        // a chain that is too thick, or too thin; counts
-        (
-            PAD,
-            THICK,
-            THICK,
-            ONE_NAME,
-            COUNTS,
-            3,
-            "boardnet: r.json: file 0, command 11, copy 0: not bounded below\n",
-        ),
-        (
-            PAD,
-            THIN,
-            THIN,
-            ONE_NAME,
-            COUNTS,
-            3,
-            "boardnet: r.json: file 0, command 11, copy 0: not bounded above\n",
-        ),
-        (
-            PAD,
-            THIN,
-            THICK,
-            ONE_NAME,
-            "boardnet-bounds 1\n1 1\n6 5\n",
-            3,
-            "boardnet: c.txt: counts above do not add up\n",
-        ),
-        (
-            PAD,
-            THIN,
-            THICK,
-            ONE_NAME,
-            "boardnet-bounds 1\n1 1\n6\n",
-            3,
-            "boardnet: c.txt: not counts at line 3\n",
-        ),
-    ]
-}
+static ROWS: [Row; 11] = [
+    // touches in one point, and misses by one u
+    (PAD, THIN, THICK, ONE_NAME, COUNTS, 1, UNDECIDED),
+    (
+        "%ADD11C,0.0019998*%",
+        THIN,
+        THICK,
+        ONE_NAME,
+        COUNTS,
+        1,
+        UNDECIDED,
+    ),
+    // touches the chain below, and misses the one above
+    (
+        "%ADD11C,0.0022*%",
+        THIN,
+        THICK,
+        ONE_NAME,
+        COUNTS,
+        0,
+        "boardnet: agrees\n",
+    ),
+    (
+        "%ADD11C,0.0018*%",
+        THIN,
+        THICK,
+        ONE_NAME,
+        COUNTS,
+        1,
+        "boardnet: differs, opens 1, shorts 0, missing 0\n",
+    ),
+    // the same of two names
+    (
+        PAD,
+        THIN,
+        THICK,
+        TWO_NAMES,
+        COUNTS,
+        1,
+        "boardnet: undecided, opens 0, shorts 1, missing 0\n",
+    ),
+    (
+        "%ADD11C,0.0022*%",
+        THIN,
+        THICK,
+        TWO_NAMES,
+        COUNTS,
+        1,
+        "boardnet: differs, opens 0, shorts 1, missing 0\n",
+    ),
+    (
+        "%ADD11C,0.0018*%",
+        THIN,
+        THICK,
+        TWO_NAMES,
+        COUNTS,
+        0,
+        "boardnet: agrees\n",
+    ),
+    // a chain that is too thick, or too thin; counts
+    (
+        PAD,
+        THICK,
+        THICK,
+        ONE_NAME,
+        COUNTS,
+        3,
+        "boardnet: r.json: file 0, command 11, copy 0: not bounded below\n",
+    ),
+    (
+        PAD,
+        THIN,
+        THIN,
+        ONE_NAME,
+        COUNTS,
+        3,
+        "boardnet: r.json: file 0, command 11, copy 0: not bounded above\n",
+    ),
+    (
+        PAD,
+        THIN,
+        THICK,
+        ONE_NAME,
+        "boardnet-bounds 1\n1 1\n6 5\n",
+        3,
+        "boardnet: c.txt: counts above do not add up\n",
+    ),
+    (
+        PAD,
+        THIN,
+        THICK,
+        ONE_NAME,
+        "boardnet-bounds 1\n1 1\n6\n",
+        3,
+        "boardnet: c.txt: not counts at line 3\n",
+    ),
+];
 
 #[test]
 fn a_quarter_circle_between_chains(rt: HostRuntime) -> Result<(), Fail> {
     let alloc = rt.alloc();
-    for row in rows() {
-        let mut package = row_package(alloc, &row)?;
+    for row in &ROWS {
+        let mut package = row_package(alloc, row)?;
         let (status, out, notes) = answer(alloc, BETWEEN, &mut package)?;
         assert_eq!(rt; (status, shown(&notes)), (row.5, row.6));
         assert_eq!(rt; out.bytes().is_empty(), status == 3);
@@ -227,60 +225,59 @@ const BELOW: &str = "boardnet: r.json: file 0, command 5, copy 0: not bounded be
 
 const ABOVE: &str = "boardnet: r.json: file 0, command 5, copy 0: not bounded above\n";
 
-fn odd_rows() -> [OddRow; 7] {
-    let agrees = "boardnet: agrees\n";
-    [
-        (
-            "%ADD11C,0.0020001*%",
-            "%ADD11C,0.0020000*%",
-            "%ADD11C,0.0020002*%",
-            0,
-            agrees,
-        ),
-        (
-            "%ADD11C,0.0020001*%",
-            "%ADD11C,0.0020002*%",
-            "%ADD11C,0.0020002*%",
-            3,
-            BELOW,
-        ),
-        (
-            "%ADD11C,0.0020001*%",
-            "%ADD11C,0.0020000*%",
-            "%ADD11C,0.0020000*%",
-            3,
-            ABOVE,
-        ),
-        (
-            "%ADD11R,0.0020001X0.001*%",
-            "%ADD11R,0.0020000X0.001*%",
-            "%ADD11R,0.0020002X0.001*%",
-            0,
-            agrees,
-        ),
-        (
-            "%ADD11R,0.0020001X0.001*%",
-            "%ADD11R,0.0020000X0.0010002*%",
-            "%ADD11R,0.0020002X0.001*%",
-            3,
-            BELOW,
-        ),
-        (
-            "%ADD11O,0.001X0.0020001*%",
-            "%ADD11O,0.0009998X0.0020000*%",
-            "%ADD11O,0.0010002X0.0020002*%",
-            0,
-            agrees,
-        ),
-        (
-            "%ADD11O,0.001X0.0020001*%",
-            "%ADD11O,0.0009998X0.0020000*%",
-            "%ADD11O,0.0009998X0.0020002*%",
-            3,
-            ABOVE,
-        ),
-    ]
-}
+const AGREES: &str = "boardnet: agrees\n";
+
+static ODD_ROWS: [OddRow; 7] = [
+    (
+        "%ADD11C,0.0020001*%",
+        "%ADD11C,0.0020000*%",
+        "%ADD11C,0.0020002*%",
+        0,
+        AGREES,
+    ),
+    (
+        "%ADD11C,0.0020001*%",
+        "%ADD11C,0.0020002*%",
+        "%ADD11C,0.0020002*%",
+        3,
+        BELOW,
+    ),
+    (
+        "%ADD11C,0.0020001*%",
+        "%ADD11C,0.0020000*%",
+        "%ADD11C,0.0020000*%",
+        3,
+        ABOVE,
+    ),
+    (
+        "%ADD11R,0.0020001X0.001*%",
+        "%ADD11R,0.0020000X0.001*%",
+        "%ADD11R,0.0020002X0.001*%",
+        0,
+        AGREES,
+    ),
+    (
+        "%ADD11R,0.0020001X0.001*%",
+        "%ADD11R,0.0020000X0.0010002*%",
+        "%ADD11R,0.0020002X0.001*%",
+        3,
+        BELOW,
+    ),
+    (
+        "%ADD11O,0.001X0.0020001*%",
+        "%ADD11O,0.0009998X0.0020000*%",
+        "%ADD11O,0.0010002X0.0020002*%",
+        0,
+        AGREES,
+    ),
+    (
+        "%ADD11O,0.001X0.0020001*%",
+        "%ADD11O,0.0009998X0.0020000*%",
+        "%ADD11O,0.0009998X0.0020002*%",
+        3,
+        ABOVE,
+    ),
+];
 
 fn flash(alloc: Global, aperture: &str) -> Result<Vec<u8>, NoMemory> {
     gerber(alloc, &[aperture, "D11*", "X0Y7000D03*"])
@@ -289,7 +286,8 @@ fn flash(alloc: Global, aperture: &str) -> Result<Vec<u8>, NoMemory> {
 #[test]
 fn pads_of_odd_sizes(rt: HostRuntime) -> Result<(), Fail> {
     let alloc = rt.alloc();
-    for (real, lower, upper, status, line) in odd_rows() {
+    for row in &ODD_ROWS {
+        let (real, lower, upper, status, line) = *row;
         let mut package = manifests(alloc)?;
         package.hold("r.gbr", flash(alloc, real)?.as_slice())?;
         package.hold("l.gbr", flash(alloc, lower)?.as_slice())?;

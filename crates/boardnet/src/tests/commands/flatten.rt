@@ -29,19 +29,17 @@ const TEXT: &str =
     "%FSLAX47Y47*%\n%MOMM*%\n%ADD10C,1.0000000*%\nD10*\nX0Y0D02*\nX0Y0D01*\nG36*\nX-10000000Y5000000D02*\nX10000000Y5000000D01*\nX10000000Y15000000D01*\nX-10000000Y15000000D01*\nX-10000000Y5000000D01*\nG37*\nM02*\n";
 
 // The words, the status, the line, and the text.
-fn rows() -> [(&'static [&'static str], u8, &'static str, &'static str); 4] {
-    [
-        (&["flatten", "v.gbr"], 0, "boardnet: flattened\n", TEXT),
-        (&["flatten", "t.gbr"], 0, "boardnet: flattened\n", TEXT),
-        (
-            &["flatten", "w.gbr"],
-            3,
-            "boardnet: w.gbr: flatten 36 Slanted at command 5, byte 54\n",
-            "",
-        ),
-        (&["flatten"], 2, "boardnet: words not understood\n", ""),
-    ]
-}
+static ROWS: [(&'static [&'static str], u8, &'static str, &'static str); 4] = [
+    (&["flatten", "v.gbr"], 0, "boardnet: flattened\n", TEXT),
+    (&["flatten", "t.gbr"], 0, "boardnet: flattened\n", TEXT),
+    (
+        &["flatten", "w.gbr"],
+        3,
+        "boardnet: w.gbr: flatten 36 Slanted at command 5, byte 54\n",
+        "",
+    ),
+    (&["flatten"], 2, "boardnet: words not understood\n", ""),
+];
 
 #[test]
 fn flat_texts(rt: HostRuntime) -> Result<(), Fail> {
@@ -56,7 +54,8 @@ fn flat_texts(rt: HostRuntime) -> Result<(), Fail> {
         ],
     )?;
     package.hold("t.gbr", TEXT.as_bytes())?;
-    for (given, status, line, text) in rows() {
+    for row in &ROWS {
+        let (given, status, line, text) = *row;
         wants(alloc, given, &mut package, status, line, text)?;
     }
     let (status, out, notes) = answer(alloc, &["check", "m.json"], &mut package)?;

@@ -8,7 +8,7 @@ use std::test::Fail;
 const X2: &[&str] = &["x2", "m.json"];
 
 // The lines of the report on the example of KiCad that tell its findings.
-const PARTS: [&[u8]; 6] = [
+static PARTS: [&'static [u8]; 6] = [
     b"points 8\n",
     b"\npoint 7 8 2 0 1\n",
     b"\nopen 0 0 1 7\n",
@@ -147,56 +147,55 @@ type Stop = (
 );
 
 // The stops come in their order: the file's own refusal, then its label, then the next file.
-fn stops() -> [Stop; 6] {
-    [
-        (
-            &[("m.json", &[MANIFEST]), ("t.gbr", DISC)],
-            0,
-            "boardnet: agrees\n",
-            2,
-        ),
-        (
-            &[("m.json", &[TWO_LAYERS]), ("t.gbr", AMISS)],
-            3,
-            "boardnet: t.gbr: label at command 1, byte 1\n",
-            2,
-        ),
-        (
-            &[("m.json", &[TWO_LAYERS]), ("t.gbr", BROKEN)],
-            3,
-            "boardnet: t.gbr: Gerber 1 BadWord at command 2, byte 10\n",
-            2,
-        ),
-        (
-            &[("m.json", &[TWO_LAYERS]), ("t.gbr", DISC)],
-            4,
-            "boardnet: b.gbr: cannot be read\n",
-            3,
-        ),
-        (
-            &[("m.json", &[TWO_LAYERS]), ("t.gbr", DISC), ("b.gbr", DISC)],
-            4,
-            "boardnet: d.drl: cannot be read\n",
-            4,
-        ),
-        (
-            &[
-                ("m.json", &[TWO_LAYERS]),
-                ("t.gbr", DISC),
-                ("b.gbr", DISC),
-                ("d.drl", BARREL),
-            ],
-            0,
-            "boardnet: agrees\n",
-            4,
-        ),
-    ]
-}
+static STOPS: [Stop; 6] = [
+    (
+        &[("m.json", &[MANIFEST]), ("t.gbr", DISC)],
+        0,
+        "boardnet: agrees\n",
+        2,
+    ),
+    (
+        &[("m.json", &[TWO_LAYERS]), ("t.gbr", AMISS)],
+        3,
+        "boardnet: t.gbr: label at command 1, byte 1\n",
+        2,
+    ),
+    (
+        &[("m.json", &[TWO_LAYERS]), ("t.gbr", BROKEN)],
+        3,
+        "boardnet: t.gbr: Gerber 1 BadWord at command 2, byte 10\n",
+        2,
+    ),
+    (
+        &[("m.json", &[TWO_LAYERS]), ("t.gbr", DISC)],
+        4,
+        "boardnet: b.gbr: cannot be read\n",
+        3,
+    ),
+    (
+        &[("m.json", &[TWO_LAYERS]), ("t.gbr", DISC), ("b.gbr", DISC)],
+        4,
+        "boardnet: d.drl: cannot be read\n",
+        4,
+    ),
+    (
+        &[
+            ("m.json", &[TWO_LAYERS]),
+            ("t.gbr", DISC),
+            ("b.gbr", DISC),
+            ("d.drl", BARREL),
+        ],
+        0,
+        "boardnet: agrees\n",
+        4,
+    ),
+];
 
 #[test]
 fn stops_by_labels(rt: HostRuntime) -> Result<(), Fail> {
     let alloc = rt.alloc();
-    for (given, wanted, line, calls) in stops() {
+    for row in &STOPS {
+        let (given, wanted, line, calls) = *row;
         let mut package = files(alloc, given)?;
         let (status, _, notes) = answer(alloc, X2, &mut package)?;
         assert_eq!(rt;

@@ -1,7 +1,7 @@
 use Rattle.std.proofs.Common.{◌==◌, ◌&&◌}
 use Rattle.std.specs.List.{list_any}
 use Rattle.flood.proofs.Linking.{either}
-use Rattle.flood.proofs.tests.Pairs.linked.Goals as goal
+use Rattle.search_tests.proofs.nets.Pairs.linked.Goals as goal
 
 pub returns : goal.returns
 returns c =

@@ -2,8 +2,8 @@ use Rattle.std.proofs.Common.{◌≡◌, ℕ, ◌+◌, ◌<◌, List, arith, sym
 use Rattle.tables.proofs.Listing.{IsListing, listing_all, listing_more, listing_skip}
 use Rattle.cell_index.specs.Field.{IsNear}
 use Rattle.flood.proofs.Linking.{IsLinked}
-use Rattle.flood.proofs.tests.PairsField.neighbours.Goals.{then-linked+in_default, else-linked}
-use Rattle.flood.proofs.tests.PairsField.neighbours.Goals as goal
+use Rattle.search_tests.proofs.nets.PairsField.neighbours.Goals.{then-linked+in_default, else-linked}
+use Rattle.search_tests.proofs.nets.PairsField.neighbours.Goals as goal
 
 pub loop-q-preserved-then-q-i : goal.loop-q-preserved-then-q-i
 loop-q-preserved-then-q-i g c = listing_skip (IsNear c.args.self.now.count (IsLinked c.args.self.now.pairs.now) c.args.i) c.loop-q.q c.loop-q.into.items c.loop-q.invariant (λ n. n.other (sym c.if-q-i.true))

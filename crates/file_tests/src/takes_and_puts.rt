@@ -1,5 +1,5 @@
 // Files of the system, and packages and sinks in memory whose calls fail.
-use super::*;
+use board_io::{FolderPackage, MemoryPackage, MemorySink, Package, Put, Sink, StreamSink, Take};
 use std::alloc::Global;
 use std::fs;
 use std::test::Fail;

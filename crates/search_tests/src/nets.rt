@@ -1,17 +1,17 @@
 // A field without geometry: a list of pairs, searched against a plain slow search. And the same graphs in copper.
 ghost use Rattle.contact.specs.Solid.{IsInside};
 ghost use Rattle.contact.specs.declared.Bounds.{Bounds};
-ghost use Rattle.flood.specs.declared.tests.TheConstants.{FRAME};
+ghost use Rattle.search_tests.specs.declared.nets.TheConstants.{FRAME};
 ghost use Rattle.planar.specs.Plane.{IsPlaced, IsWithin};
 ghost use Rattle.planar.specs.declared.Spot.{Spot};
 ghost use Rattle.std.proofs.Common.{inl, inr};
 ghost use Rattle.std.specs.List.{list_any};
 ghost use Rattle.std.specs.Prelude.{◌≡◌, ◌⊎◌, ◌==◌, ◌&&◌, ◌↔◌, ℕ, ◌<◌, ◌≤◌, All, IsTrue, pos};
 
-use super::*;
 use board_shapes::{Origin, Placed, Probe};
 use cell_index::{Cells, Field};
 use contact::{Capsule, Closed, Meets};
+use flood::{flood, homes};
 use lengths::rows::NoMemory;
 use planar::{Frame, Spot};
 use std::alloc::Global;
@@ -365,41 +365,43 @@ fn nets_over_cells(rt: HostRuntime) -> Result<(), Fail> {
     Ok(())
 }
 
+static GRAPHS: [(u32, &'static [(u32, u32)], &'static [(u32, Option<u32>)]); 7] = [
+    (0, &[], &[]),
+    (1, &[], &[(0, None)]),
+    (3, &[], &[(0, None), (1, None), (2, None)]),
+    (
+        4,
+        &[(2, 3), (1, 2), (0, 1)],
+        &[(0, None), (1, Some(0)), (2, Some(1)), (3, Some(2))],
+    ),
+    (
+        4,
+        &[(2, 0), (2, 1), (2, 3)],
+        &[(0, None), (2, Some(0)), (1, Some(2)), (3, Some(2))],
+    ),
+    (
+        4,
+        &[(0, 1), (1, 2), (2, 3), (3, 0)],
+        &[(0, None), (1, Some(0)), (3, Some(0)), (2, Some(1))],
+    ),
+    (
+        5,
+        &[(0, 1), (1, 2), (1, 3), (2, 4), (3, 4)],
+        &[
+            (0, None),
+            (1, Some(0)),
+            (2, Some(1)),
+            (3, Some(1)),
+            (4, Some(2)),
+        ],
+    ),
+];
+
 // Nets by rising least piece, each breadth first, neighbours rising.
 #[test]
 fn the_order_of_nets(rt: HostRuntime) -> Result<(), Fail> {
-    let table: [(u32, &[(u32, u32)], &[(u32, Option<u32>)]); 7] = [
-        (0, &[], &[]),
-        (1, &[], &[(0, None)]),
-        (3, &[], &[(0, None), (1, None), (2, None)]),
-        (
-            4,
-            &[(2, 3), (1, 2), (0, 1)],
-            &[(0, None), (1, Some(0)), (2, Some(1)), (3, Some(2))],
-        ),
-        (
-            4,
-            &[(2, 0), (2, 1), (2, 3)],
-            &[(0, None), (2, Some(0)), (1, Some(2)), (3, Some(2))],
-        ),
-        (
-            4,
-            &[(0, 1), (1, 2), (2, 3), (3, 0)],
-            &[(0, None), (1, Some(0)), (3, Some(0)), (2, Some(1))],
-        ),
-        (
-            5,
-            &[(0, 1), (1, 2), (1, 3), (2, 4), (3, 4)],
-            &[
-                (0, None),
-                (1, Some(0)),
-                (2, Some(1)),
-                (3, Some(1)),
-                (4, Some(2)),
-            ],
-        ),
-    ];
-    for (count, pairs, want) in table {
+    for row in &GRAPHS {
+        let (count, pairs, want) = *row;
         let trees = search::<Pairs, Brand>(rt.alloc(), &Pairs { count, pairs }, Blank::new(1))?;
         assert!(rt; twigs(rt.alloc(), &trees)?.as_slice() == want);
     }

@@ -1,11 +1,11 @@
 // Files with their labels, and the name in force at each command.
-use super::*;
 use lengths::rows::Rows;
 use lengths::text::Text;
 use std::alloc::{AllocError, Global};
 use std::fmt::Write;
 use std::test::Fail;
 use texts::MOST_BYTES;
+use x2_nets::{Label, LabelFault, label_among, label_at, labels};
 
 // The labels of a file, if it is short enough to be read.
 fn read(alloc: Global, file: &[u8]) -> Result<Rows<Label>, LabelFault> {
@@ -33,7 +33,7 @@ fn listed(alloc: Global, file: &[u8]) -> Result<String, Fail> {
 }
 
 /// Files, each with its labels.
-const FILES: [(&[u8], &str); 29] = [
+static FILES: [(&'static [u8], &'static str); 29] = [
     (b"", ""),
     (b"%TO.N,A*%", "1:A "),
     (b"TO.N,A*", ""),
