@@ -680,47 +680,38 @@ static OF_REGIONS: [(&str, &str); 6] = [
     ),
 ];
 
+// The first row that is read otherwise than it says.
+fn first_other(alloc: Global, rows: &[(&str, &str)]) -> Result<String, AllocError> {
+    for (words, expected) in rows {
+        let read = told(alloc, *words)?;
+        if read.as_str() != *expected {
+            return format!(in alloc; "{words:?}: {read}");
+        }
+    }
+    Ok(String::new(alloc))
+}
+
 #[test]
 fn arcs_are_read(rt: HostRuntime) -> Result<(), Fail> {
-    for (words, expected) in &OF_ANY_ARCS {
-        let read = told(rt.alloc(), *words)?;
-        assert_eq!(rt; read.as_str(), *expected);
-    }
-    for (words, expected) in &OF_LINES {
-        let read = told(rt.alloc(), *words)?;
-        assert_eq!(rt; read.as_str(), *expected);
-    }
-    for (words, expected) in &OF_TURNS {
-        let read = told(rt.alloc(), *words)?;
-        assert_eq!(rt; read.as_str(), *expected);
-    }
-    for (words, expected) in &OF_HOLES {
-        let read = told(rt.alloc(), *words)?;
-        assert_eq!(rt; read.as_str(), *expected);
-    }
-    for (words, expected) in &OF_FINES {
-        let read = told(rt.alloc(), *words)?;
-        assert_eq!(rt; read.as_str(), *expected);
-    }
-    for (words, expected) in &OF_FINE_MACROS {
-        let read = told(rt.alloc(), *words)?;
-        assert_eq!(rt; read.as_str(), *expected);
-    }
-    for (words, expected) in &OF_FINE_PENS {
-        let read = told(rt.alloc(), *words)?;
-        assert_eq!(rt; read.as_str(), *expected);
-    }
-    for (words, expected) in &OF_REGIONS {
-        let read = told(rt.alloc(), *words)?;
-        assert_eq!(rt; read.as_str(), *expected);
-    }
-    for (words, expected) in &OF_QUARTERS {
-        let read = told(rt.alloc(), *words)?;
-        assert_eq!(rt; read.as_str(), *expected);
-    }
-    for (words, expected) in &OF_REFUSALS {
-        let read = told(rt.alloc(), *words)?;
-        assert_eq!(rt; read.as_str(), *expected);
-    }
+    assert_eq!(rt; first_other(rt.alloc(), &OF_ANY_ARCS)?.as_str(), "");
+    assert_eq!(rt; first_other(rt.alloc(), &OF_REGIONS)?.as_str(), "");
+    assert_eq!(rt; first_other(rt.alloc(), &OF_QUARTERS)?.as_str(), "");
+    assert_eq!(rt; first_other(rt.alloc(), &OF_REFUSALS)?.as_str(), "");
+    Ok(())
+}
+
+#[test]
+fn macros_are_read(rt: HostRuntime) -> Result<(), Fail> {
+    assert_eq!(rt; first_other(rt.alloc(), &OF_LINES)?.as_str(), "");
+    assert_eq!(rt; first_other(rt.alloc(), &OF_TURNS)?.as_str(), "");
+    Ok(())
+}
+
+#[test]
+fn holes_and_odd_sizes_are_read(rt: HostRuntime) -> Result<(), Fail> {
+    assert_eq!(rt; first_other(rt.alloc(), &OF_HOLES)?.as_str(), "");
+    assert_eq!(rt; first_other(rt.alloc(), &OF_FINES)?.as_str(), "");
+    assert_eq!(rt; first_other(rt.alloc(), &OF_FINE_MACROS)?.as_str(), "");
+    assert_eq!(rt; first_other(rt.alloc(), &OF_FINE_PENS)?.as_str(), "");
     Ok(())
 }
