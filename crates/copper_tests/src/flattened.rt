@@ -13,7 +13,7 @@ const ROOM: Room = Room {
 };
 
 /// Copper files and their flattened texts.
-const TEXTS: [(&str, &str); 5] = [
+static TEXTS: [(&str, &str); 5] = [
     // Nothing at all.
     (
         "%FSLAX46Y46*%\n%MOMM*%\nM02*\n",
@@ -54,7 +54,7 @@ fn flattened(alloc: Global, file: &[u8]) -> Result<Vec<u8>, Fail> {
 
 #[test]
 fn files_are_flattened(rt: HostRuntime) -> Result<(), Fail> {
-    for (file, text) in TEXTS {
+    for (file, text) in &TEXTS {
         let once = flattened(rt.alloc(), file.as_bytes())?;
         assert_eq!(rt; once.as_slice(), text.as_bytes());
     }
@@ -63,7 +63,7 @@ fn files_are_flattened(rt: HostRuntime) -> Result<(), Fail> {
 
 #[test]
 fn a_flattened_text_is_its_own(rt: HostRuntime) -> Result<(), Fail> {
-    for (file, _) in TEXTS {
+    for (file, _) in &TEXTS {
         let once = flattened(rt.alloc(), file.as_bytes())?;
         let twice = flattened(rt.alloc(), &once)?;
         assert_eq!(rt; once.as_slice(), twice.as_slice());

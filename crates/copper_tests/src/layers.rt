@@ -24,7 +24,7 @@ pub const PLACE: Place = Place {
 
 /// Layers and files with their pieces in order, each on a line: a capsule by its ends and its radius
 /// or an area by its corners, in u, its layer, and the command and the copy that it comes from.
-const IMAGES: [(u8, &str, &str); 15] = [
+static IMAGES: [(u8, &str, &str); 15] = [
     // Nothing at all.
     (1, "%FSLAX46Y46*%\n%MOMM*%\nM02*\n", ""),
     // A slanting tangent.
@@ -162,9 +162,9 @@ pub fn told(alloc: Global, layer: u8, file: &[u8]) -> Result<String, AllocError>
 
 #[test]
 fn files_are_read(rt: HostRuntime) -> Result<(), Fail> {
-    for (layer, file, expected) in IMAGES {
-        let read = told(rt.alloc(), layer, file.as_bytes())?;
-        assert_eq!(rt; read.as_str(), expected);
+    for (layer, file, expected) in &IMAGES {
+        let read = told(rt.alloc(), *layer, file.as_bytes())?;
+        assert_eq!(rt; read.as_str(), *expected);
     }
     Ok(())
 }

@@ -2,6 +2,10 @@
 #![tactic(auto)]
 
 #[cfg(test)]
+mod aperture_words;
+#[cfg(test)]
+mod contours;
+#[cfg(test)]
 mod flattened;
 #[cfg(test)]
 mod layers;
@@ -9,3 +13,7 @@ mod layers;
 mod macro_words;
 #[cfg(test)]
 mod real_copper;
+#[cfg(test)]
+mod repeats;
+#[cfg(test)]
+mod words;

@@ -5,6 +5,3 @@
 mod contour;
 
 pub use contour::{AddFault, CloseFault, Contour};
-
-#[cfg(test)]
-mod tests;

@@ -12,6 +12,3 @@ mod repeat_word;
 
 pub use fault::{CopyFault, RepeatFault};
 pub use repeat::Repeat;
-
-#[cfg(test)]
-mod tests;

@@ -1,12 +1,12 @@
 // Files with what is read of them, and attributes with their fields.
-use super::*;
+use gerber_words::{Step, Word, Words};
 use std::alloc::{AllocError, Global};
 use std::fmt::Write;
 use std::str;
 use std::test::Fail;
 
 /// Files, each with its words and its stop.
-const FILES: [(&str, &str); 63] = [
+static FILES: [(&str, &str); 63] = [
     ("", "End"),
     (" ", "End"),
     ("\t", "End"),
@@ -217,16 +217,16 @@ fn shown(text: &[u8]) -> &str {
 
 #[test]
 fn files_are_cut(rt: HostRuntime) -> Result<(), Fail> {
-    for (file, expected) in FILES {
+    for (file, expected) in &FILES {
         let read = reading(rt.alloc(), file.as_bytes())?;
-        assert_eq!(rt; read.as_str(), expected, "{file:?}");
+        assert_eq!(rt; read.as_str(), *expected, "{file:?}");
     }
     Ok(())
 }
 
 /// Texts of words, extended or not, each with its kind of attribute and its fields, each in
 /// brackets.
-const WORDS: [(&str, bool, &str); 12] = [
+static WORDS: [(&str, bool, &str); 12] = [
     (
         "TF.FileFunction,Copper,L1,Top",
         true,
@@ -266,15 +266,15 @@ fn fields(alloc: Global, word: &Word) -> Result<String, AllocError> {
 
 #[test]
 fn attributes_have_fields(rt: HostRuntime) -> Result<(), Fail> {
-    for (text, extended, expected) in WORDS {
+    for (text, extended, expected) in &WORDS {
         let word = Word {
             at: 0,
             text: text.as_bytes(),
-            extended,
+            extended: *extended,
             body: false,
         };
         let read = fields(rt.alloc(), &word)?;
-        assert_eq!(rt; read.as_str(), expected, "{text:?}");
+        assert_eq!(rt; read.as_str(), *expected, "{text:?}");
     }
     Ok(())
 }

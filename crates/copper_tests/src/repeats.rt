@@ -2,7 +2,6 @@
 ghost use Rattle.std.specs.Prelude.{All};
 ghost use Rattle.planar.specs.Plane.{IsPlaced};
 
-use super::*;
 use area_contact::Area;
 use board_shapes::{Origin, Piece, Placed, Room, Shape};
 use contact::Capsule;
@@ -11,9 +10,10 @@ use planar::Spot;
 use std::alloc::{AllocError, Global};
 use std::fmt::Write;
 use std::test::Fail;
+use step_repeat::Repeat;
 
 /// Words with what they say.
-const WORDS: [(&str, Unit, &str); 38] = [
+static WORDS: [(&str, Unit, &str); 38] = [
     ("SR", Unit::Mm, "none"),
     ("SRX3Y2I1.0J1.5", Unit::Mm, "3 2 10000000 15000000"),
     ("SRX3Y2I1.0J1.5", Unit::Inch, "3 2 254000000 381000000"),
@@ -74,16 +74,16 @@ fn said(alloc: Global, word: &str, unit: Unit) -> Result<String, AllocError> {
 
 #[test]
 fn words_are_read(rt: HostRuntime) -> Result<(), Fail> {
-    for (word, unit, expected) in WORDS {
-        let read = said(rt.alloc(), word, unit)?;
-        assert_eq!(rt; read.as_str(), expected, "{word:?}");
+    for (word, unit, expected) in &WORDS {
+        let read = said(rt.alloc(), *word, *unit)?;
+        assert_eq!(rt; read.as_str(), *expected, "{word:?}");
     }
     Ok(())
 }
 
 /// A block of so many discs and so many triangles, a word in mm, the room, and the copies: each
 /// copy's number with its first end or corner in mm.
-const BLOCKS: [(u8, u8, &str, u32, u32, &str); 16] = [
+static BLOCKS: [(u8, u8, &str, u32, u32, &str); 16] = [
     (
         1,
         0,
@@ -222,10 +222,14 @@ fn copied(alloc: Global, pieces: &[Piece], word: &str, room: Room) -> Result<Str
 
 #[test]
 fn blocks_are_copied(rt: HostRuntime) -> Result<(), Fail> {
-    for (discs, triangles, word, pieces, edges, expected) in BLOCKS {
-        let block = block(rt.alloc(), discs, triangles)?;
-        let copies = copied(rt.alloc(), &block, word, Room { pieces, edges })?;
-        assert_eq!(rt; copies.as_str(), expected, "{word:?}");
+    for (discs, triangles, word, pieces, edges, expected) in &BLOCKS {
+        let block = block(rt.alloc(), *discs, *triangles)?;
+        let room = Room {
+            pieces: *pieces,
+            edges: *edges,
+        };
+        let copies = copied(rt.alloc(), &block, *word, room)?;
+        assert_eq!(rt; copies.as_str(), *expected, "{word:?}");
     }
     Ok(())
 }

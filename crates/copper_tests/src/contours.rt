@@ -1,10 +1,10 @@
 // Contours of worked rows, in half millimetres.
 ghost use Rattle.planar.specs.Plane.{IsPlaced};
 
-use crate::{AddFault, CloseFault, Contour};
 use area_contact::{Area, MOST_CONTOUR_EDGES};
 use contact::Closed;
 use planar::{Frame, Spot};
+use regions::{AddFault, CloseFault, Contour};
 use std::alloc::Global;
 use std::test::Fail;
 
@@ -39,23 +39,25 @@ fn holds(area: &Area, x: u8, y: u8) -> bool {
     area.bounds().inside(FRAME) && area.has(spot(x, y), FRAME)
 }
 
+/// The ends of a plate's edges.
+static PLATE: [(u8, u8); 12] = [
+    (20, 0),
+    (20, 20),
+    (0, 20),
+    (0, 10),
+    (6, 10),
+    (6, 14),
+    (14, 14),
+    (14, 6),
+    (6, 6),
+    (6, 10),
+    (0, 10),
+    (0, 0),
+];
+
 #[test]
 fn a_plate_with_a_hole_by_a_cut_in(rt: HostRuntime) -> Result<(), Fail> {
-    let ends = [
-        (20, 0),
-        (20, 20),
-        (0, 20),
-        (0, 10),
-        (6, 10),
-        (6, 14),
-        (14, 14),
-        (14, 6),
-        (6, 6),
-        (6, 10),
-        (0, 10),
-        (0, 0),
-    ];
-    let contour = drawn(rt.alloc(), &ends).expect(&rt, "a contour");
+    let contour = drawn(rt.alloc(), &PLATE).expect(&rt, "a contour");
     assert_eq!(rt; contour.edges(), 12);
     let plate = contour
         .close()
@@ -66,18 +68,20 @@ fn a_plate_with_a_hole_by_a_cut_in(rt: HostRuntime) -> Result<(), Fail> {
     Ok(())
 }
 
+/// The ends of the edges of contours that bound nothing, and why.
+static BAD: [(&[(u8, u8)], CloseFault); 4] = [
+    (&[(2, 0), (2, 2), (0, 2)], CloseFault::Open),
+    (&[(2, 0)], CloseFault::Open),
+    (&[(2, 0), (0, 0)], CloseFault::Short),
+    (&[(0, 0)], CloseFault::Short),
+];
+
 #[test]
 fn bad_contours(rt: HostRuntime) {
     let alloc = rt.alloc();
     assert!(rt; closed(alloc, &[]).is_ok_and(|area| area.is_none()));
-    let rows: [(&[(u8, u8)], CloseFault); 4] = [
-        (&[(2, 0), (2, 2), (0, 2)], CloseFault::Open),
-        (&[(2, 0)], CloseFault::Open),
-        (&[(2, 0), (0, 0)], CloseFault::Short),
-        (&[(0, 0)], CloseFault::Short),
-    ];
-    for (ends, wanted) in rows {
-        assert!(rt; closed(alloc, ends).is_err_and(|fault| fault == wanted));
+    for (ends, wanted) in &BAD {
+        assert!(rt; closed(alloc, *ends).is_err_and(|fault| fault == *wanted));
     }
 }
 

@@ -1,5 +1,5 @@
 // Apertures as they are read, and what they flash.
-use super::*;
+use apertures::{read_aperture, read_real_aperture};
 use board_shapes::Shape;
 use lengths::decimal::Unit;
 use planar::{Spot, is_placed};
@@ -10,115 +10,107 @@ use std::test::Fail;
 // Words with what they define.
 type Word = (&'static str, Unit, &'static str);
 
-fn of_sizes() -> [Word; 16] {
-    [
-        // Each aperture, and the grid.
-        ("ADD10C,1.0", Unit::Mm, "Ok((10, Circle(10000000)))"),
-        ("ADD010C,0", Unit::Mm, "Ok((10, Circle(0)))"),
-        (
-            "ADD999999999R,0.8X+0.4",
-            Unit::Mm,
-            "Ok((999999999, Rectangle(8000000, 4000000)))",
-        ),
-        (
-            "ADD11O,2.0X1.0",
-            Unit::Mm,
-            "Ok((11, Obround(20000000, 10000000)))",
-        ),
-        ("ADD10C,0.066929", Unit::Inch, "Ok((10, Circle(16999966)))"),
-        ("ADD10C,50.0", Unit::Mm, "Ok((10, Circle(500000000)))"),
-        ("ADD10C,50.0000002", Unit::Mm, "Err(OutOfRange)"),
-        ("ADD10C,50.0000001", Unit::Mm, "Err(OffGrid)"),
-        ("ADD10C,1.968503", Unit::Inch, "Ok((10, Circle(499999762)))"),
-        ("ADD10C,1.968504", Unit::Inch, "Err(OutOfRange)"),
-        (
-            "ADD10R,1000X1000",
-            Unit::Mm,
-            "Ok((10, Rectangle(10000000000, 10000000000)))",
-        ),
-        (
-            "ADD10O,1000X50",
-            Unit::Mm,
-            "Ok((10, Obround(10000000000, 500000000)))",
-        ),
-        (
-            "ADD10O,50X1000",
-            Unit::Mm,
-            "Ok((10, Obround(500000000, 10000000000)))",
-        ),
-        ("ADD10O,50.0000002X1000", Unit::Mm, "Err(OutOfRange)"),
-        ("ADD10O,1000X50.0000002", Unit::Mm, "Err(OutOfRange)"),
-        ("ADD10C,1.0000001", Unit::Mm, "Err(OffGrid)"),
-    ]
-}
+static OF_SIZES: [Word; 16] = [
+    // Each aperture, and the grid.
+    ("ADD10C,1.0", Unit::Mm, "Ok((10, Circle(10000000)))"),
+    ("ADD010C,0", Unit::Mm, "Ok((10, Circle(0)))"),
+    (
+        "ADD999999999R,0.8X+0.4",
+        Unit::Mm,
+        "Ok((999999999, Rectangle(8000000, 4000000)))",
+    ),
+    (
+        "ADD11O,2.0X1.0",
+        Unit::Mm,
+        "Ok((11, Obround(20000000, 10000000)))",
+    ),
+    ("ADD10C,0.066929", Unit::Inch, "Ok((10, Circle(16999966)))"),
+    ("ADD10C,50.0", Unit::Mm, "Ok((10, Circle(500000000)))"),
+    ("ADD10C,50.0000002", Unit::Mm, "Err(OutOfRange)"),
+    ("ADD10C,50.0000001", Unit::Mm, "Err(OffGrid)"),
+    ("ADD10C,1.968503", Unit::Inch, "Ok((10, Circle(499999762)))"),
+    ("ADD10C,1.968504", Unit::Inch, "Err(OutOfRange)"),
+    (
+        "ADD10R,1000X1000",
+        Unit::Mm,
+        "Ok((10, Rectangle(10000000000, 10000000000)))",
+    ),
+    (
+        "ADD10O,1000X50",
+        Unit::Mm,
+        "Ok((10, Obround(10000000000, 500000000)))",
+    ),
+    (
+        "ADD10O,50X1000",
+        Unit::Mm,
+        "Ok((10, Obround(500000000, 10000000000)))",
+    ),
+    ("ADD10O,50.0000002X1000", Unit::Mm, "Err(OutOfRange)"),
+    ("ADD10O,1000X50.0000002", Unit::Mm, "Err(OutOfRange)"),
+    ("ADD10C,1.0000001", Unit::Mm, "Err(OffGrid)"),
+];
 
-fn of_names() -> [Word; 16] {
-    [
-        ("ADD10C,-0.2", Unit::Mm, "Err(OutOfRange)"),
-        ("ADD10C,1000.0000002", Unit::Mm, "Err(OutOfRange)"),
-        ("ADD10C,-0.0000001", Unit::Mm, "Err(OffGrid)"),
-        // No `ADD`, no digit, no name.
-        ("", Unit::Mm, "Err(BadText)"),
-        ("AD10C,1", Unit::Mm, "Err(BadText)"),
-        ("ADD", Unit::Mm, "Err(BadText)"),
-        ("ADDC,1", Unit::Mm, "Err(BadText)"),
-        ("ADD10", Unit::Mm, "Err(BadText)"),
-        ("ADD10,1", Unit::Mm, "Err(BadText)"),
-        // A name comes before the number, the number before the kind.
-        ("ADD9,1", Unit::Mm, "Err(BadText)"),
-        ("ADD9C,1", Unit::Mm, "Err(Number)"),
-        ("ADD0000000010C,1", Unit::Mm, "Err(Number)"),
-        ("ADD9THERMAL", Unit::Mm, "Err(Number)"),
-        ("ADD9P,1X3", Unit::Mm, "Err(Number)"),
-        // The kind comes before the parameters.
-        ("ADD10THERMAL", Unit::Mm, "Err(Macro)"),
-        ("ADD10THERMAL,xXx", Unit::Mm, "Err(Macro)"),
-    ]
-}
+static OF_NAMES: [Word; 16] = [
+    ("ADD10C,-0.2", Unit::Mm, "Err(OutOfRange)"),
+    ("ADD10C,1000.0000002", Unit::Mm, "Err(OutOfRange)"),
+    ("ADD10C,-0.0000001", Unit::Mm, "Err(OffGrid)"),
+    // No `ADD`, no digit, no name.
+    ("", Unit::Mm, "Err(BadText)"),
+    ("AD10C,1", Unit::Mm, "Err(BadText)"),
+    ("ADD", Unit::Mm, "Err(BadText)"),
+    ("ADDC,1", Unit::Mm, "Err(BadText)"),
+    ("ADD10", Unit::Mm, "Err(BadText)"),
+    ("ADD10,1", Unit::Mm, "Err(BadText)"),
+    // A name comes before the number, the number before the kind.
+    ("ADD9,1", Unit::Mm, "Err(BadText)"),
+    ("ADD9C,1", Unit::Mm, "Err(Number)"),
+    ("ADD0000000010C,1", Unit::Mm, "Err(Number)"),
+    ("ADD9THERMAL", Unit::Mm, "Err(Number)"),
+    ("ADD9P,1X3", Unit::Mm, "Err(Number)"),
+    // The kind comes before the parameters.
+    ("ADD10THERMAL", Unit::Mm, "Err(Macro)"),
+    ("ADD10THERMAL,xXx", Unit::Mm, "Err(Macro)"),
+];
 
-fn of_parameter_counts() -> [Word; 16] {
-    [
-        ("ADD10 C,1", Unit::Mm, "Err(Macro)"),
-        ("ADD10CX,1", Unit::Mm, "Err(Macro)"),
-        ("ADD10c,1", Unit::Mm, "Err(Macro)"),
-        ("ADD10P,1X3", Unit::Mm, "Err(Polygon)"),
-        ("ADD10P", Unit::Mm, "Err(Polygon)"),
-        // Too few parameters, and then too many.
-        ("ADD10C", Unit::Mm, "Err(BadText)"),
-        ("ADD10R", Unit::Mm, "Err(BadText)"),
-        ("ADD10R,1", Unit::Mm, "Err(BadText)"),
-        ("ADD10O,x", Unit::Mm, "Err(BadText)"),
-        ("ADD10C,1X0.5", Unit::Mm, "Err(Hole)"),
-        ("ADD10C,xX", Unit::Mm, "Err(Hole)"),
-        ("ADD10R,1X1X0.5", Unit::Mm, "Err(Hole)"),
-        ("ADD10O,xXxXx", Unit::Mm, "Err(Hole)"),
-        // Then each parameter in turn.
-        ("ADD10C,", Unit::Mm, "Err(BadText)"),
-        ("ADD10C,1.0,2.0", Unit::Mm, "Err(BadText)"),
-        ("ADD10C, 1.0", Unit::Mm, "Err(BadText)"),
-    ]
-}
+static OF_PARAMETER_COUNTS: [Word; 16] = [
+    ("ADD10 C,1", Unit::Mm, "Err(Macro)"),
+    ("ADD10CX,1", Unit::Mm, "Err(Macro)"),
+    ("ADD10c,1", Unit::Mm, "Err(Macro)"),
+    ("ADD10P,1X3", Unit::Mm, "Err(Polygon)"),
+    ("ADD10P", Unit::Mm, "Err(Polygon)"),
+    // Too few parameters, and then too many.
+    ("ADD10C", Unit::Mm, "Err(BadText)"),
+    ("ADD10R", Unit::Mm, "Err(BadText)"),
+    ("ADD10R,1", Unit::Mm, "Err(BadText)"),
+    ("ADD10O,x", Unit::Mm, "Err(BadText)"),
+    ("ADD10C,1X0.5", Unit::Mm, "Err(Hole)"),
+    ("ADD10C,xX", Unit::Mm, "Err(Hole)"),
+    ("ADD10R,1X1X0.5", Unit::Mm, "Err(Hole)"),
+    ("ADD10O,xXxXx", Unit::Mm, "Err(Hole)"),
+    // Then each parameter in turn.
+    ("ADD10C,", Unit::Mm, "Err(BadText)"),
+    ("ADD10C,1.0,2.0", Unit::Mm, "Err(BadText)"),
+    ("ADD10C, 1.0", Unit::Mm, "Err(BadText)"),
+];
 
-fn of_parameters() -> [Word; 13] {
-    [
-        ("ADD10R,1X", Unit::Mm, "Err(BadText)"),
-        ("ADD10R,X1", Unit::Mm, "Err(BadText)"),
-        ("ADD10R,xX0.0000001", Unit::Mm, "Err(BadText)"),
-        ("ADD10R,0.0000001Xx", Unit::Mm, "Err(OffGrid)"),
-        ("ADD10R,2000Xx", Unit::Mm, "Err(OutOfRange)"),
-        ("ADD10R,0X0.0000001", Unit::Mm, "Err(OutOfRange)"),
-        ("ADD10R,1X0", Unit::Mm, "Err(OutOfRange)"),
-        ("ADD10O,0X1", Unit::Mm, "Err(OutOfRange)"),
-        ("ADD10O,1X0.0000001", Unit::Mm, "Err(OffGrid)"),
-        ("ADD10O,1X-1", Unit::Mm, "Err(OutOfRange)"),
-        ("ADD10O,1Xx", Unit::Mm, "Err(BadText)"),
-        ("ADD10O,1000Xx", Unit::Mm, "Err(BadText)"),
-        ("ADD10O,1000X60.0000001", Unit::Mm, "Err(OffGrid)"),
-    ]
-}
+static OF_PARAMETERS: [Word; 13] = [
+    ("ADD10R,1X", Unit::Mm, "Err(BadText)"),
+    ("ADD10R,X1", Unit::Mm, "Err(BadText)"),
+    ("ADD10R,xX0.0000001", Unit::Mm, "Err(BadText)"),
+    ("ADD10R,0.0000001Xx", Unit::Mm, "Err(OffGrid)"),
+    ("ADD10R,2000Xx", Unit::Mm, "Err(OutOfRange)"),
+    ("ADD10R,0X0.0000001", Unit::Mm, "Err(OutOfRange)"),
+    ("ADD10R,1X0", Unit::Mm, "Err(OutOfRange)"),
+    ("ADD10O,0X1", Unit::Mm, "Err(OutOfRange)"),
+    ("ADD10O,1X0.0000001", Unit::Mm, "Err(OffGrid)"),
+    ("ADD10O,1X-1", Unit::Mm, "Err(OutOfRange)"),
+    ("ADD10O,1Xx", Unit::Mm, "Err(BadText)"),
+    ("ADD10O,1000Xx", Unit::Mm, "Err(BadText)"),
+    ("ADD10O,1000X60.0000001", Unit::Mm, "Err(OffGrid)"),
+];
 
 // Words of real copper, in mm: circles and rectangles may have a round hole, and all else is read as above.
-const HOLES: [(&str, &str); 38] = [
+static HOLES: [(&str, &str); 38] = [
     ("ADD10C,1.0X0.5", "Ok((10, Ring(10000000, 5000000)))"),
     ("ADD010C,0.000001X.0000006", "Ok((10, Ring(10, 6)))"),
     ("ADD10C,1.0", "Ok((10, Circle(10000000)))"),
@@ -179,16 +171,16 @@ const HOLES: [(&str, &str); 38] = [
 
 #[test]
 fn holes_are_read(rt: HostRuntime) -> Result<(), Fail> {
-    for (word, expected) in HOLES {
+    for (word, expected) in &HOLES {
         let read = read_real_aperture(word.as_bytes(), Unit::Mm);
         let found = format!(in rt.alloc(); "{read:?}")?;
-        assert_eq!(rt; found.as_str(), expected, "{word:?}");
+        assert_eq!(rt; found.as_str(), *expected, "{word:?}");
     }
     Ok(())
 }
 
 // Words of real copper whose sizes are whole, but not all even.
-const FINES: [Word; 18] = [
+static FINES: [Word; 18] = [
     (
         "ADD10C,1.0000001",
         Unit::Mm,
@@ -234,10 +226,10 @@ const FINES: [Word; 18] = [
 
 #[test]
 fn fines_are_read(rt: HostRuntime) -> Result<(), Fail> {
-    for (word, unit, expected) in FINES {
-        let read = read_real_aperture(word.as_bytes(), unit);
+    for (word, unit, expected) in &FINES {
+        let read = read_real_aperture(word.as_bytes(), *unit);
         let found = format!(in rt.alloc(); "{read:?}")?;
-        assert_eq!(rt; found.as_str(), expected, "{word:?}");
+        assert_eq!(rt; found.as_str(), *expected, "{word:?}");
     }
     Ok(())
 }
@@ -255,16 +247,16 @@ fn all_define(alloc: Global, rows: &[Word]) -> Result<bool, AllocError> {
 
 #[test]
 fn words_define_apertures(rt: HostRuntime) -> Result<(), Fail> {
-    assert!(rt; all_define(rt.alloc(), &of_sizes())?);
-    assert!(rt; all_define(rt.alloc(), &of_names())?);
-    assert!(rt; all_define(rt.alloc(), &of_parameter_counts())?);
-    assert!(rt; all_define(rt.alloc(), &of_parameters())?);
+    assert!(rt; all_define(rt.alloc(), &OF_SIZES)?);
+    assert!(rt; all_define(rt.alloc(), &OF_NAMES)?);
+    assert!(rt; all_define(rt.alloc(), &OF_PARAMETER_COUNTS)?);
+    assert!(rt; all_define(rt.alloc(), &OF_PARAMETERS)?);
     Ok(())
 }
 
 /// Words in mm and spots with the shape there: a disc or a capsule by its ends and its radius, an
 /// area by its corners, in u.
-const FLASHES: [(&str, i64, i64, &str); 27] = [
+static FLASHES: [(&str, i64, i64, &str); 27] = [
     ("ADD11C,0", 5, 5, "none"),
     ("ADD10C,1.0", 7, -9, "7 -9, 7 -9, 5000000"),
     ("ADD10C,60", 0, 0, "no aperture"),
@@ -380,9 +372,9 @@ fn flashed(alloc: Global, word: &str, at: Spot) -> Result<String, AllocError> {
 
 #[test]
 fn apertures_flash(rt: HostRuntime) -> Result<(), Fail> {
-    for (word, x, y, expected) in FLASHES {
-        let read = flashed(rt.alloc(), word, Spot { x, y })?;
-        assert_eq!(rt; read.as_str(), expected, "{word:?}");
+    for (word, x, y, expected) in &FLASHES {
+        let read = flashed(rt.alloc(), *word, Spot { x: *x, y: *y })?;
+        assert_eq!(rt; read.as_str(), *expected, "{word:?}");
     }
     Ok(())
 }
