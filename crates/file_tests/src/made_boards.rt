@@ -138,7 +138,8 @@ fn is_row(alloc: Global, row: &Row) -> Result<(), Fail> {
 #[test]
 fn made_files_are_those_of_another_program(rt: HostRuntime) -> Result<(), Fail> {
     let alloc = rt.alloc();
-    for row in &ROWS {
+    let rows = ROWS;
+    for row in &rows {
         is_row(alloc, row)?;
     }
     let mut two = make(alloc, 1, 2)?;
