@@ -70,10 +70,36 @@ fn hash_of(text: &Text) -> u64 {
     state.finish()
 }
 
+/// Texts in their order: 22 bytes are the most that stand in place.
+static ORDERED: [&[u8]; 6] = [
+    b"0123456789abcdefghijk",
+    b"0123456789abcdefghijkl",
+    b"0123456789abcdefghijklm",
+    b"0123456789abcdefghijkln",
+    b"0123456789abcdefghijkm",
+    b"0123456789abcdefghijn",
+];
+
+#[test]
+fn short_and_long_texts_are_in_one_order(rt: HostRuntime) -> Result<(), Fail> {
+    let alloc = rt.alloc();
+    for (i, low) in ORDERED.iter().enumerate() {
+        let text = Text::new(alloc, *low)?;
+        assert_eq!(rt; text.as_bytes(), *low);
+        assert_eq!(rt; text.as_str().as_bytes(), *low);
+        for (j, high) in ORDERED.iter().enumerate() {
+            let other = Text::new(alloc, *high)?.clone()?;
+            assert_eq!(rt; text.cmp(&other), i.cmp(&j));
+            assert_eq!(rt; text == other, i == j);
+        }
+    }
+    assert_eq!(rt; text_of_len(alloc, 200)?.as_bytes().len(), 200);
+    Ok(())
+}
+
 #[test]
 fn texts_and_rows_are_their_items(rt: HostRuntime) -> Result<(), Fail> {
     let alloc = rt.alloc();
-    assert!(rt; text_of_len(alloc, 200).is_ok());
     assert_eq!(rt; text_of_len(alloc, 201).err(), Some(TextFault::BadText));
     assert_eq!(rt; Text::new(alloc, b"a\x7f").err(), Some(TextFault::BadText));
     let low = Text::new(alloc, b"GND")?;
