@@ -22,30 +22,8 @@ pub struct Runs {
     pub groups: Vec<Bounds>,
 }
 
-/// The runs of a contour, whose box is `extent`; none where there are fewer than 64 edges.
+/// The runs of the contour through the points, whose box is `extent`.
 pub fn make_runs(alloc: Global, points: &[Spot], extent: Bounds) -> Result<Runs, AllocError>
-    requires some { 1 ≤ length points.now }
-    requires few { length points.now ≤ MOST_CONTOUR_POINTS }
-    requires placed { All IsPlaced points.now }
-    ensures edges { IfOk result (λ r. AreEdges points.now r.numbers.items) }
-    ensures each { IfOk result (λ r. 64 < length points.now → AreAllEdges points.now r.numbers.items) }
-    ensures few { IfOk result (λ r. length r.numbers.items ≤ MOST_CONTOUR_POINTS) }
-    ensures runs { IfOk result (λ r. AreRuns 16 points.now r.numbers.items r.boxes.items) }
-    ensures groups { IfOk result (λ r. AreRuns 1_024 points.now r.numbers.items r.groups.items) }
-{
-    if points.len() > 64 {
-        full_runs(alloc, points, extent)
-    } else {
-        Ok(Runs {
-            numbers: Vec::new(alloc),
-            boxes: Vec::new(alloc),
-            groups: Vec::new(alloc),
-        })
-    }
-}
-
-/// The runs of all edges.
-fn full_runs(alloc: Global, points: &[Spot], extent: Bounds) -> Result<Runs, AllocError>
     requires some { 1 ≤ length points.now }
     requires few { length points.now ≤ MOST_CONTOUR_POINTS }
     requires placed { All IsPlaced points.now }

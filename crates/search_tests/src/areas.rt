@@ -533,12 +533,23 @@ fn bands_of_many_edges(rt: HostRuntime) -> Result<(), Fail> {
     );
     assert!(rt; banded(&plate, 660) == Some([69, 75].as_slice()));
     assert!(rt; plate.tall() == [66, 68, 70, 72, 74, 76].as_slice());
+    Ok(())
+}
+
+#[test]
+fn bands_of_rungs(rt: HostRuntime) -> Result<(), Fail> {
     let area = rungs(rt.alloc())?.expect(&rt, "rungs");
     assert!(rt; banded(&area, 0) == Some([0, 1, 2].as_slice()));
     assert!(rt; banded(&area, 3) == Some([2, 3, 4].as_slice()));
     assert!(rt; banded(&area, 64) == Some([64, 65].as_slice()));
     assert!(rt; banded(&area, 65) == None);
     assert!(rt; area.tall() == [66].as_slice());
+    Ok(())
+}
+
+#[test]
+fn spots_and_capsules_by_rungs(rt: HostRuntime) -> Result<(), Fail> {
+    let area = rungs(rt.alloc())?.expect(&rt, "rungs");
     for (p, want) in [
         ((5, 5), true),
         ((11, 5), false),
@@ -557,6 +568,12 @@ fn bands_of_many_edges(rt: HostRuntime) -> Result<(), Fail> {
     ] {
         assert!(rt; area_shares(&area, track_of(a, a, r, VIEWS[0])) == Some(want));
     }
+    Ok(())
+}
+
+#[test]
+fn squares_by_rungs(rt: HostRuntime) -> Result<(), Fail> {
+    let area = rungs(rt.alloc())?.expect(&rt, "rungs");
     for (by, want) in [
         ((10, 20), true),
         ((11, 20), false),

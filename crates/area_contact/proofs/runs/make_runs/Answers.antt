@@ -1,7 +1,7 @@
 use Rattle.std.proofs.Common.{ℕ, List, ◌≤◌, length, subst, sym, arith}
 use Rattle.area_contact.specs.Bands.{AreEdges}
 use Rattle.area_contact.proofs.RunBoxes.{put_all, put_edges, put_few}
-use Rattle.area_contact.proofs.runs.full_runs.Goals as goal
+use Rattle.area_contact.proofs.runs.make_runs.Goals as goal
 
 pub run_boxes-requires-clause-edges : goal.run_boxes-requires-clause-edges
 run_boxes-requires-clause-edges c = subst (λ (ns : List ℕ). AreEdges c.args.points.now ns) (sym c.deref.ensures.value) (put_edges c.args.points.now c.in_ok-numbers.numbers.items c.put_near.new.numbers.items c.in_ok-numbers.ensures c.put_near.ensures)
