@@ -1,6 +1,7 @@
 -- The names of a table, as lists.
 use Rattle.std.proofs.Common.{◌≡◌, ℕ, ◌+◌, ◌<◌, Bool, true, false, not, ◌||◌, cond, List, [], ◌∷◌, ◌++◌, length, take, map, get_or, refl, sym, arith, ap, ◌∙◌, subst}
-use Rattle.std.specs.List.{list_any, position_or_len, All}
+use Rattle.std.specs.Cmp.{IsEquivalence}
+use Rattle.std.specs.List.{AllByRecursion, IsDistinct, list_any, position_or_len, All}
 use Rattle.std.proofs.lemmas.List.{map-append, get_or-map, take_more, length-map}
 use Rattle.ipc356_records.specs.Names.{is_name, index_of, with_name}
 
@@ -20,6 +21,30 @@ with_name-map f name xs = rw (any-map f name xs) (by (list_any (is_name (f name)
     by : (b : Bool) → map f (cond b xs (xs ++ name ∷ [])) ≡ cond b (map f xs) (map f xs ++ f name ∷ [])
     by true = refl
     by false = map-append f xs (name ∷ [])
+
+-- ---- the last of distinct names
+
+last_one : {X : Type 0} (P : X → Type 0) (xs : List X) (y : X) → AllByRecursion P (xs ++ y ∷ []) → P y
+last_one P [] y h = h.0
+last_one P (x ∷ xs) y h = last_one P xs y h.1
+
+-- its number is that of how many stand before it
+pub last_index : {X : Type 0} {eq : X → X → Bool} (laws : IsEquivalence eq) (before : List X) (last name : X) → IsDistinct eq (before ++ last ∷ []) → eq name last ≡ true → position_or_len (eq name) (before ++ last ∷ []) ≡ length before
+unfolding IsDistinct
+last_index laws [] last name d e = rw e refl
+last_index {eq = eq} laws (x ∷ xs) last name d e =
+    let other : eq name x ≡ false = laws.congr name last x e ∙ laws.symm last x ∙ last_one (λ y. eq x y ≡ false) xs last d.0 in
+    let more : position_or_len (eq name) (xs ++ last ∷ []) ≡ length xs = last_index laws xs last name d.1 e in
+    rw other (omega (arith, more))
+
+-- and it is one of them
+pub last_any : {X : Type 0} (p : X → Bool) (before : List X) (last : X) → p last ≡ true → list_any p (before ++ last ∷ []) ≡ true
+last_any p [] last e = rw e refl
+last_any p (x ∷ xs) last e = either (p x) (last_any p xs last e)
+  where
+    either : (b : Bool) {c : Bool} → c ≡ true → (b || c) ≡ true
+    either true e = refl
+    either false e = e
 
 -- each of them is a text
 pub text_at : {X : Type 0} (P : List ℕ → Type 0) (f : X → List ℕ) (keys items : List X) (i : ℕ) (d : X) → items ≡ keys → All P (map f keys) → i < length items → P (f (get_or items i d))

@@ -3,6 +3,7 @@ use indexmap::IndexSet;
 use lengths::rows::{NoMemory, Rows};
 use lengths::text::{Text, TextFault};
 use std::alloc::Global;
+use texts::is_word;
 
 /// Names in first-seen order, each a slice of the file, numbered from 0.
 #[derive(Drop)]
@@ -11,7 +12,7 @@ pub struct NameTable<'a> {
 }
 
 impl<'a> NameTable<'a> {
-    ghost use Rattle.std.specs.Prelude.{◌≡◌, ◌+◌, ◌<◌, ◌^◌, [], length, All, IfOk, OnErr, OnOk};
+    ghost use Rattle.std.specs.Prelude.{◌≡◌, ◌+◌, ◌<◌, ◌^◌, [], length, All, IfOk, IfSome, OnErr, OnOk};
     ghost use Rattle.lengths.specs.Text.{IsText};
     ghost use Rattle.ipc356_records.specs.Names.{index_of, with_name};
     ghost use Rattle.ipc356_records.specs.NameTable.{names_in};
@@ -32,9 +33,26 @@ impl<'a> NameTable<'a> {
         ensures kept { OnOk result (names_in self.new ≡ with_name name.now (names_in self.old)) }
         ensures err { OnErr result (names_in self.new ≡ names_in self.old) }
     {
+        if let Some(number) = self.number_of_last(name) {
+            return Ok(number);
+        }
         match self.names.insert_full(name) {
             Ok((index, _)) => Ok(index as u32),
             Err(_) => Err(NoMemory),
+        }
+    }
+
+    // The number of the name that was kept last, where it is this one: mostly the records of a net follow one another.
+    fn number_of_last(&self, name: &[u8]) -> Option<u32>
+        requires few { length (names_in self.now) < 2 ^ 32 }
+        ensures index { IfSome result (λ n. n ≡ index_of name.now (names_in self.now)) }
+        ensures kept { IfSome result (λ _. names_in self.now ≡ with_name name.now (names_in self.now)) }
+    {
+        let (last, before) = self.names.as_slice().split_last()?;
+        if is_word(name, last) {
+            Some(before.len() as u32)
+        } else {
+            None
         }
     }
 
