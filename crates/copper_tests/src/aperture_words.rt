@@ -10,7 +10,7 @@ use std::test::Fail;
 // Words with what they define.
 type Word = (&'static str, Unit, &'static str);
 
-static OF_SIZES: [Word; 16] = [
+static SIZES: [Word; 16] = [
     // Each aperture, and the grid.
     ("ADD10C,1.0", Unit::Mm, "Ok((10, Circle(10000000)))"),
     ("ADD010C,0", Unit::Mm, "Ok((10, Circle(0)))"),
@@ -50,7 +50,7 @@ static OF_SIZES: [Word; 16] = [
     ("ADD10C,1.0000001", Unit::Mm, "Err(OffGrid)"),
 ];
 
-static OF_NAMES: [Word; 16] = [
+static NAMES: [Word; 16] = [
     ("ADD10C,-0.2", Unit::Mm, "Err(OutOfRange)"),
     ("ADD10C,1000.0000002", Unit::Mm, "Err(OutOfRange)"),
     ("ADD10C,-0.0000001", Unit::Mm, "Err(OffGrid)"),
@@ -72,7 +72,7 @@ static OF_NAMES: [Word; 16] = [
     ("ADD10THERMAL,xXx", Unit::Mm, "Err(Macro)"),
 ];
 
-static OF_PARAMETER_COUNTS: [Word; 16] = [
+static PARAMETER_COUNTS: [Word; 16] = [
     ("ADD10 C,1", Unit::Mm, "Err(Macro)"),
     ("ADD10CX,1", Unit::Mm, "Err(Macro)"),
     ("ADD10c,1", Unit::Mm, "Err(Macro)"),
@@ -93,7 +93,7 @@ static OF_PARAMETER_COUNTS: [Word; 16] = [
     ("ADD10C, 1.0", Unit::Mm, "Err(BadText)"),
 ];
 
-static OF_PARAMETERS: [Word; 13] = [
+static PARAMETERS: [Word; 13] = [
     ("ADD10R,1X", Unit::Mm, "Err(BadText)"),
     ("ADD10R,X1", Unit::Mm, "Err(BadText)"),
     ("ADD10R,xX0.0000001", Unit::Mm, "Err(BadText)"),
@@ -247,10 +247,10 @@ fn all_define(alloc: Global, rows: &[Word]) -> Result<bool, AllocError> {
 
 #[test]
 fn words_define_apertures(rt: HostRuntime) -> Result<(), Fail> {
-    assert!(rt; all_define(rt.alloc(), &OF_SIZES)?);
-    assert!(rt; all_define(rt.alloc(), &OF_NAMES)?);
-    assert!(rt; all_define(rt.alloc(), &OF_PARAMETER_COUNTS)?);
-    assert!(rt; all_define(rt.alloc(), &OF_PARAMETERS)?);
+    assert!(rt; all_define(rt.alloc(), &SIZES)?);
+    assert!(rt; all_define(rt.alloc(), &NAMES)?);
+    assert!(rt; all_define(rt.alloc(), &PARAMETER_COUNTS)?);
+    assert!(rt; all_define(rt.alloc(), &PARAMETERS)?);
     Ok(())
 }
 

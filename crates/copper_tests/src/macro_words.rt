@@ -11,7 +11,7 @@ use std::test::Fail;
 type Word = (&'static str, &'static str);
 
 // Comments, and each form.
-static OF_FORMS: [Word; 15] = [
+static FORMS: [Word; 15] = [
     // Comments.
     ("0 Rounded rectangle", "comment"),
     ("0", "comment"),
@@ -35,7 +35,7 @@ static OF_FORMS: [Word; 15] = [
 ];
 
 // Words with too many parts, or too few.
-static OF_PARTS: [Word; 13] = [
+static PARTS: [Word; 13] = [
     ("", "BadMacro"),
     ("1", "BadMacro"),
     ("1,1,1,0", "BadMacro"),
@@ -52,7 +52,7 @@ static OF_PARTS: [Word; 13] = [
 ];
 
 // Other primitives, variables, and other ways to write.
-static OF_SPELLINGS: [Word; 16] = [
+static SPELLINGS: [Word; 16] = [
     ("5,1,8,0,0,1,0", "BadMacro"),
     ("7,0,0,1,0.5,0.1,0", "BadMacro"),
     ("2,1,0.1,0,0,1,0,0", "BadMacro"),
@@ -72,7 +72,7 @@ static OF_SPELLINGS: [Word; 16] = [
 ];
 
 // Parameters from 1 to 999, and faults that stand together.
-static OF_ORDERS: [Word; 18] = [
+static ORDERS: [Word; 18] = [
     // Parameters from 1 to 999, by value and with 1 to 3 digits.
     ("1,1,$001,0,0", "Circle Unturned"),
     ("1,1,-$999,0,0", "Circle Unturned"),
@@ -96,7 +96,7 @@ static OF_ORDERS: [Word; 18] = [
 ];
 
 // Of real copper: a rotation is an expression, and each that is written a turn by degrees.
-static OF_DEGREES: [Word; 26] = [
+static DEGREES: [Word; 26] = [
     ("1,1,$1,0,0", "Circle Degrees"),
     ("1,1,$1,0,0,$2", "Circle Degrees"),
     ("21,1,$1,$2,0,0,$3", "CentreLine Degrees"),
@@ -155,11 +155,11 @@ fn all_read(alloc: Global, copper: Copper, rows: &[Word]) -> Result<bool, AllocE
 
 #[test]
 fn body_words_are_read(rt: HostRuntime) -> Result<(), Fail> {
-    assert!(rt; all_read(rt.alloc(), Copper::Exact, &OF_FORMS)?);
-    assert!(rt; all_read(rt.alloc(), Copper::Exact, &OF_PARTS)?);
-    assert!(rt; all_read(rt.alloc(), Copper::Exact, &OF_SPELLINGS)?);
-    assert!(rt; all_read(rt.alloc(), Copper::Exact, &OF_ORDERS)?);
-    assert!(rt; all_read(rt.alloc(), Copper::Real, &OF_DEGREES)?);
+    assert!(rt; all_read(rt.alloc(), Copper::Exact, &FORMS)?);
+    assert!(rt; all_read(rt.alloc(), Copper::Exact, &PARTS)?);
+    assert!(rt; all_read(rt.alloc(), Copper::Exact, &SPELLINGS)?);
+    assert!(rt; all_read(rt.alloc(), Copper::Exact, &ORDERS)?);
+    assert!(rt; all_read(rt.alloc(), Copper::Real, &DEGREES)?);
     Ok(())
 }
 
@@ -168,7 +168,7 @@ fn body_words_are_read(rt: HostRuntime) -> Result<(), Fail> {
 type Flash = (&'static str, &'static str, i64, i64, &'static str);
 
 // Discs.
-static OF_CIRCLES: [Flash; 21] = [
+static CIRCLES: [Flash; 21] = [
     // Circles.
     ("1,1,$1,0,0", "1.0", 0, 0, "0 0, 5000000"),
     (
@@ -213,7 +213,7 @@ static OF_CIRCLES: [Flash; 21] = [
 ];
 
 // Centre lines and vector lines.
-static OF_LINES: [Flash; 16] = [
+static LINES: [Flash; 16] = [
     // Centre lines.
     (
         "21,1,$1+$1,$1,0,1.0,0",
@@ -271,7 +271,7 @@ static OF_LINES: [Flash; 16] = [
 ];
 
 // Outlines, and pads as layout tools write them.
-static OF_OUTLINES: [Flash; 16] = [
+static OUTLINES: [Flash; 16] = [
     // Outlines.
     (
         "4,1,4,$1,$2,-$1,$2,-$1,-$2,$1,-$2,$1,$2,0",
@@ -361,7 +361,7 @@ static OF_OUTLINES: [Flash; 16] = [
 
 // Of real copper: areas with the three spots that tell their turn, of which the last is the first corner again. A
 // rotated rectangle and a rotated outline are as KiCad and Altium write them.
-static OF_TURNS: [Flash; 16] = [
+static TURNS: [Flash; 16] = [
     (
         "21,1,$1,$2,0,0,$3",
         "2X1X45.0",
@@ -490,9 +490,9 @@ fn all_flash(alloc: Global, copper: Copper, rows: &[Flash]) -> Result<bool, Allo
 
 #[test]
 fn primitives_flash(rt: HostRuntime) -> Result<(), Fail> {
-    assert!(rt; all_flash(rt.alloc(), Copper::Exact, &OF_CIRCLES)?);
-    assert!(rt; all_flash(rt.alloc(), Copper::Exact, &OF_LINES)?);
-    assert!(rt; all_flash(rt.alloc(), Copper::Exact, &OF_OUTLINES)?);
-    assert!(rt; all_flash(rt.alloc(), Copper::Real, &OF_TURNS)?);
+    assert!(rt; all_flash(rt.alloc(), Copper::Exact, &CIRCLES)?);
+    assert!(rt; all_flash(rt.alloc(), Copper::Exact, &LINES)?);
+    assert!(rt; all_flash(rt.alloc(), Copper::Exact, &OUTLINES)?);
+    assert!(rt; all_flash(rt.alloc(), Copper::Real, &TURNS)?);
     Ok(())
 }

@@ -152,7 +152,7 @@ fn told(alloc: Global, words: &str) -> Result<String, AllocError> {
 }
 
 // Multi quadrant mode, and a block of this crate's own.
-static OF_ANY_ARCS: [(&str, &str); 8] = [
+static ANY_ARCS: [(&str, &str); 8] = [
     (
         "G75*G02X1000000I500000J0D01*M02*",
         "(5000000 0) 10000000 0, 0 0, 10000000 by 6.0",
@@ -188,7 +188,7 @@ static OF_ANY_ARCS: [(&str, &str); 8] = [
 ];
 
 // Single quadrant mode, and inches.
-static OF_QUARTERS: [(&str, &str); 21] = [
+static QUARTERS: [(&str, &str); 21] = [
     (
         "G74*G03X1000000Y1000000I0J1000000D01*M02*",
         "(0 10000000) 0 0, 10000000 10000000, 10000000 by 6.0",
@@ -273,7 +273,7 @@ static OF_QUARTERS: [(&str, &str); 21] = [
 ];
 
 // Refusals; the last are of this crate's own.
-static OF_REFUSALS: [(&str, &str); 20] = [
+static REFUSALS: [(&str, &str); 20] = [
     (
         "G74*G03X1000000Y1000003I0J1000000D01*M02*",
         "NoCentre at command 6",
@@ -336,7 +336,7 @@ static OF_REFUSALS: [(&str, &str); 20] = [
 ];
 
 // Vector lines of macros, all of this crate's own: one that runs along no axis is slanted, and no draw is one.
-static OF_LINES: [(&str, &str); 7] = [
+static LINES: [(&str, &str); 7] = [
     (
         "%AMV*20,1,0.2,0,0,1.0,0.5,0*%%ADD11V*%D11*X0Y0D03*M02*",
         "[0 0, 10000000 5000000] 2000000 by 9.0",
@@ -368,7 +368,7 @@ static OF_LINES: [(&str, &str); 7] = [
 ];
 
 // Turned figures of macros, most as layout tools write them; all of this crate's own.
-static OF_TURNS: [(&str, &str); 22] = [
+static TURNS: [(&str, &str); 22] = [
     (
         "%AMRotRect*21,1,$1,$2,0,0,$3*%%ADD11RotRect,1.0X0.5X30.0*%D11*X0Y0D03*M02*",
         "turned 300000000 about 0 0, -5000000 -2500000, 5000000 -2500000, 5000000 2500000, -5000000 2500000, -5000000 -2500000 by 9.0",
@@ -461,7 +461,7 @@ static OF_TURNS: [(&str, &str); 22] = [
 
 // Apertures with a hole, all of this crate's own: draws once round the middle, regions, figures in half u, and no pens. A
 // contour is none.
-static OF_HOLES: [(&str, &str); 12] = [
+static HOLES: [(&str, &str); 12] = [
     (
         "%ADD11C,1.0X0.5*%D11*X1000000Y0D03*D10*D03*M02*",
         "(10000000 0) 13750000 0, 13750000 0, 2500000 by 7.0\n10000000 0, 10000000 0, 5000000 by 9.0",
@@ -511,7 +511,7 @@ static OF_HOLES: [(&str, &str); 12] = [
 ];
 
 // Flashes of odd sizes, all of this crate's own: in half u, also in copies; rectangles and obrounds are no pens.
-static OF_FINES: [(&str, &str); 8] = [
+static FINES: [(&str, &str); 8] = [
     (
         "%ADD11C,1.0000001*%D11*X1000000Y0D03*D10*D03*M02*",
         "in halves 20000000 0, 20000000 0, 10000001 by 7.0\n10000000 0, 10000000 0, 5000000 by 9.0",
@@ -548,7 +548,7 @@ static OF_FINES: [(&str, &str); 8] = [
 ];
 
 // Macros of odd sizes, all of this crate's own: discs and rectangles in half u, and lines, by quarter turns.
-static OF_FINE_MACROS: [(&str, &str); 15] = [
+static FINE_MACROS: [(&str, &str); 15] = [
     (
         "%AMV*1,1,1.0000001,0.1,0*%%ADD11V*%D11*X0Y0D03*M02*",
         "in halves 2000000 0, 2000000 0, 10000001 by 9.0",
@@ -613,7 +613,7 @@ static OF_FINE_MACROS: [(&str, &str); 15] = [
 ];
 
 // Draws with pens of odd sizes, all of this crate's own: straight ones in half u, arcs as wide as the pen.
-static OF_FINE_PENS: [(&str, &str); 8] = [
+static FINE_PENS: [(&str, &str); 8] = [
     (
         "%ADD11C,1.0000001*%D11*X1000000Y-2000000D01*D10*X0D01*M02*",
         "in halves 0 0, 20000000 -40000000, 10000001 by 7.0\n10000000 -20000000, 0 -20000000, 5000000 by 9.0",
@@ -653,7 +653,7 @@ static OF_FINE_PENS: [(&str, &str); 8] = [
 ];
 
 // Contours with arcs, all of this crate's own; one without is an area.
-static OF_REGIONS: [(&str, &str); 6] = [
+static REGIONS: [(&str, &str); 6] = [
     (
         "X0Y0D02*G36*G01X1000000D01*G75*G03X0Y1000000I-1000000J0D01*G01X0Y0D01*G37*M02*",
         "from 0 0, 10000000 0, (0 0) true 0 10000000, 0 0 by 11.0",
@@ -693,25 +693,25 @@ fn first_other(alloc: Global, rows: &[(&str, &str)]) -> Result<String, AllocErro
 
 #[test]
 fn arcs_are_read(rt: HostRuntime) -> Result<(), Fail> {
-    assert_eq!(rt; first_other(rt.alloc(), &OF_ANY_ARCS)?.as_str(), "");
-    assert_eq!(rt; first_other(rt.alloc(), &OF_REGIONS)?.as_str(), "");
-    assert_eq!(rt; first_other(rt.alloc(), &OF_QUARTERS)?.as_str(), "");
-    assert_eq!(rt; first_other(rt.alloc(), &OF_REFUSALS)?.as_str(), "");
+    assert_eq!(rt; first_other(rt.alloc(), &ANY_ARCS)?.as_str(), "");
+    assert_eq!(rt; first_other(rt.alloc(), &REGIONS)?.as_str(), "");
+    assert_eq!(rt; first_other(rt.alloc(), &QUARTERS)?.as_str(), "");
+    assert_eq!(rt; first_other(rt.alloc(), &REFUSALS)?.as_str(), "");
     Ok(())
 }
 
 #[test]
 fn macros_are_read(rt: HostRuntime) -> Result<(), Fail> {
-    assert_eq!(rt; first_other(rt.alloc(), &OF_LINES)?.as_str(), "");
-    assert_eq!(rt; first_other(rt.alloc(), &OF_TURNS)?.as_str(), "");
+    assert_eq!(rt; first_other(rt.alloc(), &LINES)?.as_str(), "");
+    assert_eq!(rt; first_other(rt.alloc(), &TURNS)?.as_str(), "");
     Ok(())
 }
 
 #[test]
 fn holes_and_odd_sizes_are_read(rt: HostRuntime) -> Result<(), Fail> {
-    assert_eq!(rt; first_other(rt.alloc(), &OF_HOLES)?.as_str(), "");
-    assert_eq!(rt; first_other(rt.alloc(), &OF_FINES)?.as_str(), "");
-    assert_eq!(rt; first_other(rt.alloc(), &OF_FINE_MACROS)?.as_str(), "");
-    assert_eq!(rt; first_other(rt.alloc(), &OF_FINE_PENS)?.as_str(), "");
+    assert_eq!(rt; first_other(rt.alloc(), &HOLES)?.as_str(), "");
+    assert_eq!(rt; first_other(rt.alloc(), &FINES)?.as_str(), "");
+    assert_eq!(rt; first_other(rt.alloc(), &FINE_MACROS)?.as_str(), "");
+    assert_eq!(rt; first_other(rt.alloc(), &FINE_PENS)?.as_str(), "");
     Ok(())
 }

@@ -136,7 +136,7 @@ fn bound<P: Package>(alloc: Global, name: Text, package: &mut P) -> Result<Board
     }
 }
 
-// Two names as texts. A function of four would cost its proof three times as much.
+// Two names as texts. One function of all four took longer to prove than these two.
 fn two_names_of(alloc: Global, first: &str, second: &str) -> Result<(Text, Text), BuildFault>
     requires first { IsText first.now }
     requires second { IsText second.now }

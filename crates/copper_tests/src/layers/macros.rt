@@ -8,7 +8,7 @@ use std::test::Fail;
 use texts::MOST_BYTES;
 
 // Primitives, and what they flash.
-static OF_IMAGES: [(&str, &str); 13] = [
+static IMAGES: [(&str, &str); 13] = [
     (
         "%FSLAX46Y46*%\n%MOMM*%\n%AMTwo*\n1,1,$1,0,0*\n21,1,$1+$1,$1,0,1.0,0*%\n%ADD10Two,1.0*%\nD10*\nX0Y0D03*\nM02*\n",
         "0 0, 0 0, 5000000 on 1 by 8.0\n[-10000000 5000000][10000000 5000000][10000000 15000000][-10000000 15000000] on 1 by 8.0",
@@ -65,7 +65,7 @@ static OF_IMAGES: [(&str, &str); 13] = [
 ];
 
 // Macros that are refused, and definitions.
-static OF_REFUSALS: [(&str, &str); 22] = [
+static REFUSALS: [(&str, &str); 22] = [
     (
         "%FSLAX46Y46*%%MOMM*%%AM*%M02*",
         "31 BadMacro at command 3, byte 21",
@@ -154,7 +154,7 @@ static OF_REFUSALS: [(&str, &str); 22] = [
 ];
 
 // Second rows, and faults that stand together: the first in the order is told.
-static OF_ORDERS: [(&str, &str); 20] = [
+static ORDERS: [(&str, &str); 20] = [
     (
         "%FSLAX46Y46*%%MOMM*%%AMA*1,1,1,0,0*%%AMB*%%AMA*1,0,x*%M02*",
         "32 MacroTwice at command 6, byte 43",
@@ -256,7 +256,7 @@ const POLYGON: &str =
 type Pad = (&'static str, &'static str, &'static str, &'static str);
 
 // Pads as they are placed, turned by quarter turns and by 45 degrees.
-static OF_PADS: [Pad; 19] = [
+static PADS: [Pad; 19] = [
     (
         ROUNDED,
         "",
@@ -396,7 +396,7 @@ fn first_other(alloc: Global, rows: &[(&str, &str)]) -> Result<String, AllocErro
 
 // The first pad that is read otherwise than it says.
 fn first_other_pad(alloc: Global) -> Result<String, AllocError> {
-    for (name, turn, rest, expected) in &OF_PADS {
+    for (name, turn, rest, expected) in &PADS {
         let file = format!(in alloc; "%FSLAX46Y46*%\n%MOMM*%\n{name}{turn}*%\n{rest}")?;
         let read = told(alloc, file.as_bytes())?;
         if read.as_str() != *expected {
@@ -408,9 +408,9 @@ fn first_other_pad(alloc: Global) -> Result<String, AllocError> {
 
 #[test]
 fn macros_are_read(rt: HostRuntime) -> Result<(), Fail> {
-    assert_eq!(rt; first_other(rt.alloc(), &OF_IMAGES)?.as_str(), "");
-    assert_eq!(rt; first_other(rt.alloc(), &OF_REFUSALS)?.as_str(), "");
-    assert_eq!(rt; first_other(rt.alloc(), &OF_ORDERS)?.as_str(), "");
+    assert_eq!(rt; first_other(rt.alloc(), &IMAGES)?.as_str(), "");
+    assert_eq!(rt; first_other(rt.alloc(), &REFUSALS)?.as_str(), "");
+    assert_eq!(rt; first_other(rt.alloc(), &ORDERS)?.as_str(), "");
     assert_eq!(rt; first_other_pad(rt.alloc())?.as_str(), "");
     Ok(())
 }
@@ -467,7 +467,7 @@ fn shapes(alloc: Global) -> Result<String, AllocError> {
 }
 
 // Flashes and blocks where the room for 200,000 pieces or for 1,000,000 edges is used up.
-static OF_ROOMS: [(&str, &str); 8] = [
+static ROOMS: [(&str, &str); 8] = [
     // A flash is judged as a whole.
     (
         "D10*%SRX199999Y1I0.001J0*%D03*%SR*%D11*D03*M02*",
@@ -510,7 +510,7 @@ static OF_ROOMS: [(&str, &str); 8] = [
 fn rooms_are_of_whole_flashes(rt: HostRuntime) -> Result<(), Fail> {
     let begin = shapes(rt.alloc())?;
     assert_eq!(rt;
-        first_other_end(rt.alloc(), begin.as_str(), &OF_ROOMS)?.as_str(),
+        first_other_end(rt.alloc(), begin.as_str(), &ROOMS)?.as_str(),
         ""
     );
     Ok(())
@@ -535,7 +535,7 @@ fn circles(alloc: Global) -> Result<String, AllocError> {
 }
 
 // Endings of such a file.
-static OF_RADII: [(&str, &str); 5] = [
+static RADII: [(&str, &str); 5] = [
     // The end word's other conditions come before that on radii.
     (
         "D356*D03*G36*M02*",
@@ -560,7 +560,7 @@ static OF_RADII: [(&str, &str); 5] = [
 fn a_file_has_few_radii(rt: HostRuntime) -> Result<(), Fail> {
     let begin = circles(rt.alloc())?;
     assert_eq!(rt;
-        first_other_end(rt.alloc(), begin.as_str(), &OF_RADII)?.as_str(),
+        first_other_end(rt.alloc(), begin.as_str(), &RADII)?.as_str(),
         ""
     );
     Ok(())
@@ -577,7 +577,7 @@ fn full_macro(alloc: Global) -> Result<String, AllocError> {
 }
 
 // Endings of such a macro.
-static OF_FULL_MACROS: [(&str, &str); 4] = [
+static FULL_MACROS: [(&str, &str); 4] = [
     ("%%ADD10A*%D10*D03*M02*", "256 pieces"),
     ("0*%M02*", "0 pieces"),
     ("1,1,1,0,0*%M02*", "31 BadMacro at command 260, byte 2585"),
@@ -588,7 +588,7 @@ static OF_FULL_MACROS: [(&str, &str); 4] = [
 fn a_macro_has_few_primitives(rt: HostRuntime) -> Result<(), Fail> {
     let begin = full_macro(rt.alloc())?;
     assert_eq!(rt;
-        first_other_end(rt.alloc(), begin.as_str(), &OF_FULL_MACROS)?.as_str(),
+        first_other_end(rt.alloc(), begin.as_str(), &FULL_MACROS)?.as_str(),
         ""
     );
     Ok(())
@@ -635,7 +635,7 @@ fn apertures(alloc: Global) -> Result<String, AllocError> {
 }
 
 // What may come behind them: a number that is taken, then the room, and only then the primitives.
-static OF_MANY_APERTURES: [(&str, &str); 2] = [
+static MANY_APERTURES: [(&str, &str); 2] = [
     (
         "%ADD10B*%M02*",
         "18 ApertureTwice at command 65541, byte 775400",
@@ -650,7 +650,7 @@ static OF_MANY_APERTURES: [(&str, &str); 2] = [
 fn macros_make_few_apertures(rt: HostRuntime) -> Result<(), Fail> {
     let begin = apertures(rt.alloc())?;
     assert_eq!(rt;
-        first_other_end(rt.alloc(), begin.as_str(), &OF_MANY_APERTURES)?.as_str(),
+        first_other_end(rt.alloc(), begin.as_str(), &MANY_APERTURES)?.as_str(),
         ""
     );
     Ok(())

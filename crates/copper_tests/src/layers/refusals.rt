@@ -4,7 +4,7 @@ use std::alloc::{AllocError, Global};
 use std::test::Fail;
 
 // Words that are none, the end, format and unit.
-static OF_WORDS_AND_SETTINGS: [(&str, &str); 18] = [
+static WORDS_AND_SETTINGS: [(&str, &str); 18] = [
     (
         "%FSLAX46Y46*%%MOMM*%G99*M02*",
         "1 BadWord at command 3, byte 20",
@@ -68,7 +68,7 @@ static OF_WORDS_AND_SETTINGS: [(&str, &str); 18] = [
 ];
 
 // Forms that the profile leaves out, and apertures.
-static OF_FORMS_LEFT_OUT: [(&str, &str); 18] = [
+static FORMS_LEFT_OUT: [(&str, &str); 18] = [
     ("%FSLAX46Y45*%M02*", "7 BadFormat at command 1, byte 1"),
     (
         "%FSLAX46Y46*%%FSLAX36Y36*%M02*",
@@ -120,7 +120,7 @@ static OF_FORMS_LEFT_OUT: [(&str, &str); 18] = [
 ];
 
 // Regions, the grid, the range and the layer.
-static OF_REGIONS_AND_RANGES: [(&str, &str); 18] = [
+static REGIONS_AND_RANGES: [(&str, &str); 18] = [
     (
         "%FSLAX46Y46*%%MOMM*%G36*G36*M02*",
         "20 NotInRegion at command 4, byte 24",
@@ -196,7 +196,7 @@ static OF_REGIONS_AND_RANGES: [(&str, &str); 18] = [
 ];
 
 // Rooms that are used up, and files of several faults.
-static OF_ROOMS: [(&str, &str); 17] = [
+static ROOMS: [(&str, &str); 17] = [
     ("%IPNEG*%M02*", "26 NegativeFile at command 1, byte 1"),
     (
         "%FSLAX46Y46*%%MOMM*%%ADD10C,1*%D10*X0Y0D03*X0Y0D03*X0Y0D03*X0Y0D03*X0Y0D03*X0Y0D03*X0Y0D03*M02*",
@@ -277,9 +277,9 @@ fn are_refused(alloc: Global, rows: &[(&str, &str)]) -> Result<bool, AllocError>
 
 #[test]
 fn files_are_refused(rt: HostRuntime) -> Result<(), Fail> {
-    assert!(rt; are_refused(rt.alloc(), &OF_WORDS_AND_SETTINGS)?);
-    assert!(rt; are_refused(rt.alloc(), &OF_FORMS_LEFT_OUT)?);
-    assert!(rt; are_refused(rt.alloc(), &OF_REGIONS_AND_RANGES)?);
-    assert!(rt; are_refused(rt.alloc(), &OF_ROOMS)?);
+    assert!(rt; are_refused(rt.alloc(), &WORDS_AND_SETTINGS)?);
+    assert!(rt; are_refused(rt.alloc(), &FORMS_LEFT_OUT)?);
+    assert!(rt; are_refused(rt.alloc(), &REGIONS_AND_RANGES)?);
+    assert!(rt; are_refused(rt.alloc(), &ROOMS)?);
     Ok(())
 }
