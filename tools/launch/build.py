@@ -7,7 +7,7 @@ and memory serve, and the program is built. What was proved stays, so an interru
 the words are tried, in the folder of the call, and the trial's answer is told as one that is not proved.
 
     build.py --only TOP [WORD ..]   the same, and then runs nothing
-    build.py --keep TOP             keeps a program that was built, for other checkouts of the same sources
+    build.py --keep TOP SOURCES     keeps a program that the gate built of sources of this sum, for other checkouts of the same
 """
 import os
 import re
@@ -27,7 +27,7 @@ from trial import Trial  # noqa: E402
 INTERRUPTED, FAILED = 130, 70
 # A check takes one to four gigabytes, as does a trial.
 MEMORY_OF_A_CHECK = 3 << 30
-# Seconds in which a trial has places of its own.
+# Seconds in which a trial has more than one place.
 FIRST = 90
 # Seconds between two looks at what runs.
 LOOK = 0.1
@@ -86,9 +86,11 @@ class Build:
         self.progress.begin(self.trial.is_running())
 
     def free(self):
-        """A trial compiles and checks side by side, so it has two of four places at first, and one of fewer; then what the proof leaves."""
-        is_first = self.trial.is_running() and time.monotonic() < self.progress.started + FIRST
-        return self.places - (min(2, self.places // 2) if is_first else 0)
+        """A trial compiles and checks side by side, so it has two of four places at first, and one of fewer; then one."""
+        if not self.trial.is_running():
+            return self.places
+        is_first = time.monotonic() < self.progress.started + FIRST
+        return self.places - (min(2, self.places // 2) if is_first else 1)
 
     def work(self):
         while self.proof.left:
@@ -160,33 +162,45 @@ def build(top, words):
         # The next turn looks at the sources again: they are the caller's, and may have changed.
 
 
-def keep(top):
-    """Keeps a program that the gate proved and built."""
+def keep(top, sources):
+    """Keeps a program that the gate proved and built, where the sources are those with which it began."""
     made = kept.Made(line_of_rt(), kept.sum_of_sources(top))
+    if made.sources != sources:
+        raise Stop(FAILED, "the sources changed during the gate: its program is not noted as proved")
     kept.note(top, made)
     kept.keep(top, made)
 
 
+def call(top, command, words):
+    """Builds, and then runs the command where there is one, which begins again with the launcher."""
+    for number in children.heard():
+        signal.signal(number, children.interrupt)
+    try:
+        build(top, words)
+        if command:
+            # Where the program's time could not be set, the launcher would call again for ever.
+            os.execve(command, [command, *words], dict(os.environ, BOARDNET_BUILT=top))
+    except KeyboardInterrupt:
+        raise Stop(INTERRUPTED, "interrupted; what was proved is kept, and the next call goes on there") from None
+
+
 def main(words):
     flag = words[0] if words[:1] in (["--only"], ["--keep"]) else None
-    if len(words) < 2 or flag == "--keep" and len(words) != 2:
+    if len(words) < 2 or flag == "--keep" and len(words) != 3:
         sys.exit(__doc__)
-    if flag == "--keep":
-        keep(words[1])
-        return 0
+    top, command = (words[1], None) if flag else words[:2]
     try:
-        for number in children.heard():
-            signal.signal(number, children.interrupt)
-        build(words[1] if flag else words[0], words[2:])
-        if not flag:
-            os.execv(words[1], words[1:])
+        if flag == "--keep":
+            keep(top, words[2])
+        else:
+            call(top, command, words[2:])
         return 0
-    except KeyboardInterrupt:
-        say("interrupted; what was proved is kept, and the next call goes on there")
-        return INTERRUPTED
     except Stop as stop:
         say(stop)
         return stop.status
+    except OSError as error:
+        say(f"{error.filename or top}: {error.strerror}")
+        return FAILED
 
 
 if __name__ == "__main__":

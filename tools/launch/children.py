@@ -11,6 +11,9 @@ PATIENCE = 20
 
 
 def interrupt(*_):
+    """Ends what runs, once: a signal that comes on top would end the clean-up too."""
+    for number in heard():
+        signal.signal(number, lambda *_: None)
     raise KeyboardInterrupt
 
 
@@ -30,7 +33,7 @@ def heard_later():
         for number, handler in handlers:
             signal.signal(number, handler)
     if noted:
-        raise KeyboardInterrupt
+        interrupt()
 
 
 def seconds_of_children():

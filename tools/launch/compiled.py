@@ -32,11 +32,12 @@ def beside(name):
 def of_sources(top, names):
     """What this Python makes of sources below a folder, by where it looks for that: the same bytes each time, since a new process makes
     them. They hold as long as the source has the same bytes."""
+    import pathlib
     import subprocess
     import tempfile
     with tempfile.TemporaryDirectory() as folder:
         subprocess.run([sys.executable, "-I", "-B", os.path.abspath(__file__), folder, *names], cwd=top, check=True)
-        return {beside(name): open(os.path.join(folder, str(k)), "rb").read() for k, name in enumerate(names)}
+        return {beside(name): pathlib.Path(folder, str(k)).read_bytes() for k, name in enumerate(names)}
 
 
 def main(folder, *names):

@@ -71,6 +71,8 @@ find_manifest() {
   folder='' name=$1
   if [ -d "$1" ]; then
     folder=$1 name=m.json
+    # To cd, - alone is the folder before.
+    [ "$1" != - ] || folder=./-
     [ -e "$1/m.json" ] || say "$1 has no m.json; \`boardnet manifest $1\` writes one"
   else
     find_file "$1"

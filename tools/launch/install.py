@@ -66,12 +66,9 @@ def files(top):
 
 
 def put(path, data, mode):
-    """Writes a file apart and then renames it, so that a program that runs keeps its own."""
+    """Writes a file whole, so that a program that runs keeps its own."""
     os.makedirs(os.path.dirname(path), exist_ok=True)
-    with open(path + ".new", "wb") as file:
-        file.write(data)
-    os.chmod(path + ".new", mode)
-    os.replace(path + ".new", path)
+    kept.write_whole(path, data, mode)
 
 
 def install(top, prefix, stage=""):
@@ -88,8 +85,8 @@ def main(words):
         sys.exit(__doc__)
     try:
         print("\n".join(install(*words, os.environ.get("DESTDIR", ""))))
-    except OSError as error:
-        print(f"boardnet: {error.filename}: {error.strerror}: not installed", file=sys.stderr)
+    except (OSError, subprocess.CalledProcessError) as error:
+        print(f"boardnet: not installed: {error}", file=sys.stderr)
         return 1
     return 0
 

@@ -2,6 +2,7 @@
 
     kept.py TOP     prints the sum of a checkout's sources, and whether its program is noted as proved of them
 """
+import contextlib
 import hashlib
 import json
 import os
@@ -65,10 +66,12 @@ def place():
 
 
 def count_as_new(top):
-    """Makes the program newer than every source, also one whose time lies ahead: so the launcher knows it without sums."""
+    """Makes the program newer than every source, also one whose time lies ahead: so the launcher knows it without sums, where this user
+    can set its time."""
     newest = max(os.stat(path).st_mtime_ns for path in sources(top))
     now = max(time.time_ns(), newest)
-    os.utime(program_of(top), ns=(now, now))
+    with contextlib.suppress(OSError):
+        os.utime(program_of(top), ns=(now, now))
 
 
 def noted(top):
@@ -98,8 +101,9 @@ def write_whole(path, data, mode):
             file.write(data)
         os.chmod(apart, mode)
         os.replace(apart, path)
-    except OSError:
-        os.remove(apart)
+    except BaseException:
+        with contextlib.suppress(FileNotFoundError):
+            os.remove(apart)
         raise
 
 

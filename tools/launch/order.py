@@ -21,6 +21,8 @@ def uses(names):
     for name, of in names.items():
         found[name] = [it for it in of if it in found]
     return found
+
+
 def below(using):
     """What each crate stands on, all the way down."""
     found = {}

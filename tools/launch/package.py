@@ -4,6 +4,7 @@
 They hold what `install` installs. Nothing is made where the checkout is changed, or its program is not noted as proved of its
 sources: what is trusted is that note, which the launcher and the gate write behind a proof, and whoever can write to the checkout.
 """
+import contextlib
 import hashlib
 import io
 import os
@@ -125,12 +126,19 @@ class Package:
             subprocess.run(["dpkg-deb", "--root-owner-group", "-Zxz", "--build", scratch, path], check=True, **how)
 
     def make(self, folder):
+        """Makes both, or none."""
         os.makedirs(folder, exist_ok=True)
         made = [(os.path.join(folder, f"boardnet-{self.version}.tar.xz"), self.tar), (os.path.join(folder, f"boardnet_{self.version}_{self.architecture}.deb"), self.deb)]
-        for path, write in made:
-            write(path + ".new")
-            os.replace(path + ".new", path)
-            print(path)
+        try:
+            for path, write in made:
+                write(path + ".new")
+            for path, _ in made:
+                os.replace(path + ".new", path)
+        finally:
+            for path, _ in made:
+                with contextlib.suppress(FileNotFoundError):
+                    os.remove(path + ".new")
+        print("\n".join(path for path, _ in made))
 
 
 def main(words):

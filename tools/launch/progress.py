@@ -9,11 +9,19 @@ def clock(seconds):
     return f"{hours}:{minutes:02}:{seconds:02}" if hours else f"{minutes}:{seconds:02}"
 
 
+def every():
+    """Seconds between two lines where there is no terminal."""
+    try:
+        return float(os.environ.get("BOARDNET_TELLS_EVERY", ""))
+    except ValueError:
+        return 60.0
+
+
 class Progress:
     def __init__(self, crates, out):
         self.crates, self.out = len(crates), out
         self.is_terminal = out.isatty()
-        self.every = 1 if self.is_terminal else float(os.environ.get("BOARDNET_TELLS_EVERY", "60"))
+        self.every = 1 if self.is_terminal else every()
         self.left, self.at_work, self.width = len(crates), [], 0
         self.started = self.told = time.monotonic()
 

@@ -64,6 +64,9 @@ class Proved:
     def has(self, sum):
         """Whether it is there and whole; then it counts as used now, and else nothing is left of it."""
         folder = self.folder(sum)
+        if not os.path.isdir(folder):
+            # Another call may put it there at any time.
+            return False
         try:
             with open(os.path.join(folder, NOTE), encoding="ascii") as file:
                 is_whole = file.read() == sum_of_folder(folder)
@@ -83,7 +86,8 @@ class Proved:
             os.rename(made, self.folder(sum))
         except OSError:
             if not self.has(sum):
-                raise
+                # What a crash left there is removed now.
+                os.rename(made, self.folder(sum))
 
     def shrink(self):
         found = sorted((os.path.join(self.at, it) for it in os.listdir(self.at)), key=os.path.getmtime)

@@ -85,7 +85,7 @@ _boardnet() {
     compopt -o filenames
     case ${COMP_WORDS[1]} in
 @NONE@
-      *) COMPREPLY=($(compgen -f -- "$word")) ;;
+      *) mapfile -t COMPREPLY < <(compgen -f -- "$word") ;;
     esac
   fi
 }

@@ -23,6 +23,9 @@ NICE = "5"
 
 def names_of(manifest):
     """The files that a manifest names; none where it is no manifest, for then the program reads no other."""
+    if not os.path.isfile(manifest):
+        # What a pipe gives is the program's.
+        return []
     try:
         with open(manifest, "rb") as file:
             told = json.loads(file.read().decode("utf-8"))
@@ -60,6 +63,8 @@ def asked_of(words, folder):
             raise NoTrial
         if os.path.isfile(path):
             data[plain] = path
+        elif os.path.exists(path):
+            raise NoTrial
     return words, data
 
 

@@ -1,4 +1,5 @@
 """Zip archives: their files, written flat to a folder beside the archive."""
+import errno
 import os
 
 from . import MOST_BYTES, Refused, shown
@@ -21,19 +22,36 @@ def files_of(archive):
     return found
 
 
+def is_damage(error):
+    """Whether an archive is at fault, and not the system: each way of packing raises errors of its own, bzip2 a system's one without
+    a number, and a place before the file's beginning is a wrong argument."""
+    return error.errno in (None, errno.EINVAL) if isinstance(error, OSError) else not isinstance(error, (Refused, MemoryError))
+
+
 def extract(path, folder):
-    """Writes the archive's files to a new folder."""
+    """Writes the archive's files to a new folder; where that fails, there is no folder."""
     import zipfile          # most boards come in no archive, and loading takes long
     try:
         with zipfile.ZipFile(path) as archive:
             found = files_of(archive)
             os.makedirs(folder)
-            for name, entry in found.items():
-                with archive.open(entry) as source, open(os.path.join(folder, name), "xb") as file:
-                    # One byte over the limit is enough to see that a file is too long.
-                    file.write(source.read(MOST_BYTES + 1))
-    except (zipfile.BadZipFile, NotImplementedError, RuntimeError, EOFError) as error:
-        raise Refused(f"{shown(path)} is no zip archive that can be opened ({error})") from None
+            try:
+                write(archive, found, folder)
+            except BaseException:
+                import shutil
+                shutil.rmtree(folder, ignore_errors=True)
+                raise
+    except Exception as error:
+        if not is_damage(error):
+            raise
+        raise Refused(f"{shown(path)} is no zip archive that can be opened ({shown(str(error))})") from None
+
+
+def write(archive, found, folder):
+    for name, entry in found.items():
+        with archive.open(entry) as source, open(os.path.join(folder, name), "xb") as file:
+            # One byte over the limit is enough to see that a file is too long.
+            file.write(source.read(MOST_BYTES + 1))
 
 
 def unpack(path):

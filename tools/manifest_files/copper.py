@@ -4,7 +4,7 @@ import re
 from . import Refused, shown
 
 FUNCTION = re.compile(rb"(?:%|G04 #@! ?)TF\.FileFunction,([^*\r\n]*)")
-COPPER = re.compile(r"Copper,L([1-9][0-9]*)(?:,(Top|Inr|Bot))?(?:,|$)")
+COPPER = re.compile(r"Copper,L([1-9][0-9]{0,8})(?:,(Top|Inr|Bot))?(?:,|$)")
 ORIGIN = re.compile(rb"(?:%|G04 #@! ?)TF\.SameCoordinates(?:,([^*\r\n]*))?\*")
 LAYER_NAME = re.compile(rb"%LN([^*%\r\n]*)\*")
 # Names that have a side and are no copper.
@@ -46,7 +46,8 @@ def place_of(text):
     for pattern, what in ((PLANE, "plane"), (INNER, "inner"), (NUMBERED, "layer")):
         found = pattern.search(text)
         if found:
-            return what, int(next(group for group in found.groups() if group))
+            digits = next(filter(None, found.groups()))
+            return (what, int(digits)) if len(digits) < 10 else None
     if TOP.search(text):
         return "top", 0
     return ("bottom", 0) if BOTTOM.search(text) else None

@@ -43,7 +43,7 @@ def of_attribute(name, function, data):
         return None, "its holes are not plated, so they join nothing"
     if fields[0] != "Plated":
         return None, f"its function is {function}"
-    if len(fields) < 3 or not (fields[1].isdigit() and fields[2].isdigit()):
+    if len(fields) < 3 or not all(re.fullmatch("[0-9]{1,9}", field) for field in fields[1:3]):
         raise Refused(f"{name} says that its holes are plated and not which layers they span: its comment is to be `; #@! TF.FileFunction,Plated,<from>,<to>`")
     return Drills(name, (int(fields[1]), int(fields[2]))), ""
 

@@ -5,7 +5,7 @@ from . import MOST_BYTES
 
 MARKS = ((b"\xef\xbb\xbf", "a byte order mark"), (b"\xff\xfe", "a byte order mark of UTF-16"), (b"\xfe\xff", "a byte order mark of UTF-16"))
 GERBER = re.compile(rb"%(?:FS|MO|AD|TF|LN|IN|AM|LP)|^G04|^G0?1\*", re.M)
-DRILL = re.compile(rb"\A(?:[ \t\r\n]*(?:;[^\n]*|%[ \t\r]*)?\n)*[ \t]*M48")
+DRILL = re.compile(rb"\A(?:[ \t\r]*(?:;[^\n]*|%[ \t\r]*)?\n)*[ \t]*M48")
 RECORD = re.compile(rb"^(?:317|327)", re.M)
 UNITS = re.compile(rb"^P +UNITS", re.M)
 END = re.compile(rb"^999", re.M)

@@ -51,7 +51,7 @@ class Package:
     def read_job(self, data):
         try:
             self.board_layers = int(json.loads(data.decode("utf-8-sig"))["GeneralSpecs"]["LayerNumber"])
-        except (ValueError, KeyError, TypeError, UnicodeDecodeError):
+        except (ValueError, KeyError, TypeError, OverflowError, RecursionError):
             pass
 
     def add_gerber(self, name, data):

@@ -3,7 +3,8 @@ import re
 
 from . import Mend, short
 
-WORD = re.compile(rb"[\t\n\r ]*(?:(%)|([^*%]*)\*)")
+# A percent sign, or a word and its star. It matches everywhere, so that what has no star is looked at once.
+TOKEN = re.compile(rb"[\t\n\r ]*(?:(%)|([^*%]*)(\*?))")
 DECIMAL = rb"[+-]?(?:[0-9]+\.?[0-9]*|\.[0-9]+)"
 OPERATION = re.compile(rb"(?:G0?([123]))?(?:X([+-]?[0-9]{1,13}))?(?:Y([+-]?[0-9]{1,13}))?((?:[IJ][+-]?[0-9]{1,13})*)(?:D0?([123]))?")
 SELECTION = re.compile(rb"(?:G54)?D([0-9]{2,9})")
@@ -50,8 +51,8 @@ def pairs(data):
             return
         first = True
         while at < end:
-            match = WORD.match(data, at, end)
-            if not match:
+            match = TOKEN.match(data, at, end)
+            if not match[3]:
                 break
             yield match.start(2), match.end(2), match[2], first
             first, at = False, match.end()
@@ -60,16 +61,15 @@ def pairs(data):
 
 def words(data):
     """Each word with its place, whether it is in a pair of percent signs, and whether it is the pair's first."""
-    at, inside, first = 0, False, True
-    for match in WORD.finditer(data):
-        if match.start() != at:
-            raise Broken
-        at = match.end()
+    inside, first = False, True
+    for match in TOKEN.finditer(data):
         if match[1]:
             inside, first = not inside, True
-        else:
+        elif match[3]:
             yield match.start(2), match.end(2), match[2], inside, first
             first = False
+        elif match.end() < len(data):
+            raise Broken
 
 
 class Edits:

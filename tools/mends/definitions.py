@@ -1,5 +1,6 @@
 """Apertures and macros of a copper file: which are used, and those outside the profile that are not; words of macros broken over lines."""
 import re
+from collections import defaultdict
 
 from .copper_words import AXES, COMMENT, DECIMAL, NOTHING, SELECTION, SIZES, in_u, pairs, words
 from .table import LINES, UNUSED
@@ -9,8 +10,7 @@ MOVES = (b"D02", b"D2")
 SCALES = {b"MOMM": 10 ** 7, b"MOIN": 254 * 10 ** 6}
 MOST = 10 ** 10             # 1 m in u
 MOST_WIDE = 5 * 10 ** 8     # 50 mm
-# A break that ends no number: beside a comma, or at the word's end.
-BREAK = re.compile(rb"[ \t\r\n]*,[ \t\r\n]*|[ \t\r\n]+\Z")
+BLANKS = b" \t\r\n"
 BLANK = re.compile(rb"[ \t\r\n]")
 
 
@@ -90,9 +90,12 @@ class Definitions:
 
     def rewrite(self):
         """Unused definitions go, and words of macros that are left are joined. The macros that are left, each with its apertures."""
-        gone, left = self.unused(), []
+        gone, left, by_name = set(self.unused()), [], defaultdict(list)
+        for it in self.apertures:
+            if it not in gone:
+                by_name[it.name].append(it)
         for macro in self.macros:
-            having = [it for it in self.apertures if it.name == macro.name and it not in gone]
+            having = by_name.get(macro.name)
             if having:
                 self.join(macro)
                 left.append((macro, having))
@@ -106,10 +109,10 @@ class Definitions:
         self.edits.note(*macro.words[0][:2], UNUSED)
 
     def join(self, macro):
-        """Words over several lines in one; a break elsewhere than beside a comma stays."""
+        """Words over several lines in one; a break elsewhere than beside a comma or at the end, as in a number, stays."""
         for at, (start, end, word) in enumerate(macro.words[1:], 1):
             if BLANK.search(word) and not word.startswith(b"0"):
-                joined = BREAK.sub(lambda found: b"," if b"," in found[0] else b"", word)
+                joined = b",".join(part.strip(BLANKS) for part in word.split(b","))
                 if not BLANK.search(joined):
                     self.edits.put(start, end, joined, LINES)
                     macro.words[at] = start, end, joined

@@ -1,7 +1,7 @@
 """Words of a copper file that change nothing, written as `check` takes them."""
 import re
 
-from .copper_words import AXES, COMMENT, DECIMAL, OPERATION, SIZES, has, pairs, words
+from .copper_words import AXES, COMMENT, DECIMAL, OPERATION, SIZES, has, in_u, pairs, words
 from .table import END, FORMAT, IDENTITY, STATE, STRAIGHT
 
 TAKEN = (b"OFA0B0", b"MIA0B0", b"SFA1B1", b"SFA1.0B1.0", b"IR0")
@@ -25,7 +25,7 @@ def extended(edits):
         if lead in AS_TAKEN and word not in TAKEN:
             match = re.fullmatch(BY_VALUE, word)
             wanted = 1 if lead == b"SF" else 0
-            if match and all(is_equal(value, wanted) for value in (match[2], match[3], match[5]) if value):
+            if match and all(in_u(value, 1) == wanted for value in (match[2], match[3], match[5]) if value):
                 edits.put(start, end, AS_TAKEN[lead], IDENTITY)
         elif lead == b"SR" and re.fullmatch(ONCE, word) and not re.fullmatch(ONCE_TAKEN, word):
             edits.put(start, end, b"SRX1Y1I0J0", IDENTITY)
@@ -39,11 +39,6 @@ def extended(edits):
                 edits.put(start, end, whole, IDENTITY)
 
 
-def is_equal(decimal, whole):
-    from fractions import Fraction
-    return Fraction(decimal.decode()) == whole
-
-
 def without_holes(word):
     """An aperture's word without a hole of size 0."""
     head, comma, sizes = word.partition(b",")
@@ -51,7 +46,7 @@ def without_holes(word):
     if len(parts) == 1:
         return word
     most = SIZES.get(re.sub(rb"ADD[0-9]+", b"", head), len(parts))
-    if most < len(parts) <= most + 2 and all(re.fullmatch(DECIMAL, part) and is_equal(part, 0) for part in parts[most:]):
+    if most < len(parts) <= most + 2 and all(re.fullmatch(DECIMAL, part) and in_u(part, 1) == 0 for part in parts[most:]):
         return head + comma + b"X".join(parts[:most])
     return word
 

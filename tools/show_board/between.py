@@ -38,6 +38,9 @@ class Findings:
     def __init__(self, board):
         self.board, self.opens, self.counts = board, Opens(board), Counter()
         self.shorts = {it.nets[0]: it for it in shorts_of(board, Finding)}
+        self.points = defaultdict(list)         # by net and name
+        for point, (_, _, name, net) in enumerate(board.report.points):
+            self.points[net, name].append(point)
 
     def of(self, answer):
         """The findings of the joint answer."""
@@ -62,7 +65,7 @@ class Findings:
         if kind == "missing" or len(nets) < 2 or -1 in nets[:2]:
             return {}
         names = {self.board.name_of(point) for point in points}
-        parts = [[point for point, (_, _, name, net) in enumerate(self.board.report.points) if net == of and name in names] for of in nets]
+        parts = [sorted(point for name in names for point in self.points.get((net, name), ())) for net in nets]
         gap = self.opens.gap(nets[1], nets[0], points[0]) if kind == "open" else self.opens.copper.gap(nets[0], nets[1]) if self.board.shapes else None
         return {"gap": gap, "hints": open_hints(self.board, gap), "parts": parts if kind == "open" else []}
 

@@ -60,7 +60,7 @@ def outline_of(package):
     """The box of a board with negative files."""
     from . import negative, two_sides
     texts = [package.read(name).decode("latin-1") for name in dict.fromkeys(package.manifest.copper)]
-    return negative.outline_of(negative.profile_of(package.home or package.folder), texts, lambda text: two_sides.Copper(text, cuts=True).objects)
+    return negative.outline_of(negative.profile_of(package.around), texts, lambda text: two_sides.Copper(text, cuts=True).objects)
 
 
 def sides_of(package, name, is_coarse=False):

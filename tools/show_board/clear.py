@@ -8,6 +8,7 @@ from collections import Counter
 from math import gcd
 from typing import NamedTuple
 
+from .grid import meet
 from .rounds import polygon
 from .spots import edges
 from .sweep import Sweep
@@ -42,10 +43,6 @@ def box(piece):
         return min(xs), min(ys), max(xs), max(ys)
     _, a, b, r = piece
     return min(a[0], b[0]) - r, min(a[1], b[1]) - r, max(a[0], b[0]) + r, max(a[1], b[1]) + r
-
-
-def meet(one, two):
-    return one[0] <= two[2] and two[0] <= one[2] and one[1] <= two[3] and two[1] <= one[3]
 
 
 class Boxes:

@@ -19,7 +19,9 @@ class Differing:
     def __init__(self, program, low, high, sources):
         self.low, self.high = low, high
         self.manifest, self.report = high.package.manifest, high.report
-        self.shapes = None
+        self.shapes, self.graphs, self.pieces = None, {}, defaultdict(list)
+        for piece, net in enumerate(high.report.net_of):
+            self.pieces[net].append(piece)
         if low.report.sources and high.report.sources:
             self.keys = [list(self.commands(told.report, by_file)) for told, by_file in zip((low, high), sources)]
             self.below = defaultdict(set)
@@ -43,8 +45,13 @@ class Differing:
         return self.below.get(key) or {key}
 
     def graph(self, net):
-        """The lower nets that touches of an upper net join: for each the others, with the touching pieces."""
-        pieces, near = [piece for piece, its in enumerate(self.report.net_of) if its == net], defaultdict(dict)
+        """The lower nets that touches of an upper net join: for each the others, with the touching pieces. A net may have many findings."""
+        if net not in self.graphs:
+            self.graphs[net] = self.joined(self.pieces[net])
+        return self.graphs[net]
+
+    def joined(self, pieces):
+        near = defaultdict(dict)
         pairs = [(piece, piece) for piece in pieces if len(self.nodes(piece)) > 1]
         for p, q in pairs + list(self.touching.pairs(pieces)) if len(pieces) <= MOST else []:
             for a in self.nodes(p):

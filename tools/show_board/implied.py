@@ -1,6 +1,5 @@
 """How many decimals a drill file without points may mean, by holes that lie on through points of the netlist."""
 import re
-from itertools import product
 from typing import NamedTuple
 
 from .layering import is_near, near_cells
@@ -66,8 +65,18 @@ def fits(name, text, cells):
 
 def combined(by_file):
     """One reading for each file: the same one for all where that fits, else each file's own."""
-    same = [fit_all for fit_all in product(*by_file) if len({(fit.reading.decimals, fit.reading.width > 0) for fit in fit_all}) == 1]
-    return sorted(same or product(*by_file), key=lambda fit_all: -sum(fit.on for fit in fit_all))[:MOST]
+    forms = [{(fit.reading.decimals, fit.reading.width > 0): fit for fit in its} for its in by_file]
+    same = [tuple(its[form] for its in forms) for form in forms[0] if all(form in its for its in forms)]
+    return sorted(same, key=lambda fit_all: -sum(fit.on for fit in fit_all))[:MOST] or likeliest(by_file)
+
+
+def likeliest(by_file):
+    """The first of all combinations as they would be sorted: what begins one of these is among the first of all beginnings."""
+    best = [(0, (), ())]
+    for its in by_file:
+        longer = [(off - fit.on, (*places, place), (*chosen, fit)) for off, places, chosen in best for place, fit in enumerate(its)]
+        best = sorted(longer, key=lambda it: it[:2])[:MOST]
+    return [chosen for _, _, chosen in best]
 
 
 def told(fit_all):

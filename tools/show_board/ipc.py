@@ -12,10 +12,10 @@ from . import points
 from .board import NO_NET
 from .exact import ceil_root
 from .padlist import VIA, front
+from .units import UNIT_WORDS
 from .words import at_most, counted, millimetres, spoken
 
 NAME = re.compile(r"(?!NNAME)[!-~]{1,14}")
-UNIT_WORDS = {10_000: "0.001 mm", 25_400: "0.0001 inch"}
 FEW = 6             # nets and pads that are named in a line
 MOST = 9_999        # what the four digits of a size hold
 

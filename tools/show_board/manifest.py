@@ -34,5 +34,5 @@ def of_text(data):
     """The manifest in some bytes, or None where they are none: then `check` says why."""
     try:
         return Manifest(json.loads(data.decode("utf-8")))
-    except (ValueError, KeyError, TypeError):
+    except (ValueError, KeyError, TypeError, OverflowError, RecursionError):
         return None

@@ -33,14 +33,16 @@ def around(boxes):
 
 
 def profile_of(folder):
-    """The text of the profile file of a folder, or None."""
-    for name in sorted(os.listdir(folder)):
-        path = os.path.join(folder, name)
-        if os.path.isfile(path):
-            with open(path, "rb") as file:
-                if PROFILE.search(file.read(HEAD).decode("latin-1")):
-                    file.seek(0)
-                    return file.read().decode("latin-1")
+    """The text of the profile file of a folder, or None; a file that cannot be read says nothing."""
+    for path in (os.path.join(folder, name) for name in sorted(os.listdir(folder))):
+        try:
+            if os.path.isfile(path):
+                with open(path, "rb") as file:
+                    if PROFILE.search(file.read(HEAD).decode("latin-1")):
+                        file.seek(0)
+                        return file.read().decode("latin-1")
+        except OSError:
+            pass
     return None
 
 

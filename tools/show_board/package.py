@@ -26,6 +26,8 @@ class Package:
         self.between = self.sides = None
         # How the files are called where the user has them, and whether the manifest was made here.
         self.home, self.is_made = "", False
+        # The folder where they lie with all that is beside them, of a zip archive that of what was in it.
+        self.around = folder
         # The netlist of the copper's own names, where they are judged by one, and the one that it stands for, or nothing; the ties
         # that pads of several nets declare.
         self.own, self.theirs, self.ties = "", "", []
@@ -67,7 +69,7 @@ class Package:
     def changed(self, folder, files=None, told=None):
         """Another package of the same files but for those that are given, in a folder of its own."""
         copy = Package(told or self.manifest, folder, self.name)
-        copy.flattened, copy.home = set(self.flattened) - set(files or ()), self.home
+        copy.flattened, copy.home, copy.around = set(self.flattened) - set(files or ()), self.home, self.around
         copy.before = {name: data for name, data in self.before.items() if name in copy.flattened}
         copy.own, copy.mends = self.own, self.mends
         os.makedirs(folder)
@@ -111,7 +113,7 @@ def of_manifest(path, scratch):
     told = manifest.of_text(data)
     home, name = os.path.dirname(path), os.path.basename(path)
     package = Package(told, room(scratch, told.names() if told else []), name)
-    package.home = home
+    package.home, package.around = home, home or "."
     package.put(name, data)
     package.came[name] = os.path.abspath(path)
     for each in [*(told.names() if told else []), TIES]:
@@ -134,7 +136,7 @@ def of_folder(home, asked, scratch):
                    + "".join(f"\n  would be taken: {word}" for word in guessed))
     told = manifest.Manifest(plan.manifest)
     package = Package(told, room(scratch, told.names()))
-    package.home, package.guessed, package.is_made = home, guessed, True
+    package.home, package.around, package.guessed, package.is_made = home, home, guessed, True
     package.left_out = [f"{name}: {why}" for name, why in found.left_out]
     package.put("m.json", told.text().encode())
     for name in filter(None, [*told.names(), TIES]):

@@ -8,7 +8,7 @@ from fractions import Fraction as Q
 from functools import lru_cache
 
 from .netlist import U_OF, UNITS
-from .units import INCH, MM, SCALES
+from .units import INCH, MM, SCALES, UNIT_WORDS
 from .words import millimetres
 
 SAMPLE = 40             # records that vote
@@ -20,7 +20,6 @@ PLACE = re.compile(r"([XY])([+-]?)(\d+\.?\d*|\.\d+)")
 OPERATION = re.compile(r"(?:(?<=[*%\s])|(?<=G0[123])|(?<=G[123]))(?=[XYD])(?:X([+-]?\d+))?(?:Y([+-]?\d+))?(?:I[+-]?\d+)?(?:J[+-]?\d+)?(?:D0?([123]))?\*")
 GERBER_UNIT = re.compile(r"%(MOMM|MOIN)\*|(?:^|[*\s])(G7[01])\*")
 FORMAT = re.compile(r"%FSLAX\d(\d)Y")
-UNIT_WORDS = {25_400: "0.0001 inch", 10_000: "0.001 mm"}
 FORMS = [("", lambda x, y: (x, y)), ("mirrored left to right", lambda x, y: (-x, y)), ("mirrored upside down", lambda x, y: (x, -y)),
          ("turned by half", lambda x, y: (-x, -y)), ("turned by a quarter", lambda x, y: (-y, x)), ("turned by three quarters", lambda x, y: (y, -x)),
          ("mirrored and turned by a quarter", lambda x, y: (y, x)), ("mirrored and turned by three quarters", lambda x, y: (-y, -x))]

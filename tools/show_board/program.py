@@ -18,10 +18,13 @@ class Answer(namedtuple("Answer", "status out line")):
 
 
 def found():
-    """The program's place."""
-    for path in (os.environ.get("BOARDNET"), *PLACES):
-        if path and os.access(path, os.X_OK) and not os.path.isdir(path):
+    """The program's place; where BOARDNET names one, no other is run."""
+    named = os.environ.get("BOARDNET")
+    for path in (named,) if named else PLACES:
+        if os.access(path, os.X_OK) and not os.path.isdir(path):
             return os.path.abspath(path)
+    if named:
+        raise Stop(NO_PROGRAM, f"BOARDNET names {named}, which is no program that can be run")
     raise Stop(NO_PROGRAM, "the program is not built; `boardnet show` builds it, and BOARDNET names one that lies elsewhere")
 
 

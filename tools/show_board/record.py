@@ -87,7 +87,7 @@ def of(program, told, shown):
     return {
         "boardnet_record": FORM, "date": datetime.datetime.now(datetime.timezone.utc).strftime("%Y-%m-%dT%H:%M:%SZ"), "board": shown.title,
         "program": of_program(program), "status": shown.verdict[0], "line": shown.verdict[1], "beside": shown.line, "files": list(files_of(told)),
-        "mends": [it.words for it in getattr(told.package, "mends", ())], "ties": shown.ties.text().splitlines() if getattr(shown, "ties", None) else [],
+        "mends": [it.words for it in told.package.mends], "ties": shown.ties.text().splitlines(),
         "hints": [hint.words for hint in shown.hints], "notes": list(shown.notes), "reports": reports,
     }
 
@@ -111,7 +111,7 @@ def read(path):
             record = json.loads(file.read().decode("utf-8"), object_pairs_hook=once)
     except OSError as error:
         raise Stop(UNREADABLE, f"{path}: {error.strerror}") from None
-    except ValueError:
+    except (ValueError, RecursionError):
         raise Stop(REFUSED, f"{path}: no record, since it is no JSON") from None
     if not isinstance(record, dict) or record.get("boardnet_record") != FORM:
         raise Stop(REFUSED, f"{path}: no record of the form {FORM}")

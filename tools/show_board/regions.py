@@ -7,6 +7,8 @@ them lies in it. Where all arcs are exact, contours within or round it that need
 from functools import lru_cache
 from typing import NamedTuple
 
+from mends.copper_words import MOST_EDGES
+
 from .arcs import Arc, arc_chain, distances, goes_once, is_loop, leaves
 from .contours import contour_bound
 from .exact import Refused
@@ -15,8 +17,6 @@ from .rounds import polygon
 from .side import FLASH, MOVE, edges_of
 from .spots import cross, dot
 from .sweep import Sweep
-
-MOST_EDGES = 100_000        # of a contour, in the profile
 
 
 class Regions:

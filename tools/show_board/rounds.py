@@ -109,7 +109,11 @@ def ring(centre, chain, high):
     if not all(keeps_off(p, q, centre, wide) for p, q in zip(tops, tops[1:])):
         return None
     both = [[[a, b, d, c] for a, b, c, d in zip(one, one[1:], two, two[1:])] for one, two in (sides, (tops, feet))]
-    for end in {chain[0], chain[-1]}:
-        both[0] += [found for found in [polygon(("capsule", end, end, high - 1), False)] if found]
-        both[1].append(polygon(("capsule", end, end, high + 4 * (far - near) + 8), True))
-    return tuple(both)
+    return tuple(areas + more for areas, more in zip(both, at_ends(chain, high - 1, high + 4 * (far - near) + 8)))
+
+
+def at_ends(chain, inner, outer):
+    """(inner, outer): areas within and round discs about both ends of a chain."""
+    ends = {chain[0], chain[-1]}
+    within = [polygon(("capsule", end, end, inner), False) for end in ends]
+    return [found for found in within if found], [polygon(("capsule", end, end, outer), True) for end in ends]

@@ -9,7 +9,7 @@ from .progress import Progress
 from .scratch import Scratch
 from .shown import show
 
-INTERRUPTED = 130
+SIGNALS = (signal.SIGINT, signal.SIGTERM, signal.SIGHUP)
 ONE_BOARD = ("rdb", "page", "svg", "keep", "ipc", "record", "verify")
 
 
@@ -28,7 +28,7 @@ def words(given):
     """The caller's words; a wrong one ends with status 2."""
     asked = options.asked(given)
     if asked.help or asked.h:
-        print(section(), end="")
+        written.write("-", section())
         sys.exit(0)
     if not asked.paths:
         options.wrong("it wants a folder, a zip archive or a manifest")
@@ -133,15 +133,25 @@ def run(asked):
 
 
 def interrupted(number, _):
+    """Ends the run; a second signal does not end its tidying."""
+    for other in SIGNALS:
+        signal.signal(other, passed_over)
     raise Interrupted(number)
 
 
+def passed_over(*_):
+    """Where a signal were ignored instead, Python would speak of one that came meanwhile."""
+
+
 def main(given):
-    asked = words(given)
+    asked = None
     seldom.collected()
-    for number in (signal.SIGINT, signal.SIGTERM, signal.SIGHUP):
-        signal.signal(number, interrupted)
+    for number in SIGNALS:
+        # What is ignored stays so, as nohup wants.
+        if signal.getsignal(number) != signal.SIG_IGN:
+            signal.signal(number, interrupted)
     try:
+        asked = words(given)
         return run(asked)
     except Stop as stop:
         print(f"boardnet: {stop}", file=sys.stderr)
@@ -152,6 +162,6 @@ def main(given):
         os.dup2(os.open(os.devnull, os.O_WRONLY), 1)
         return UNWRITABLE
     except Exception as fault:
-        stop = fault_of(asked.paths[0], fault)
+        stop = fault_of(asked.paths[0] if asked else "show", fault)
         print(f"boardnet: {stop}", file=sys.stderr)
         return stop.status

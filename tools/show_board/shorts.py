@@ -43,7 +43,8 @@ def tie_hints(board, joined, meets):
             told.setdefault("=".join(names), (found[0], NO_NET in names))
     for names, (component, is_unnamed) in list(told.items())[:MOST_TOLD]:
         if not is_unnamed:
-            yield f"Suggestion: both have pins of {component} there; where it is to join them, --tie {shlex.quote(names)} declares it."
+            link = "=" if names.startswith("-") else " "        # so that a name as -12V is taken for no option
+            yield f"Suggestion: both have pins of {component} there; where it is to join them, --tie{link}{shlex.quote(names)} declares it."
 
 
 def meet_hints(board, joined, meets):

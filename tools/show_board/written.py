@@ -1,4 +1,5 @@
 """Files that are written whole or not at all, and the standard output."""
+import errno
 import os
 import sys
 
@@ -10,6 +11,8 @@ def write(path, text):
     data = text.encode("utf-8", "surrogateescape") if isinstance(text, str) else text
     try:
         if path == "-":
+            if sys.stdout is None:      # it was closed before the start
+                raise OSError(errno.EBADF, os.strerror(errno.EBADF))
             sys.stdout.buffer.write(data)
             sys.stdout.buffer.flush()
         elif os.path.exists(path) and not os.path.isfile(path):

@@ -20,6 +20,17 @@ class Benches(common.Case):
             if words and f"benches/{name} PROGRAM" in head:
                 self.assertIn("PROGRAM", words, name)
 
+    def test_reading_one_runs_nothing(self):
+        for it in os.scandir(BENCHES):
+            if it.is_file() and "." not in it.name:
+                with open(it.path, encoding="utf-8") as file:
+                    self.assertIn('\nif __name__ == "__main__":\n', file.read(), it.name)
+
+    def test_words_that_are_wanted(self):
+        for name in ("gaps", "pages"):
+            status, _, notes = self.run_words([os.path.join(BENCHES, name)])
+            self.assertEqual((status, f"benches/{name} PROGRAM" in notes), (1, True), name)
+
     def test_what_reads_files(self):
         program = common.program()
         for name, lines in (("read_draws", 2), ("read_reports", 3)):

@@ -3,6 +3,7 @@ import importlib.util
 import os
 import shutil
 import sys
+from unittest import mock
 
 import common
 
@@ -79,6 +80,19 @@ class Install(Installed):
         status, out, _ = self.launch("install", "/usr", DESTDIR=self.path("stage"))
         self.assertEqual((status, out.split()[0]), (0, "/usr/lib/boardnet/boardnet"))
         self.assertTrue(os.path.isfile(self.path("stage", "usr", "bin", "boardnet")))
+
+
+    def test_not_installed(self):
+        self.write("top/boardnet", "#!/bin/sh\nexit 3\n", 0o755)
+        told = self.run_words([sys.executable, self.path("top", "tools", "launch", "install.py"), self.top, self.path("here")])
+        self.assertEqual(told, (1, "", f"boardnet: not installed: Command '['{self.path('top', 'boardnet')}', '--version']' returned non-zero exit status 3.\n"))
+
+
+class Written(common.Case):
+    def test_an_interrupt_leaves_no_file(self):
+        with mock.patch("os.replace", side_effect=KeyboardInterrupt), self.assertRaises(KeyboardInterrupt):
+            kept.write_whole(self.path("file"), b"text", 0o644)
+        self.assertEqual(os.listdir(self.scratch), [])
 
 
 class Compiled(Installed):
@@ -169,6 +183,7 @@ class Package(Installed):
             # the reason begins so, what is done to a checkout that has a package
             ("the checkout is changed, so its commit does not name its sources: M crates/boardnet/src/main.rt", lambda: self.write(source, "// changed\n")),
             ("the checkout is changed, so its commit does not name its sources: ?? tools/more", lambda: self.write("top/tools/more", "")),
+            ("the checkout is changed, so its commit does not name its sources: ?? HANDLES", lambda: self.write("top/HANDLES", "")),
             ("the program was proved of other sources", other_sources),
             ("nothing says that this program was proved", lambda: shutil.copy(shutil.which("true"), program)),
             ("nothing says that this program was proved", lambda: os.remove(program + ".made")),
@@ -182,11 +197,18 @@ class Package(Installed):
                 self.assertEqual((status, out), (1, ""))
                 self.assertTrue(notes.startswith(f"boardnet: no package: {reason}"), notes)
                 self.assertFalse(os.path.exists(self.path("made")))
+                self.assertEqual(", changed" in self.launch("--version")[1], "is changed" in reason)
             if os.path.isdir(self.path("top", ".git")):
                 self.git("checkout", "-q", "--", ".")
                 self.git("clean", "-fdq")
                 shutil.copy(shutil.which("echo"), program)
                 self.note()
+
+    def test_half_of_it_is_not_left(self):
+        self.write("bin/dpkg-deb", "#!/bin/sh\nfor path; do :; done\necho half >\"$path\"\nexit 2\n", 0o755)
+        status, out, notes = self.launch("package", self.path("made"), PATH=self.path("bin") + os.pathsep + os.environ["PATH"])
+        self.assertEqual((status, out, notes.count("boardnet: no package: ")), (1, "", 1))
+        self.assertEqual(os.listdir(self.path("made")), [])
 
     def test_a_program_of_unknown_libraries(self):
         for program in (b"\x7fELF" + bytes(60) + b"\0libodd.so.3\0", b"#!/bin/sh\n"):
@@ -228,7 +250,9 @@ class Texts(common.Case):
         COMP_WORDS=(boardnet "$1") COMP_CWORD=1; _boardnet; echo "${COMPREPLY[@]}"
         COMP_WORDS=(boardnet manifest --) COMP_CWORD=2; _boardnet; echo "${COMPREPLY[@]}"
         COMP_WORDS=(boardnet check fil) COMP_CWORD=2; _boardnet; echo "${COMPREPLY[@]}"
+        COMP_WORDS=(boardnet check a) COMP_CWORD=2; _boardnet; printf '<%s>' "${COMPREPLY[@]}"
         """
         self.write("file.json", "")
+        self.write("a b.json", "")
         out = self.run_words(["bash", "-c", script, "bash", "a"])[1].splitlines()
-        self.assertEqual(out, ["audit", "--help --netlist --yes --no-drills --mend", "file.json"])
+        self.assertEqual(out, ["audit", "--help --netlist --yes --no-drills --mend", "file.json", "<a b.json>"])

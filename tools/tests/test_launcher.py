@@ -37,6 +37,7 @@ class Launcher(common.Case):
 
     def test_where_the_program_runs(self):
         here, there = os.path.realpath(self.path("here")), os.path.realpath(self.path("here", "there"))
+        self.write("here/-/m.json", "")
         rows = [
             # words, folder, where the program runs, its words
             ("check there/m.json", "here", there, "check m.json"),
@@ -46,6 +47,8 @@ class Launcher(common.Case):
             (f"check {there}/m.json", "top", there, "check m.json"),
             ("check m.json", "here/there", there, "check m.json"),
             ("check .", "here/there", there, "check m.json"),
+            ("check -", "here", f"{here}/-", "check m.json"),
+            ("audit - -/r.txt", "here", f"{here}/-", "audit m.json r.txt"),
             ("check there/m.json 1", "here", there, "check m.json 1"),
             ("check nowhere/m.json", "here", here, "check nowhere/m.json"),
             ("audit there/m.json r.txt", "here", there, f"audit m.json {here}/r.txt"),
@@ -63,7 +66,7 @@ class Launcher(common.Case):
         ]
         for words, folder, where, wanted in rows:
             with self.subTest(words=words, folder=folder):
-                status, out, _ = self.launch(*words.split(), folder=folder)
+                status, out, _ = self.launch(*words.split(), folder=folder, OLDPWD=self.path("top"))
                 self.assertEqual((status, out), (0, "\n".join([where, *wanted.split()]) + "\n"))
 
     def test_names_with_blanks_and_signs(self):

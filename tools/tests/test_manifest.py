@@ -1,11 +1,13 @@
 """tools/manifest on the examples and on made packages, in the manner of several tools."""
 import contextlib
+import errno
 import importlib.machinery
 import importlib.util
 import io
 import json
 import os
 import zipfile
+from unittest import mock
 
 import common
 
@@ -116,6 +118,8 @@ class Manifest(common.Case):
 
     def test_copper_that_says_what_it_is(self):
         self.taken(TWO, WRITTEN)
+        for layers in ("1e999", "[" * 100_000, "1" * 5000):
+            self.taken({**TWO, "x.gbrjob": f'{{"GeneralSpecs": {{"LayerNumber": {layers}}}}}', "x.gbr": copper(f"Copper,L{'1' * 5000}")}, WRITTEN, "left out: x.gbr: its function is Copper,L11")
         comment = copper("", "G04 #@! TF.FileFunction,Copper,L1,Top*\n")
         self.taken(two(F_gbr=comment), WRITTEN)
         self.taken(two(**{"mask_gbr": copper("Soldermask,Top"), "np_drl": drill("NonPlated,1,2,NPTH")}), WRITTEN,
@@ -140,6 +144,7 @@ class Manifest(common.Case):
             (two(p_drl=drill("Plated,1,2,PTH", "; #@! TF.FileFunction,NonPlated,1,2,NPTH\n")), "several comments TF.FileFunction"),
             (two(p_drl=drill("", ";TYPE=PLATED\n;TYPE=NON_PLATED\n")), "p.drl: line 8 makes a hole that the file itself calls unplated"),
             (two(p_drl=drill("Plated")), "not which layers they span"),
+            (two(p_drl=drill(f"Plated,1,{'2' * 5000}")), "not which layers they span"),
             (two(p_drl=drill("Plated,1,3,PTH")), "p.drl spans layers 1 to 3 of 2"),
             (two(p_drl=copper("Plated,1,2,PTH,Drill")), "no drill file of plated holes"),
         ]:
@@ -223,6 +228,7 @@ class Manifest(common.Case):
         ]:
             with self.subTest(files=files):
                 self.refused({**{name: copper() for name in files}, **surface}, word, words=["--yes"])
+        self.refused({"a.gbr": copper("", f"%LNINNER{'1' * 5000}*%\n"), **surface}, "no file says or looks like a copper layer", words=["--yes"])
         self.refused(two(B_gbr=copper("Copper,L2"), x_gbl=copper()), "looks like copper", "while other layers have one")
         # A top layer alone may lack its bottom, unless the job file says that there is none.
         one = {"F.gbr": copper("Copper,L1,Top"), "B_Cu.gbr": copper(), "n.ipc": SURFACE}
@@ -264,6 +270,7 @@ class Manifest(common.Case):
             ("note.gbr", "some words", "it is no Gerber, drill or IPC-D-356A file"),
             ("\u00e9.txt", "words", "it is no Gerber, drill or IPC-D-356A file"),
             ("mark.txt", b"\xef\xbb\xbfwords", "it is no Gerber, drill or IPC-D-356A file (after a byte order mark)"),
+            ("lines.txt", "\n" * 100_000 + "words", "it is no Gerber, drill or IPC-D-356A file"),
         ]
         notes = self.taken({**TWO, **{name: text for name, text, _ in rows}}, WRITTEN)
         for name, _, word in rows:
@@ -279,6 +286,13 @@ class Manifest(common.Case):
                 self.refused({**files, "\u00e9" + name: TWO[name]}, f"the name \\xe9{name} is not 1 to 200 printable ASCII characters", "rename the file")
         self.refused({**two(n_ipc=None), "n" * 201 + ".ipc": NET}, "1 to 200 printable ASCII")
         self.refused({**two(F_gbr=None), "\u00e9.gbr": copper()}, "copper layers 2 are not 1 to 2 without a gap")
+
+    def packed(self, how):
+        """The bytes of an archive of one file."""
+        with zipfile.ZipFile(self.path("packed.zip"), "w", how) as made:
+            made.writestr("F.gbr", copper("Copper,L1,Top") * 20)
+        with open(self.path("packed.zip"), "rb") as file:
+            return file.read()
 
     def test_archives(self):
         def archive(name, files):
@@ -297,6 +311,12 @@ class Manifest(common.Case):
         self.assertEqual((self.manifest("up.zip")[0], sorted(os.listdir(self.path("up")))), (0, ["F.gbr", "m.json", "n.ipc"]))
         self.write("bad.zip", b"PK\x03\x04 no archive")
         self.assertIn("is no zip archive that can be opened", self.manifest("bad.zip")[2])
+        for packed in (zipfile.ZIP_DEFLATED, zipfile.ZIP_LZMA, zipfile.ZIP_BZIP2):
+            damaged = bytearray(self.packed(packed))
+            damaged[40:48] = b"\xff" * 8
+            self.write("damaged.zip", bytes(damaged))
+            status, _, notes = self.manifest("damaged.zip")
+            self.assertEqual((status, notes.count("\n"), "is no zip archive that can be opened" in notes, os.path.exists(self.path("damaged"))), (1, 1, True, False), notes)
         self.write("plain.gbr", copper())
         self.assertIn("is no zip archive", self.manifest("plain.gbr")[2])
         for name in ("nowhere", "nowhere.zip"):
@@ -307,7 +327,21 @@ class Manifest(common.Case):
         self.assertEqual(self.run_words([MANIFEST, "board"])[:2], (0, "board/m.json: 2 copper, 1 drill files, netlist n.ipc\n"))
         self.assertEqual(self.manifest("--help")[0], 0)
         self.assertEqual(self.manifest()[0], 2)
-        self.assertEqual(self.manifest("board", "other")[0], 2)
+        for words in (["other"], ["--net", "n.ipc"]):
+            self.assertEqual(self.manifest("board", *words)[0], 2)
+
+    def test_written_whole_or_not_at_all(self):
+        """Where there is no room the manifest that was there stays, and so it does at an interrupt."""
+        self.make(two(m_json="before"))
+        with mock.patch("os.replace", side_effect=OSError(errno.ENOSPC, "No room")):
+            self.assertEqual(self.manifest("board"), (1, "", "manifest: board/m.json: No room: cannot be written\n"))
+        with mock.patch.object(SCRIPT.package, "gather", side_effect=KeyboardInterrupt):
+            self.assertEqual(self.manifest("board"), (130, "", ""))
+        with zipfile.ZipFile(self.path("b.zip"), "w") as made:
+            made.writestr("n.ipc", NET)
+        with mock.patch.object(SCRIPT.archives, "write", side_effect=OSError(errno.ENOSPC, "No room")):
+            self.assertEqual(self.manifest("b.zip"), (1, "", "manifest: b.zip: No room\n"))
+        self.assertEqual((self.read("board/m.json"), sorted(os.listdir(self.path("board"))), os.path.exists(self.path("b"))), ("before", sorted([*TWO, "m.json"]), False))
 
     def test_written_manifests_are_read(self):
         program = common.program()

@@ -2,6 +2,7 @@
 import json
 import os
 import random
+import time
 
 import common
 from mends import chords, copper_file, drill_file, package, plating, table, ways
@@ -43,6 +44,7 @@ COPPER = [
 # Files that `check` refuses and that stay as they are.
 COPPER_STAYS = {
     "an offset": PLAIN.replace("%MOMM*%", "%MOMM*%\n%OFA0.0B0.1*%"),
+    "an offset of many digits": PLAIN.replace("%MOMM*%", f"%MOMM*%\n%OFA0.{'1' * 5000}B0*%"),
     "a scale": PLAIN.replace("%MOMM*%", "%MOMM*%\n%SFA1.0B1.00001*%"),
     "axes": PLAIN.replace("%MOMM*%", "%MOMM*%\n%ASAYBX*%"),
     "a centre": PLAIN.replace("Y0D01", "Y0I0J1D01"),
@@ -202,6 +204,14 @@ class Mends(common.Case):
             with self.subTest(name):
                 self.assertEqual(drill_file.mended(text.encode()), (text.encode(), []))
                 self.refusal(text, "drl")
+
+    def test_long_words(self):
+        """What has no star, and many blanks, are looked at once; so are the apertures of many macros."""
+        many = "".join(f"%AMM{k}*1,1,1,0,0*%%ADD{k + 10}M{k}*%D{k + 10}*X0Y0D03*\n" for k in range(10_000))
+        for text in (HEAD + many + END, "G55" + "x" * 100_000, "G55*" + " " * 100_000, "%OF" + " " * 100_000 + "%", macro("1,1,1" + " " * 100_000 + "0,0,0")):
+            began = time.process_time()
+            self.assertEqual(copper_file.mended(text.encode()), (text.encode(), []))
+            self.assertLess(time.process_time() - began, 2)
 
     def test_examples_stay(self):
         for folder, _, names in os.walk(common.EXAMPLES):

@@ -3,7 +3,10 @@ import collections
 import importlib.machinery
 import importlib.util
 import os
+import signal
+import subprocess
 import sys
+import time
 
 import common
 
@@ -21,6 +24,10 @@ JOBS = [
 ]
 # A job that burns a second in a child of its own.
 BURNS = "import os, time\nif not os.fork():\n    end = time.process_time() + 1.2\n    while time.process_time() < end: pass\n    os._exit(0)\nos.wait(); time.sleep(2)"
+
+# Two processes, one of them in a group of its own, that tell that they run, and wait.
+WAITS = "import os, time\nif not os.fork():\n    os.setpgid(0, 0)\nopen(f'runs-{os.getpid()}', 'w').close()\ntime.sleep(300)"
+PATIENCE = 100
 
 
 class Minutes(common.Case):
@@ -61,3 +68,18 @@ class Minutes(common.Case):
         self.assertEqual((status, notes), (3, ""))
         self.assertRegex(self.read("rows"), r"^low tests 0\.0[2-9]\n$")
         self.assertIn(" processor minutes in ", out)
+
+    def test_ended(self):
+        running = subprocess.Popen([sys.executable, MINUTES, sys.executable, "-c", WAITS], cwd=self.scratch, stdout=subprocess.DEVNULL)
+        deadline = time.monotonic() + PATIENCE
+        while len(os.listdir(self.scratch)) < 2:
+            self.assertLess(time.monotonic(), deadline)
+            time.sleep(0.02)
+        running.terminate()
+        self.assertEqual(running.wait(timeout=PATIENCE), 128 + signal.SIGTERM)
+        self.assertEqual(minutes.children.inside(self.scratch), [])
+
+    def test_rows_that_cannot_be_written(self):
+        status, _, notes = self.run_words([sys.executable, MINUTES, "--rows", "none/rows", sys.executable, "-c", WAITS])
+        self.assertEqual((status, notes), (1, "none/rows.new: No such file or directory\n"))
+        self.assertEqual(minutes.children.inside(self.scratch), [])

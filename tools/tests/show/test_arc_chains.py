@@ -68,7 +68,7 @@ def is_loop(centre, start, end):
 
 
 def arcs(count):
-    """Arcs of a tenth of a nanometre to 79 cm: ends at one distance (mirror images of a spot), at two by a rounding or by more, in one
+    """Arcs of a tenth of a nanometre to 79 mm: ends at one distance (mirror images of a spot), at two by a rounding or by more, in one
     line with the centre, and whole turns."""
     for k in range(count):
         radius, angle = int(10 ** random.uniform(0, 8.9 if k % 2 else 3)), random.choice((random.uniform(0, 2 * pi), random.randrange(4) * pi / 2))

@@ -4,11 +4,13 @@ import random
 import tempfile
 import unittest
 from math import cos, pi, sin
+from unittest import mock
 
 import made
 from made import STAND_IN, flash, manifest, netlist, record
 from real_shapes import Real, fine, has, pieces_of
 from show_board import bounds, judged, manifest as manifests
+from show_board.differing import Differing
 from show_board.drawn import Operations
 from show_board.exact import Refused
 from show_board.objects import objects_of
@@ -24,6 +26,16 @@ HEAD = ["%FSLAX46Y46*%", "%MOMM*%", "G75*"]
 
 def copper_of(*lines):
     return Copper("\n".join(HEAD + list(lines) + ["M02*"]))
+
+
+class Graphs(unittest.TestCase):
+    def test_made_once(self):
+        """A net may have many findings."""
+        seen = Differing.__new__(Differing)
+        seen.graphs, seen.pieces = {}, {3: [1, 2], 4: [5]}
+        with mock.patch.object(Differing, "joined", side_effect=list) as joined:
+            self.assertEqual([seen.graph(net) for net in (3, 4, 3, 3)], [[1, 2], [5], [1, 2], [1, 2]])
+        self.assertEqual(joined.call_count, 2)
 
 
 class Files(unittest.TestCase):

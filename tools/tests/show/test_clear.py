@@ -3,6 +3,7 @@ import math
 import os
 import random
 import unittest
+import zipfile
 from fractions import Fraction as Q
 
 import made
@@ -656,6 +657,19 @@ class Boards(made.Case):
             self.negative(plane, word, True)
             status, out = self.told(plane)
             self.assertEqual((status, "lower differs, opens 1, shorts 1, missing 0; upper differs, opens 1, shorts 1" in out), (1, True), out)
+
+    def test_negative_by_any_name(self):
+        """The profile file is found however the board is named, past a file beside it that cannot be read."""
+        plane, far = Plane(2), record("GND", "E1.1", .1, 5.9)
+        self.negative(plane, "%IPNEG*%", True)
+        self.told(plane, far)
+        with zipfile.ZipFile(self.path("board.zip"), "w") as archive:
+            for name in os.listdir(self.path("board")):
+                archive.write(self.path("board", name), name)
+        os.symlink("/proc/self/mem", self.path("board", "a.gbr"))
+        for words, folder in (("board", None), ("board.zip", None), ("m.json", self.path("board")), (".", self.path("board"))):
+            status, out, _ = self.show(words, folder=folder, program=built())
+            self.assertEqual((status, "agrees, between two bounds" in out), (0, True), (words, out))
 
     def test_negative_twice(self):
         plane = Plane(2)

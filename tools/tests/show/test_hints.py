@@ -1,6 +1,8 @@
 """Made packages made wrong in one known way: each hint is the answer of `check` on a changed copy. Over the stand-in and the built program."""
 import json
+import random
 import unittest
+from itertools import product
 
 import made
 from hinted import Case, files_of, with_netlist
@@ -163,6 +165,17 @@ class Decimals(Case):
     def test_points_are_kept(self):
         text = "M48\nMETRIC,TZ\nT1C0.4\n%\nT1\nX1.5Y-25\n;X5\nM30\n"
         self.assertEqual(implied.with_point(text, implied.Reading(3, 0, "", "")), "M48\nMETRIC\nT1C0.4\n%\nT1\nX1.5Y-0.025\n;X5\nM30\n")
+
+    def test_combined(self):
+        """One form for all files where that fits, else the likeliest of all combinations, in their order; of many files at once."""
+        chance, how = random.Random(5), [implied.Reading(d, width, "", "") for width in (0, 6) for d in range(2, 5)]
+        fits = lambda name, least: [implied.Fit(name, it, "", chance.randrange(4), 4) for it in chance.sample(how, chance.randrange(least, 5))]
+        for files in (1, 2, 3, 4) * 40:
+            by_file = [fits(str(k), 1) for k in range(files)]
+            every = list(product(*by_file))
+            same = [its for its in every if len({(it.reading.decimals, it.reading.width > 0) for it in its}) == 1]
+            self.assertEqual(implied.combined(by_file), sorted(same or every, key=lambda its: -sum(it.on for it in its))[:implied.MOST])
+        self.assertEqual(len(implied.combined([fits(str(k), 3) for k in range(64)])), implied.MOST)
 
 
 class Outside(Case):

@@ -100,7 +100,8 @@ class Netlists(unittest.TestCase):
 
 class Packages(made.Case):
     def test_manifests(self):
-        for text in (b"[]", b"{}", b"\xff", b'{"copper":[1],"drills":[{}],"netlist":"n"}'):
+        for text in (b"[]", b"{}", b"\xff", b'{"copper":[1],"drills":[{}],"netlist":"n"}', b"[" * 100_000,
+                     b'{"copper":[],"drills":[{"file":"d","from":1e999,"to":1}],"netlist":"n"}'):
             self.assertIsNone(manifest.of_text(text))
         told = manifest.of_text(made.manifest(["a", "b", "c"], [("d", 1, 2)]).encode())
         self.assertEqual((told.files, told.layers, [told.layer_word(k) for k in (1, 2, 3)]), (["a", "b", "c", "d"], 3, ["top", "layer 2", "bottom"]))

@@ -107,7 +107,7 @@ class Records(made.Case):
 
     def test_no_record(self):
         self.board(MACRO)
-        for text, words in (("[", "no JSON"), ('{"boardnet_record": 2, "boardnet_record": 1}', "no JSON"), ("{}", "no record of the form 1"), ('{"boardnet_record": 2}', "no record of the form 1"), (None, "No such file")):
+        for text, words in (("[", "no JSON"), ("[" * 100_000, "no JSON"), ('{"boardnet_record": 2, "boardnet_record": 1}', "no JSON"), ("{}", "no record of the form 1"), ('{"boardnet_record": 2}', "no record of the form 1"), (None, "No such file")):
             if text is not None:
                 self.write("r.json", text)
             # The board's own line says why, which is all that a batch and an editor get.

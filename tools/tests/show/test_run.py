@@ -15,6 +15,7 @@ import made
 from made import draw, flash, gerber, label, manifest, netlist, record
 from show_board import indented
 from show_board.progress import Progress
+from show_board.run import SIGNALS
 
 PADS = [*flash(10, (0, 0), (10, 0), (0, 5), (3, 5))]
 GOOD = {
@@ -240,27 +241,40 @@ class Answers(made.Case):
         with open("/dev/full", "w") as full:
             done = subprocess.run([sys.executable, made.SHOW, "board"], cwd=self.scratch, env={**os.environ, "BOARDNET": made.STAND_IN}, stdout=full, stderr=subprocess.PIPE)
         self.assertEqual(done.returncode, 5)
+        rows = (("--help", ">/dev/full", "No space left on device"), ("board", ">&-", "Bad file descriptor"), ("--help", ">&-", "Bad file descriptor"))
+        for word, where, why in rows:
+            told = self.run_words(["sh", "-c", f'exec "$0" "$@" {where}', sys.executable, made.SHOW, word], environment={"BOARDNET": made.STAND_IN})
+            self.assertEqual(told, (5, "", f"boardnet: -: {why}: cannot be written\n"), (word, where))
         self.assertEqual(sorted(os.listdir(self.scratch)), ["board"])
 
     def test_no_program(self):
         self.board(GOOD)
-        status, _, notes = self.show("board", program=self.path("nothing"))
+        for name in ("nothing", "board"):
+            path = self.path(name)
+            self.assertEqual(self.show("board", program=path), (127, "", f"boardnet: BOARDNET names {path}, which is no program that can be run\n"))
+        status, _, notes = self.show("board", program="")
         if status == 127:
             self.assertIn("the program is not built", notes)
 
     def test_interrupted(self):
         self.board(GOOD)
         program = self.write("slow", "#!/bin/sh\necho $$ >pid.txt\necho there >\"$OUT/there\"\nexec sleep 60\n", 0o755)
-        for number in (signal.SIGINT, signal.SIGTERM):
+        one, two, three = SIGNALS
+        # What is sent, and what is ignored from the start; what comes behind the first that counts changes nothing.
+        for numbers, ignored in (([one], None), ([two], None), ([three], None), ([one] * 9, None), ([two, one, three], None), ([three, two], three)):
             out = self.path("out")
             os.makedirs(out, exist_ok=True)
-            how = {"env": {**os.environ, "BOARDNET": program, "OUT": out, "TMPDIR": self.temporary}, "stderr": subprocess.PIPE, "stdout": subprocess.PIPE, "cwd": self.scratch}
+            how = {"env": {**os.environ, "BOARDNET": program, "OUT": out, "TMPDIR": self.temporary}, "stderr": subprocess.PIPE, "stdout": subprocess.PIPE, "cwd": self.scratch,
+                   "preexec_fn": (lambda: signal.signal(three, signal.SIG_IGN)) if ignored else None}
             running = subprocess.Popen([sys.executable, made.SHOW, "board", "--json", "b.json"], **how)
             deadline = time.time() + 20
             while not os.path.exists(os.path.join(out, "there")) and time.time() < deadline:
                 time.sleep(0.02)
-            running.send_signal(number)
-            self.assertEqual((*running.communicate(timeout=20), running.returncode), (b"", b"", 128 + number))
+            for number in numbers:
+                running.send_signal(number)
+                time.sleep(0.5 if number == ignored else 0)
+            told = (*running.communicate(timeout=20), running.returncode)
+            self.assertIn(told, [(b"", b"", 128 + number) for number in numbers if number != ignored], numbers)
             os.remove(os.path.join(out, "there"))
             self.assertEqual(os.listdir(self.temporary), [])
         self.assertEqual(sorted(os.listdir(self.scratch)), ["board", "out", "slow"])

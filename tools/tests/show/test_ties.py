@@ -33,6 +33,9 @@ class Ties(made.Case):
             status, out, board = self.tied(program=program)
             self.assertEqual((status, board["shorts"], board["ties"]), (1, 1, []))
             self.assertIn("Suggestion: both have pins of NT1 there; where it is to join them, --tie AGND=GND declares it.\n", out)
+        minus = [it.replace("AGND", "-12V") for it in POINTS]
+        self.assertIn(" --tie=-12V=GND declares it.\n", self.tied(points=minus)[1])
+        self.assertEqual(self.tied(points=minus, words=["--tie=-12V=GND"])[0], 0)
         other = [*POINTS[:2], record("GND", "R1.1", 4, 0), record("AGND", "R2.2", 6, 0), POINTS[4]]
         self.assertNotIn("--tie", self.tied(points=other)[1])
 
