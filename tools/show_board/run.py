@@ -157,7 +157,8 @@ def main(given):
         print(f"boardnet: {stop}", file=sys.stderr)
         return stop.status
     except Interrupted as why:
-        return 128 + why.args[0]
+        # Python's own end would give signals their default back, so that one more of them changed the status.
+        os._exit(128 + why.args[0])
     except BrokenPipeError:
         os.dup2(os.open(os.devnull, os.O_WRONLY), 1)
         return UNWRITABLE

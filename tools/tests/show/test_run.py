@@ -279,6 +279,21 @@ class Answers(made.Case):
             self.assertEqual(os.listdir(self.temporary), [])
         self.assertEqual(sorted(os.listdir(self.scratch)), ["board", "out", "slow"])
 
+    def test_signal_at_the_end(self):
+        script = """
+import os, signal, sys
+sys.path.insert(0, sys.argv[1])
+from show_board import run
+class Late:
+    def __del__(self, kill=os.kill, own=os.getpid(), number=signal.SIGINT):
+        kill(own, number)
+late = Late()
+run.boards = lambda *_: os.kill(os.getpid(), signal.SIGTERM)
+sys.exit(run.main(["board"]))
+"""
+        told = self.run_words([sys.executable, "-c", script, common.TOOLS], environment={"BOARDNET": made.STAND_IN})
+        self.assertEqual(told, (128 + signal.SIGTERM, "", ""))
+
     def test_installed_words(self):
         with open(os.path.join(common.TOOLS, "help.txt")) as file:
             page = file.read().split("\n= show ")[1].split("\n= ")[0]
