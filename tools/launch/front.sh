@@ -138,6 +138,11 @@ warn_of_nothing() {
   esac
 }
 
+# Sets pointless by a report that was audited; a pipe is not given twice.
+look_at() {
+  if [ ! -f "$1" ]; then pointless=unknown; elif LC_ALL=C grep -qx 'points 0' -- "$1" 2>/dev/null; then pointless=1; fi
+}
+
 # Runs the program with these words, once, and sets its status. A yes about no test point is known by the report that passes by,
 # or that was audited.
 run() {
@@ -146,8 +151,8 @@ run() {
     check | x2) if can_pass_on; then pass_on "$@"; else "$program" "$@" || status=$?; pointless=unknown; fi ;;
     *) "$program" "$@" || status=$? ;;
   esac
-  if [ "$1" = audit ] && [ "$status" = 0 ] && LC_ALL=C grep -qx 'points 0' -- "$3" 2>/dev/null; then pointless=1; fi
   [ "$status" = 0 ] || return 0
+  [ "$1" != audit ] || look_at "$3"
   case $pointless in
     1) warn_of_nothing "$1" "$2" ;;
     unknown) say "look at the line \`points\` of the report: where it is \`points 0\`, nothing was judged" ;;

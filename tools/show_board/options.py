@@ -44,7 +44,7 @@ def plain(given):
 
 def parser():
     import argparse
-    made = argparse.ArgumentParser(prog="boardnet show", add_help=False, usage=USAGE)
+    made = argparse.ArgumentParser(prog="boardnet show", add_help=False, allow_abbrev=False, usage=USAGE)
     made.add_argument("paths", metavar="PATH", nargs="*")
     for name in FLAGS:
         made.add_argument(name, action="store_true")

@@ -145,6 +145,7 @@ def passed_over(*_):
 
 def main(given):
     asked = None
+    written.notes()
     seldom.collected()
     for number in SIGNALS:
         # What is ignored stays so, as nohup wants.

@@ -1,4 +1,4 @@
-"""Files that are written whole or not at all, and the standard output."""
+"""Files that are written whole or not at all, the standard output, and where notes go."""
 import errno
 import os
 import sys
@@ -24,6 +24,12 @@ def write(path, text):
         raise
     except OSError as error:
         raise Stop(UNWRITABLE, f"{path}: {error.strerror}: cannot be written") from None
+
+
+def notes():
+    """Where the standard error was closed before the start, notes go nowhere: Python would print them on the standard output."""
+    if sys.stderr is None:
+        sys.stderr = open(os.devnull, "w", encoding="ascii", errors="replace")
 
 
 def replace(path, data):

@@ -98,17 +98,20 @@ class Launcher(common.Case):
                 self.assertEqual(said, (int(status), "", "boardnet: asked for\n"))
 
     def test_nothing_judged(self):
-        """A yes about no test point is known by the report, which the program is asked for once."""
+        """A yes about no test point is known by the report, which the program is asked for once, and which a pipe gives once."""
+        os.mkfifo(self.path("here", "pipe"))
         rows = [
             # words, points of the report, what the program answers, what is said
             (["check", "there"], "1", "0", ""),
-            (["check", "there"], "0", "0", "m.json names a netlist without test points"),
+            (["check", "there"], "0", "0", f"{LOUD}: m.json names a netlist without test points"),
             (["check", "there"], "0", "3", ""),
             (["x2", "there"], "2", "0", ""),
-            (["x2", "there"], "0", "0", "no copper file of m.json has a net label"),
+            (["x2", "there"], "0", "0", f"{LOUD}: no copper file of m.json has a net label"),
             (["audit", "there", "r.txt"], "1", "0", ""),
-            (["audit", "there", "r.txt"], "0", "0", "m.json names a netlist without test points"),
+            (["audit", "there", "r.txt"], "0", "0", f"{LOUD}: m.json names a netlist without test points"),
             (["audit", "there", "r.txt"], "0", "1", ""),
+            (["audit", "there", "pipe"], "1", "0", "look at the line `points` of the report"),
+            (["audit", "there", "pipe"], "1", "1", ""),
             (["trial", "1", "2"], "0", "0", ""),
         ]
         for words, points, status, said in rows:
@@ -119,7 +122,7 @@ class Launcher(common.Case):
                 self.assertEqual((told, out.splitlines()[1], self.read("calls")), (int(status), f"points {points}", "asked\n"))
                 lines = notes.splitlines()
                 self.assertEqual((lines[0], len(lines)), ("boardnet: agrees", 2 if said else 1))
-                self.assertIn(f"{LOUD}: {said}" if said else "", notes)
+                self.assertIn(said, notes)
 
     def test_what_passes_by_is_not_changed(self):
         """Every byte, also behind the last line feed, and of a text of megabytes."""

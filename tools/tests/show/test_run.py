@@ -247,6 +247,12 @@ class Answers(made.Case):
             self.assertEqual(told, (5, "", f"boardnet: -: {why}: cannot be written\n"), (word, where))
         self.assertEqual(sorted(os.listdir(self.scratch)), ["board"])
 
+    def test_closed_standard_error(self):
+        self.board(BAD)
+        for words, status, lines in ((["board", "-q"], 1, 4), (["nowhere", "--ipc", "-"], 4, 0), (["board", "--jso", "b.json"], 2, 0)):
+            told = self.run_words(["sh", "-c", 'exec "$0" "$@" 2>&-', sys.executable, made.SHOW, *words], environment={"BOARDNET": made.STAND_IN})
+            self.assertEqual((told[0], told[1].count("\n"), told[2]), (status, lines, ""), words)
+
     def test_no_program(self):
         self.board(GOOD)
         for name in ("nothing", "board"):
