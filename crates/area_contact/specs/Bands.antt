@@ -114,7 +114,7 @@ IsAbout points b numbers = (u v : Spot) (r : ℤ) → IsLawful u v r → (ShareP
 abbrev pub AreAbout : ℕ → List Spot → List ℕ → List Bounds → Type 0
 AreAbout size points numbers boxes = (k : ℕ) (d : Bounds) → k < length boxes → IsAbout points (get_or boxes k d) (take size (drop (size * k) numbers))
 
--- and each edge is in a run
+-- and each edge is in a run; there are no more boxes than a contour has points
 abbrev pub AreRuns : ℕ → List Spot → List ℕ → List Bounds → Type 0
 AreRuns size points numbers boxes = AreAbout size points numbers boxes × (length numbers ≤ size * length boxes) × (length boxes ≤ MOST_CONTOUR_POINTS)
 
@@ -122,6 +122,6 @@ AreRuns size points numbers boxes = AreAbout size points numbers boxes × (lengt
 abbrev pub has_number : ℕ → List ℕ → Bool
 has_number i numbers = list_any (λ n. n == i) numbers
 
--- the numbers are those of all edges, in whatever order
+-- the numbers are those of all edges, in whatever order and however often
 abbrev pub AreAllEdges : List Spot → List ℕ → Type 0
 AreAllEdges points numbers = (i : ℕ) → has_number i numbers ≡ has_number i (all_numbers points)

@@ -95,12 +95,12 @@ pub record IsContour (points : List Spot) : Type 0 where
   pub not_many : length points ≤ MOST_CONTOUR_POINTS
   pub placed : All IsPlaced points
 
--- why a list of points is no contour; the three are told apart in this order
+-- why a list of points becomes no area; the first three are told apart in this order, and memory is wanted for a contour of 64 edges or more
 abbrev pub IsAreaFault : List Spot → AreaFault → Type 0
 IsAreaFault points Open = ¬ IsClosed points
 IsAreaFault points Short = IsClosed points × (length points < 4)
 IsAreaFault points TooLong = IsClosed points × (MOST_CONTOUR_POINTS < length points)
-IsAreaFault points NoMemory = Unit {0}
+IsAreaFault points NoMemory = IsClosed points × (64 < length points) × (length points ≤ MOST_CONTOUR_POINTS)
 
 -- ---- of two points p and q with one n
 

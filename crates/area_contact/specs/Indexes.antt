@@ -5,7 +5,7 @@ use Rattle.area_contact.specs.Bands.{AreAllEdges, AreEdges, AreRuns, IsTable, ba
 use Rattle.area_contact.specs.declared.index.Index.{Index}
 use Rattle.area_contact.specs.declared.TheConstants.{MOST_CONTOUR_POINTS}
 
--- its runs have all edges of the contour, with boxes about each 16 and each 1,024 of them
+-- its runs have all edges of the contour, no more than it can have points, with boxes about each 16 and each 1,024 of them
 abbrev pub IsRunBy : List Spot → Index → Type 0
 IsRunBy points index =
     AreRuns 16 points index.runs.numbers.items index.runs.boxes.items ×
@@ -20,6 +20,6 @@ IsFiledBy points index =
     (length index.table.starts.items ≡ 65) ×
     IsTable points (lowest points) (band_height points) index.table.starts.items index.table.numbers.items
 
--- and its tall edges are the contour's
+-- runs, bands and tall edges are those of the contour
 abbrev pub IsIndexed : List Spot → Index → Type 0
 IsIndexed points index = IsRunBy points index × IsFiledBy points index × (index.tall.items ≡ tall_of points)

@@ -2,7 +2,7 @@
 ghost use Rattle.area_contact.specs.Contour.{area_box};
 ghost use Rattle.area_contact.specs.Indexes.{IsIndexed};
 ghost use Rattle.planar.specs.Plane.{IsPlaced};
-ghost use Rattle.std.specs.Prelude.{All, IfOk, MatchOption, length, ◌≡◌, ◌≤◌};
+ghost use Rattle.std.specs.Prelude.{All, IfErr, IfOk, IfSome, MatchOption, length, ◌≡◌, ◌<◌, ◌≤◌};
 
 use super::bands::{Ladder, Table, make_ladder, make_table, tall_ones};
 use super::runs::{Runs, make_runs};
@@ -30,7 +30,9 @@ pub fn make_index(
     requires few { length points.now ≤ MOST_CONTOUR_POINTS }
     requires placed { All IsPlaced points.now }
     requires extent { extent ≡ area_box points.now }
-    ensures { IfOk result (λ index. MatchOption index (length points.now ≤ 64) (λ b. IsIndexed points.now b.value)) }
+    ensures indexed { IfOk result (λ index. MatchOption index (length points.now ≤ 64) (λ b. IsIndexed points.now b.value)) }
+    ensures many { IfOk result (λ index. IfSome index (λ _. 64 < length points.now)) }
+    ensures fault { IfErr result (λ _. 64 < length points.now) }
 {
     if points.len() <= 64 {
         return Ok(None);
