@@ -211,7 +211,7 @@ class Mends(common.Case):
         for text in (HEAD + many + END, "G55" + "x" * 100_000, "G55*" + " " * 100_000, "%OF" + " " * 100_000 + "%", macro("1,1,1" + " " * 100_000 + "0,0,0")):
             began = time.process_time()
             self.assertEqual(copper_file.mended(text.encode()), (text.encode(), []))
-            self.assertLess(time.process_time() - began, 2)
+            self.assertLess(time.process_time() - began, 5)
 
     def test_examples_stay(self):
         for folder, _, names in os.walk(common.EXAMPLES):

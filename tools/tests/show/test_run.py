@@ -273,13 +273,13 @@ class Answers(made.Case):
             how = {"env": {**os.environ, "BOARDNET": program, "OUT": out, "TMPDIR": self.temporary}, "stderr": subprocess.PIPE, "stdout": subprocess.PIPE, "cwd": self.scratch,
                    "preexec_fn": (lambda: signal.signal(three, signal.SIG_IGN)) if ignored else None}
             running = subprocess.Popen([sys.executable, made.SHOW, "board", "--json", "b.json"], **how)
-            deadline = time.time() + 20
+            deadline = time.time() + 100
             while not os.path.exists(os.path.join(out, "there")) and time.time() < deadline:
                 time.sleep(0.02)
             for number in numbers:
                 running.send_signal(number)
                 time.sleep(0.5 if number == ignored else 0)
-            told = (*running.communicate(timeout=20), running.returncode)
+            told = (*running.communicate(timeout=100), running.returncode)
             self.assertIn(told, [(b"", b"", 128 + number) for number in numbers if number != ignored], numbers)
             os.remove(os.path.join(out, "there"))
             self.assertEqual(os.listdir(self.temporary), [])
