@@ -81,7 +81,7 @@ class Build:
         self.places = places()
         self.trial = Trial()
         if self.places > 1:
-            self.trial.begin(self.proof.compiler, self.proof.sources, os.getcwd(), self.words)
+            self.trial.begin(self.proof.sources, os.getcwd(), self.words)
         self.progress = Progress(self.proof.left, sys.stderr)
         self.progress.begin(self.trial.is_running())
 

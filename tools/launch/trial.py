@@ -10,7 +10,6 @@ import tempfile
 
 import kept
 from children import Child, end_inside
-from proof import PROGRAM
 
 # Commands whose first word is a manifest.
 OF_MANIFEST = ("check", "audit", "write", "x2", "gaps")
@@ -75,7 +74,7 @@ class Trial:
     def __init__(self):
         self.scratch = self.child = None
 
-    def begin(self, compiler, sources, folder, words):
+    def begin(self, sources, folder, words):
         """Begins it, where the toolchain can try such words and there is room for a copy of the sources."""
         if not words or words[0] in NOT_TRIED:
             return
@@ -83,12 +82,13 @@ class Trial:
             words, data = asked_of(words, folder)
             self.scratch = tempfile.mkdtemp(prefix="boardnet-trial-")
             kept.copy_sources(sources, self.scratch)
-            self.start(["nice", "-n", NICE, *compiler.of_trial(PROGRAM, self.scratch, data, words)])
+            given = [word for name, path in data.items() for word in ("--data", f"{name}={path}")]
+            self.start(["nice", "-n", NICE, "rt", "try", *given, "--", *words])
         except (NoTrial, OSError):
             self.end()
 
     def start(self, asked):
-        crate = os.path.join(self.scratch, "crates", PROGRAM)
+        crate = os.path.join(self.scratch, "crates", "boardnet")
         self.child = Child(asked, crate, self.path("out"), self.path("err"), dict(os.environ, TMPDIR=self.scratch))
 
     def path(self, name):
