@@ -14,8 +14,8 @@ use crate::holes::holed;
 use lengths::decimal::Unit;
 
 /// Reads an `AD` word of real copper: as `read_aperture`, but circles, rectangles and obrounds may have a round hole
-/// (Gerber Layer Format Specification, 4.4.2 to 4.4.4 and 4.4.6), `ADD<n>C,<d>X<d>` and `ADD<n>R,<x>X<y>X<d>`, and
-/// sizes may be odd. It takes no memory.
+/// (Gerber Layer Format Specification, 4.4.2 to 4.4.4 and 4.4.6), `ADD<n>C,<d>X<d>`, `ADD<n>R,<x>X<y>X<d>` and
+/// `ADD<n>O,<x>X<y>X<d>`, and sizes may be odd. It takes no memory.
 ///
 /// Where `read_aperture` says `Hole`, the refusals of a circle or a rectangle with one parameter more come in
 /// this order: for each in turn `BadText`, `OffGrid`, and `OutOfRange` (a side of 0, a diameter over 50 mm);

@@ -57,7 +57,7 @@ fn has_turn(start: Spot, bend: &Bend) -> bool
     !in_one_direction(&draw) || is_same(draw.start, draw.end)
 }
 
-/// Whether the chain turns as often as the arc does.
+/// Whether the chain goes past the direction of its start an odd number of times exactly where the arc is a whole turn.
 fn turns_as(draw: &Arc, chain: &[Spot]) -> bool
     requires centre_placed { IsPlaced draw.now.centre }
     requires chain_placed { All IsPlaced chain.now }

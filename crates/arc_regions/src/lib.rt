@@ -6,7 +6,7 @@
 //!
 //! - `above`: whether polygon and capsules hold the region.
 //! - `below`: whether a polygon lies in it.
-//! - `links`: how often a chain goes round.
+//! - `links`: whether a chain goes round an odd number of times.
 //! - `laws`: laws over the definitions alone.
 #![tactic(auto)]
 

@@ -1,4 +1,4 @@
-//! How often a chain goes round.
+//! Whether a chain goes round an odd number of times.
 ghost use Rattle.arc_regions.specs.Taken.{is_past, odd_past, odd_round};
 ghost use Rattle.planar.specs.Plane.{IsPlaced, cross_of};
 ghost use Rattle.std.specs.Prelude.{All, int_lt, pos, ◌≡◌};

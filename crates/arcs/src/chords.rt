@@ -39,7 +39,7 @@ fn spot_within(c: Spot, a: Spot, far: u128) -> bool
     square_within(dot(c, a, a).unsigned_abs(), far)
 }
 
-/// Whether the line from `a` to `b` is at least `near` from `c`, and goes round it counterclockwise.
+/// Whether the line from `a` to `b` is at least `near` from `c`, goes round it counterclockwise, and can be measured in 128 bits.
 fn line_over(c: Spot, a: Spot, b: Spot, near: u128) -> bool
     requires c_placed { IsPlaced c }
     requires a_placed { IsPlaced a }
@@ -54,8 +54,8 @@ fn line_over(c: Spot, a: Spot, b: Spot, near: u128) -> bool
     }
 }
 
-/// Whether the chord from `a` to `b` lies between `near` and `far` of `c` and goes round it
-/// counterclockwise.
+/// Whether the chord from `a` to `b` lies between `near` and `far` of `c`, goes round it
+/// counterclockwise, and can be measured in 128 bits.
 pub fn is_chord(c: Spot, near: u128, far: u128, a: Spot, b: Spot) -> bool
     requires c_placed { IsPlaced c }
     requires a_placed { IsPlaced a }

@@ -11,7 +11,7 @@ pub fn surely_of_each()
     ensures { SurelyOfEach }
 {}
 
-/// The copper along each distance that a curve may have lies in that of some.
+/// The copper along each distance that a curve may have lies in that of some, but for the centre itself.
 pub fn possibly_of_each()
     ensures { PossiblyOfEach }
 {}
@@ -27,7 +27,7 @@ pub fn moved_circle_is_held()
     ensures { MovedCircleIsHeld }
 {}
 
-/// Up to a half turn it does so in the turn, where the arc is meant.
+/// Up to a half turn it does so in the turn, where the arc is meant and its ends are two spots.
 pub fn moved_turn_is_held()
     ensures { MovedTurnIsHeld }
 {}

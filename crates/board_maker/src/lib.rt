@@ -1,4 +1,4 @@
-//! Made boards: packages of any size, by a seed and a number of cells, for trials and comparisons.
+//! Made boards: packages of up to 10,000 cells, by a seed and a number of cells, for trials and comparisons.
 //!
 //! Each cell follows from the seed and its number by one formula (`cell`). The five files are written cell by cell
 //! (`files`), and held by a package in memory (`make`).

@@ -8,7 +8,7 @@ ghost use Rattle.std.specs.Prelude.{length, ◌≡◌, ◌≤◌};
 
 use planar::Spot;
 
-/// The corners of what lies between two spots, with half a width and half a height more to each
+/// The corners of what lies between two spots, with half a width and half a height (rounded down) more to each
 /// side: so far to the left of and below the first, and to the right of and above the second. The spots are within 1 m,
 /// `w` and `h` are the whole sizes in u, at most 1 m.
 pub fn corners_around(p: Spot, q: Spot, w: u64, h: u64) -> (Spot, Spot)
@@ -34,7 +34,7 @@ pub fn corners_around(p: Spot, q: Spot, w: u64, h: u64) -> (Spot, Spot)
     (low, high)
 }
 
-// Half a size.
+// Half a size, rounded down.
 fn half(n: u64) -> i64
     requires { n ≤ METRE }
     ensures { result ≡ spec.halved n }

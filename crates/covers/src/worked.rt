@@ -1,7 +1,7 @@
 //! A worked case: half discs whose radius is the square root of 2, which no type of ours holds, between discs of radius 1 and 2.
 //!
-//! On layer 1 two test points of one name stand on a left and a right half disc, which touch; on layer 2, over the
-//! same places, one of another name stands on a disc.
+//! On layer 1 two test points of one name stand on a left and a right half disc, which touch; on layer 2, between
+//! them, one of another name stands on a disc.
 ghost use Rattle.covers.specs.Agreeing.{AgreesWithNames};
 ghost use Rattle.covers.specs.Covering.{Covers};
 ghost use Rattle.covers.specs.Worked.{discs, halves, inner, outer, whole};

@@ -7,11 +7,11 @@ pub trait RefusalKind: Copy {
     // how a report numbers it, and names it
     ghost row: { Self → Row };
 
-    /// Its name, which is its variant's.
+    /// Its name, as its row has it.
     fn name(self) -> &'static str
         ensures name { result.now ≡ (row self).name };
 
-    /// Its number, from 1.
+    /// Its number, as its row has it.
     fn number(self) -> u32
         ensures number { result ≡ (row self).number };
 }

@@ -170,7 +170,7 @@ fn is_within<L: Ledger>(
 }
 
 /// Whether the figure, in u, lies in the one with a hole (`HoledBelow`): where it says so, it does, and of others that do, it may
-/// refuse some. Both lie in the frame.
+/// refuse some. The figure and the disc of the hole lie in the frame.
 pub fn is_holed_below<L: Ledger>(
     holed: &HoledFigure,
     bound: &Shape,

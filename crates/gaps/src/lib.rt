@@ -3,13 +3,13 @@
 //! All coordinates are in u, a tenth of a nanometre. A shape that is grown by a distance is a solid like
 //! any other: whatever searches a board for shapes that touch finds, of grown shapes, those that come
 //! close. So the gaps of a board are found by the field of cells, over its pieces grown by half the
-//! distance. Only the list takes memory; no call on shapes refuses.
+//! distance. The list and its text take memory; no call on shapes refuses.
 //!
 //! - `listing`: the list of the gaps of a board.
 //! - `text`: its text.
 //! - `gap`: a line of the list, and lines in order.
 //! - `found`: the lines that were found, and where they stand.
-//! - `meetings`: the lines of all pieces of different nets that come close.
+//! - `meetings`: of the lines of pieces that come close, the least of each layer and two nets.
 //! - `over`: the pieces that may make lines with a piece.
 //! - `fats`: the pieces of a board, grown.
 //! - `grown_box`: their common box.

@@ -1,4 +1,4 @@
-//! The lines of all pieces of different nets that come close, in any order.
+//! Of the lines of all pieces of different nets that come close, the least of each layer and two nets, in order.
 ghost use Rattle.cell_index.specs.Among.{TouchAmong, bottom_in, extent_in, top_in};
 ghost use Rattle.cell_index.specs.Field.{is_rival, rivals_of, sum_below};
 ghost use Rattle.gaps.specs.Firsts.{AreFirsts};
@@ -93,8 +93,8 @@ fn add_piece<'a, S: Meets<S>, L: Ledger>(
 
 /// Of all lines of pieces of a field that touch and stand in different nets, the lower first, on each
 /// layer of both spans, the least of each layer and two nets, in order. Pieces are not tested where a
-/// line that was found speaks for theirs. Memory is taken for twice the lines that are given or four a
-/// piece, for those of one piece, and for two to four places a piece.
+/// line that was found speaks for theirs. Memory is taken for twice the lines that are given, four a piece or
+/// 65,536, for those of one piece, and for two to four places a piece.
 pub fn meetings<'a, S: Meets<S>, L: Ledger>(
     alloc: Global,
     field: &Cells<'a, S>,

@@ -10,8 +10,9 @@ use lengths::rows::NoMemory;
 use std::alloc::Global;
 use texts::MOST_BYTES;
 
-/// The text of the image of a copper file that may have aperture macros: a copper file without macros that every layer
-/// reads as exactly the same shapes, in order; it has at most `MOST_BYTES` bytes. Its attributes are dropped.
+/// The text of the image of a copper file that may have aperture macros: a copper file without macros that every layer with
+/// room for `MOST_FLAT_EDGES` edges reads as exactly the same shapes, in order; it has at most `MOST_BYTES` bytes. Its
+/// attributes are dropped.
 ///
 /// `Refused` is the file's first command with a fault; want of memory is `NoMemory`. The file has at most `MOST_BYTES` bytes.
 pub fn flatten(alloc: Global, file: &[u8]) -> Result<Vec<u8>, FlattenFault>

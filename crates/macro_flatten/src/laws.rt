@@ -10,7 +10,8 @@ pub fn flat_text_reads()
     one_answer();
 }
 
-/// And every image of a copper file can be flattened, unless more pens draw it than a file can define.
+/// And every image of a copper file that is read in a room of `MOST_FLAT_EDGES` edges can be flattened, unless more pens draw
+/// it than a file can define.
 pub fn images_are_flat()
     ensures { ImagesAreFlat }
 {}

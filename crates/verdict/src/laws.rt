@@ -13,7 +13,7 @@ pub fn no_report_is_a_front()
 {}
 
 /// The report of a verdict without a supplement is at most `MOST_BYTES` bytes long, where its parts are few and its numbers
-/// small (`HasFewParts`, `HasSmallParts`), as those of a right verdict within the limits of a package are (boardnet
+/// small (`HasFewParts`, `HasSmallParts`), as those of a right verdict within the limits of a package are (`reports`,
 /// `right_verdicts_are_small`).
 pub fn reports_are_short()
     ensures { ReportsAreShort }

@@ -86,8 +86,8 @@ fn write_findings(out: &mut Vec<u8>, v: &Verdict) -> Result<(), AllocError>
     write_section(out, b"missing", v.bare.as_slice())
 }
 
-/// The text of a verdict, which is lawful where there is one: its counts are those that a report can tell. `NoMemory` where
-/// memory is wanted.
+/// The text of a verdict, which is lawful where there is one: its numbers are in the ranges of their types, its names are
+/// texts. `NoMemory` where memory is wanted.
 pub fn write_report(alloc: Global, v: &Verdict) -> Result<Vec<u8>, NoMemory>
     ensures text { IfOk result (λ text. text.items ≡ spec.report_text v.now) }
     ensures lawful { IfOk result (λ text. IsVerdict v.now) }
