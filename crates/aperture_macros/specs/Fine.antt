@@ -45,7 +45,7 @@ fine_centre text parameters unit =
     extent_at (part 0 text) parameters unit >>= λ w. extent_at (part 1 text) parameters unit >>= λ h. point_at (past 2 text) parameters unit >>= λ p.
     Ok (if w == 0 || h == 0 then None else Some (record { kind = Rectangle; start = p; end = right_of p w; side = above p h }))
 
--- by the form of a primitive and the text of its lengths; outlines and polygons have no sizes that could be odd
+-- by the form of a primitive and the text of its lengths; outlines and polygons tell no sizes so
 unfoldable pub fine_at : Form → List ℕ → List Fraction → Measure → Result (Option FineSketch) MacroFault
 fine_at Circle text parameters unit = fine_circle text parameters unit
 fine_at VectorLine text parameters unit = fine_line text parameters unit

@@ -34,10 +34,11 @@ impl<'a> Primitive<'a> {
     /// First come the lengths in the order written, each term or factor in turn with its `OffGrid` and its
     /// `OutOfRange`, and then the length itself. Then comes `BadMacro`, where an outline's last point
     /// is not its first, or of a vector line along no axis `Slanted`, where copper is `Exact`, and else
-    /// `OutOfRange`, where it is wider than `MOST_DIAMETER`. A circle or a line of `Real` copper for which that is `OffGrid` is
-    /// judged anew with sizes that may be odd, and a line then is at most `MOST_DIAMETER` wide. Then, where it is turned by
-    /// degrees, the rotation, as a length is judged with degrees for mm, and `Turn`, where a line along no axis, or what was
-    /// judged anew but for a disc about the origin, is turned by no quarter turns.
+    /// `OutOfRange`, where it is wider than `MOST_DIAMETER`. A circle, a vector line or a centre line of `Real` copper for which
+    /// that is `OffGrid` is judged anew with sizes that may be odd, and a circle or a vector line then is at most `MOST_DIAMETER`
+    /// wide. Then, where it is turned by degrees, the rotation, as a length is judged with degrees for mm, and `Turn`, where a
+    /// vector line along no axis, or what was judged anew and flashes anything but a disc about the origin, is turned by no
+    /// quarter turns.
     pub fn judge(
         &self,
         copper: Copper,
@@ -202,7 +203,8 @@ impl<'a> Primitive<'a> {
     ///
     /// The fault of its rotation comes first, then that of the lengths as `judge` has it of `Real` copper, then
     /// `OutOfRange`, where the centre of a circle, a corner, an end or a spot that tells a turn is over 1 m from 0 in
-    /// x or y. `NoMemory` comes for areas alone: a circle of an even diameter that tells no turn takes no memory.
+    /// x or y. `NoMemory` comes for areas alone, and what tells a turn or an odd size is one: a circle of an even diameter that
+    /// tells no turn takes no memory.
     pub fn figure(
         &self,
         alloc: Global,

@@ -14,7 +14,7 @@ use contact::MOST_DIAMETER;
 use lengths::decimal::{Decimal, Unit, has_minus, read_decimal, unsigned};
 use planar::{METRE, Spot};
 
-/// Diameters of polygons are whole in parts of so much of a u, as those of `slants` are.
+/// Diameters of polygons are whole in parts of which a u has so many, as those of `slants` are.
 pub const PARTS: u64 = 10_000;
 
 // How many parts of 10^-7 times 1 u are such a part.

@@ -41,8 +41,8 @@ pub record IsHoledForm (form : HoledForm) : Type 0 where
   pub narrow : is_wide form ≡ false
   pub frame : is_frame (unsigned_abs form.x) (unsigned_abs form.y) (unsigned_abs form.hole) ≡ true
 
--- every size is one, only a circle has a size of 0, and neither a circle's diameter nor an obround's lesser side is over
--- MOST_DIAMETER; a hole is less than its circle
+-- every size is one; only a circle without a hole may have a size of 0; neither a circle's diameter nor an obround's lesser side is over
+-- MOST_DIAMETER; a hole lies within its figure
 abbrev pub IsLawful : Aperture → Type 0
 IsLawful (Circle d) = IsSize d × IsNarrow (unsigned_abs d)
 IsLawful (Rectangle x y) = IsSize x × IsSize y × (is_zero x ≡ false) × (is_zero y ≡ false)
@@ -83,7 +83,7 @@ half z = pos (unsigned_abs z / 2)
 abbrev pub disc : ℕ → Spot → Option Figure
 disc d at = if d == 0 then None else Some (round (record { a = at; b = at; r = pos (d / 2) }))
 
--- why there is no flash: an end or a corner is over 1 m from 0
+-- why there is no flash: an end, a corner or a spot that tells the flash is over 1 m from 0
 pub data NoFlash : Type 0 where
   leaves : NoFlash
 

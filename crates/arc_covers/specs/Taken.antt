@@ -57,7 +57,7 @@ abbrev pub IsFineTaken : Side → FineFigure → Figure → Type 0
 IsFineTaken Below fine f = fine_figures.TakenBelow fine f
 IsFineTaken Above fine f = fine_figures.TakenAbove fine f
 
--- below each figure of a square metre about the centre; above one
+-- below each figure lies in it, by the frame about its centre; above there is one, which holds it
 abbrev pub HoledTaken : Side → HoledFigure → List Figure → Type 0
 HoledTaken Below h figures = All (HoledBelow (frame_about h.centre) h) figures
 HoledTaken Above h figures = OneFigure (HoledAbove h) figures

@@ -3,7 +3,7 @@
 //! Whether two boards of figures lie below and above one with arc draws, slanted lines, regions with arcs, turned figures
 //! and discs, regular polygons and odd sizes: `check_between`, by the counts of `read_counts`.
 //!
-//! - `side`: the boards below and above a real one, and what a chain has to be there.
+//! - `side`: the sides of a bound, and what is taken there for a draw, a slanted line, a turned figure or disc, a polygon.
 //! - `rows`: whether pieces are a figure, a contour, or the capsules of a chain.
 //! - `regions`: whether they are a polygon and the capsules along its arcs.
 //! - `holes`: whether they are taken for a figure with a round hole.

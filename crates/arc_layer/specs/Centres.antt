@@ -93,7 +93,7 @@ choice d way =
     else (if wins d (flip_x (flip_y way)) then Some (flip_x (flip_y way))
     else None)))
 
--- both ends are within a metre, and the format is in range
+-- both ends are within a metre, and the format has at most 7 decimals
 pub record IsLawfulDraw (d : Draw) : Type 0 where
   pub start : IsPlaced d.start
   pub end : IsPlaced d.end

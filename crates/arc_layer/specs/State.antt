@@ -51,7 +51,7 @@ state_behind s w = record {
   tells = w.tells || s.tells;
 }
 
--- a format in range, and a current point within one metre
+-- a format of at most 7 decimals, and a current point within one metre
 pub record IsLawfulState (s : State) : Type 0 where
   pub format : IsShortFormat s.format
   pub at : IsPlaced s.at

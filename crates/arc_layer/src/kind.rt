@@ -10,7 +10,7 @@ use gerber_layer::{FlattenKind, GerberKind};
 /// Specification.
 #[derive(Clone, Copy, Debug, PartialEq, Eq)]
 pub enum RealKind {
-    /// As where no draw is an arc and no line slanted; never `Arc` or `Slanted`.
+    /// As where no draw is an arc and no line slanted.
     Copper(FlattenKind),
     /// An arc without `I` and `J` (4.8.2).
     NoOffsets,

@@ -341,8 +341,8 @@ fn region_of(alloc: Global, frame: Frame) -> Result<RealShape, RealFault>
     }
 }
 
-/// What the area is that a flash makes behind a macro, a hole or a fine aperture: this, a circle's draw, a rectangle's
-/// region, or the disc or the area before its turn, where it tells one.
+/// What the area is that a flash makes behind a macro, a hole or a fine aperture. Where it tells one: a figure with a round hole, a
+/// fine figure, a circle's draw, a rectangle's region, or the disc, the area or the polygon before its turn. Else it is the area.
 pub fn flashed(alloc: Global, area: Area) -> Result<RealShape, RealFault>
     ensures value { IfOk result (λ made. real_figure made ≡ spec.flashed area.points.items) }
     ensures fault { IfErr result (λ why. why ≡ fault.NoMemory) }

@@ -51,7 +51,7 @@ pub record Goes (files : Files) (e : Entry) (before after : PlainBoard) : Type 0
   pub held : IsHeld files e.name bytes
   pub read : Reads e.role e.number bytes before after
 
--- the first file to be taken stops the package
+-- the file that is taken stops the package
 abbrev pub StopsAt : Files → Entry → PlainBoard → Stop → Type 0
 StopsAt files e before (refused other why) = (other ≡ e.name) × IsHeldWith files e.name (λ bytes. Refuses e.role e.number bytes before why)
 StopsAt files e before stop = StopsTaking files e.name stop

@@ -11,7 +11,7 @@ use lengths::rows::Rows;
 use lengths::text::Text;
 use std::alloc::Global;
 
-/// The most edges of a board.
+/// The most edges that the contours of a board have together.
 pub const MOST_EDGES: u64 = 2_000_000;
 
 /// What the files so far give: pieces of shapes `S`, test points, names and layers.

@@ -4,7 +4,7 @@ use Rattle.planar.specs.Plane.{IsWithin}
 use Rattle.planar.specs.declared.Spot.{Spot}
 use Rattle.planar.specs.declared.TheConstants.{TWO_METRES}
 
--- half a size
+-- half a size, rounded down
 abbrev pub halved : ℕ → ℤ
 halved n = pos (n / 2)
 

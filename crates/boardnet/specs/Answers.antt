@@ -72,7 +72,7 @@ fault_status other = 3
 abbrev pub subject_of : Command → List ℕ
 subject_of command = (task_of command).subject
 
--- the name of the report, which only an audit has
+-- the name of the report of an audit, or of the counts of `between`; empty where a command has neither
 abbrev pub report_of : Command → List ℕ
 report_of command = (task_of command).report
 

@@ -1,4 +1,4 @@
--- What the commands share: the status of a verdict, the lines of refusals, and what an outcome is.
+-- What the commands share: the lines of refusals, and what an outcome is.
 use Rattle.std.specs.Prelude.{◌≡◌, ℕ, List, codes}
 use Rattle.arc_layer.specs.Kinds.{real_row}
 use Rattle.arc_layer.specs.declared.kind.RealKind.{RealKind}

@@ -14,7 +14,7 @@ pub record Task : Type 1 where
   pub spelled : List (List ℕ)
   -- the names of files in it are texts, and its numbers are in range
   pub in_range : Type 0
-  -- the name of the manifest or of the copper file that it is about, and the name of its report, empty where it has none
+  -- the name of the manifest or of the copper file that it is about; and that of its report or its counts, empty where it has neither
   pub subject : List ℕ
   pub report : List ℕ
   -- it takes files of the package

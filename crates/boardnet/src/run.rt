@@ -29,10 +29,10 @@ use std::alloc::Global;
 /// | Status | When |
 /// |---|---|
 /// | 0 | `out` got the command's text in one piece, which finds no fault |
-/// | 1 | so it did, and the text finds one |
+/// | 1 | so it did, and the text finds one, or that of `between` leaves something undecided |
 /// | 2 | the words are no command; nothing was taken |
 /// | 3 | the first refusal of what the command reads; the line names its kind, file and place |
-/// | 4 | a fault of reading the file in the line |
+/// | 4 | a fault of reading; the line says which file |
 /// | 5 | a fault of writing; `out` got a front of the text |
 /// | 6 | want of memory |
 pub fn run<P: Package, S: Sink, N: Sink>(
@@ -127,8 +127,8 @@ pub fn run<P: Package, S: Sink, N: Sink>(
         → (text line : List ℕ) × IsFlatText (Held files) name text result line
         × Gains (S.got out.old) text (S.got out.new) × Says N.got N.faults notes.old notes.new line) }
 
-    // 0 and 1 on `between`: the packages fit, the boards of LOWER and UPPER bound that of REAL, and `out` got what right verdicts on
-    // both decide. Under 0 each board with the pieces of REAL, whatever copper they have of those that its files allow, agrees with
+    // 0 and 1 on `between`: LOWER and UPPER fit, REAL and COUNTS are read, their boards bound that of REAL, and `out` got what right
+    // verdicts on both decide. Under 0 each board with the pieces of REAL, whatever copper they have of those that its files allow, agrees with
     // its names, and under both what the verdicts say of nets is certain of each: by `laws::bounded_boards_are_decided`, which
     // takes this `IsDecided`, of whatever copper its caller picks.
     ensures between { result ≤ 1 → IfSome (P.held «package».old) (λ files. (names : BoundNames) → IsBetween words.now names

@@ -249,7 +249,8 @@ fn copy_of<S: Closed>(item: &Placed<S>, stretch: Stretch) -> Placed<Plate>
     }
 }
 
-// Whether the copy meets the box, and this is the first cell that both meet. So a pair is met once. In crowded cells most do not meet.
+// Whether the copy meets the box, and this is the first cell that both meet, so that a pair is met once. The clause says only that
+// none is lost. In crowded cells most do not meet.
 fn is_met(copy: &Bounds, bounds: Bounds, patch: &Patch, across: u32, up: u32) -> bool
     requires across { across < 128 }
     requires up { up < 128 }

@@ -14,7 +14,7 @@ IsBeside g h = (g.layer ≡ h.layer) × (g.low ≡ h.low) × (g.high ≡ h.high)
 abbrev pub beside : Gap → Gap → Bool
 beside g h = (g.layer == h.layer) && ((g.low == h.low) && (g.high == h.high))
 
--- by the piece of the lower net, then by that of the higher
+-- no greater pieces: by that of the lower net, then by that of the higher
 abbrev pub IsWithLess : Gap → Gap → Type 0
 IsWithLess g h = (g.first < h.first) ⊎ ((g.first ≡ h.first) × (g.second ≤ h.second))
 

@@ -87,7 +87,8 @@ abbrev pub is_of_macro : Result (ℕ × Aperture) ApertureFault → Bool
 is_of_macro (Err aperture.Macro) = true
 is_of_macro other = false
 
--- the row of a definition of a standard aperture in such copper: in real copper a circle or a rectangle may have a hole, and sizes may be odd
+-- the row of a definition of a standard aperture in such copper: in real copper a circle, a rectangle or an obround may have a hole, and
+-- sizes may be odd
 unfoldable pub define_real : Known → List ℕ → Measure → Result Effect GerberKind
 define_real k text unit = read (real_aperture_at text unit) >>= λ made. define_as k made
 

@@ -15,7 +15,7 @@ use Rattle.gerber_layer.specs.Tools.{Tool, tool_in}
 use Rattle.gerber_layer.specs.Image.{pieces_after}
 use Rattle.gerber_layer.specs.CommandEffects.{Place, Known, Effect, Profile, stays, makes, begins_macro, fills_macro, performs, extends, closes, opens, leaves, steps, concludes, code_of, coordinate, next_block}
 
--- a draw and a flash go to a spot
+-- outside a region an operation goes to a spot, whatever it leaves there
 pub record Goes (e : Effect) (to : Spot) : Type 0 where
   pub figures : List Figure
   pub is : e ≡ performs to figures

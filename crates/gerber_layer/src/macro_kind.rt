@@ -23,7 +23,8 @@ pub enum FlattenKind {
     NoMacro,
     /// A primitive whose exposure is not on.
     ExposureOff,
-    /// A primitive that is turned by no quarter turn; of real copper a slanted line.
+    /// A primitive that is turned by no quarter turn; of real copper a slanted line, or one of an odd size that is no disc about
+    /// the origin.
     Turn,
     /// A vector line that is not along an axis.
     Slanted,

@@ -46,7 +46,8 @@ as_reals pieces = map as_real pieces
 abbrev pub counted : ℕ → ℕ
 counted n = if nat_lt n (2 ^ 32) then n else 2 ^ 32 - 1
 
--- arc draws, slanted lines, turned discs and fine figures have no edges, as strokes have none; a region has as many as parts, a turned figure those of its contour, and a regular polygon as many as corners
+-- Arc draws, slanted lines, turned discs, fine figures and those with a round hole have no edges, as strokes have none. A region has as many
+-- as parts, a turned figure those of its contour, a regular polygon as many as corners.
 abbrev pub real_edges : RealFigure → ℕ
 real_edges (plain figure) = figure_edges figure
 real_edges (bent arc) = 0

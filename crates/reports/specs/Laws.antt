@@ -26,7 +26,6 @@ pub record IsSmallVerdict (verdict : Verdict) : Type 0 where
   pub small : HasSmallParts verdict
   pub few : HasFewParts verdict
 
--- A right verdict on a small board is small: above all, in all paths together it lists no more pieces than the board has, and
--- one more for each branch.
+-- A right verdict on a small board is small: each of its numbers, and how much it lists.
 abbrev pub RightVerdictsAreSmall : Type 0
 RightVerdictsAreSmall = (board : Tables) (verdict : Verdict) → IsSmallBoard board → IsRight board verdict → IsSmallVerdict verdict

@@ -4,7 +4,7 @@ use Rattle.reports.specs.Lines.{counted_line, plain_line, findings_line}
 use Rattle.reports.specs.declared.answer.Note.{Note}
 use Rattle.reports.specs.declared.answer.Note.TheVariants as note
 
--- the answer is one that finds no fault
+-- the answer is one that finds no fault and leaves nothing undecided
 abbrev pub is_good : Note → Bool
 is_good note.Agrees = true
 is_good (note.Differs opens shorts missing) = false

@@ -87,11 +87,6 @@ HaveCorners gs b c = All (λ g. HasCorners g b c) gs
 abbrev pub InHull : List RegularPolygon → Point → Type 0
 InHull gs p = (b c : Spot) → HaveCorners gs b c → pos 0 ≤ℤ side_of b c p.x p.y p.n
 
--- The points are a copper of the polygon, whose edges and corners have these cones. All points that are surely in it are, and no others than those that possibly are
-pub record IsPolygonCopper (g : RegularPolygon) (holds : Point → Type 0) : Type 0 where
-  pub least : (p : Point) → SurelyInPolygon g p → holds p
-  pub most : (p : Point) → holds p → PossiblyInPolygon g p
-
 -- ---- which contours are taken
 
 -- from 3 to 12 corners (4.5.1.7), and the circle through them lies within a metre of 0
@@ -109,7 +104,8 @@ CornersLean g b c = (k : ℕ) → k < g.corners → Leans (turns_to g (2 * k)) b
 abbrev pub AllCornersLean : List RegularPolygon → Spot → Spot → Type 0
 AllCornersLean gs b c = All (λ g. CornersLean g b c) gs
 
--- a contour that goes round once, with all corners of the polygons on the left of each edge
+-- polygons, and a contour of spots within a metre, which goes round once with all their corners on the left of each edge, at the places of
+-- their cones
 pub record PolygonsAbove (gs : List RegularPolygon) (points : List Spot) : Type 0 where
   pub regular : All IsRegular gs
   pub placed : All IsPlaced points

@@ -68,7 +68,7 @@ pub record HasRoot (a : Slant) (points : List Spot) : Type 0 where
   pub is : square root ≤ℤ (square (pos (2 * FINE)) *ℤ dot_of a.start a.end a.end)
   pub round : GoesRound (Keeps a root) points
 
--- a contour that goes round once, and has the rectangle on the left of each edge
+-- all spots within a metre, and a contour that goes round once and has the rectangle on the left of each edge, by a number that serves
 pub record TakenAbove (a : Slant) (points : List Spot) : Type 0 where
   pub placed : ArePlaced a points
   pub edges : HasRoot a points

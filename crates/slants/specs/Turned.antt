@@ -92,7 +92,8 @@ Leans m b c q = (pos 0 ≤ℤ lean_of m b c (meet_of m.first m.first) q) × (pos
 abbrev pub AllLean : List Spot → Motions → Spot → Spot → Type 0
 AllLean figure m b c = Each (Leans m b c) figure
 
--- a closed figure, and a contour that goes round once and has each corner of the figure on the left of each edge
+-- a closed figure, and a contour that goes round once and has each corner of the figure, at the three places of the cone, on the left of
+-- each edge
 pub record TurnedAbove (figure : List Spot) (m : Motions) (points : List Spot) : Type 0 where
   pub ready : AreReady m
   pub figure_placed : All IsPlaced figure

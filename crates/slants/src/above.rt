@@ -11,8 +11,8 @@ use super::contours::{goes_once, is_closed};
 use super::measures::{FINE, is_ready, root_of};
 use planar::{Spot, cross, dot};
 
-/// How far the edge from `b` to `c` goes along the line, times the width; `None` where it does not
-/// fit in 128 bits.
+/// How far the edge from `b` to `c` goes along the line, times the line's length and the width, in parts of `FINE`; `None` where
+/// it does not fit in 128 bits.
 fn reach_of(slant: &Slant, b: Spot, c: Spot) -> Option<u128>
     requires slant { IsPlacedSlant slant.now }
     requires b_placed { IsPlaced b }

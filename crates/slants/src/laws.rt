@@ -26,7 +26,8 @@ pub fn each_turn_is_told()
     ensures { EachTurnIsTold }
 {}
 
-/// Which turns are between two is told by sides.
+/// A way that is not on the right of the first of two ways nor on the left of the last, which is on the left of the first, is in
+/// their cone.
 pub fn sides_tell_cone()
     ensures { SidesTellCone }
 {}

@@ -7,7 +7,7 @@ ghost use Rattle.std.specs.Prelude.{IsTrue, pos, ◌*◌, ◌+◌, ◌≡◌, �
 use super::Slant;
 use planar::{Spot, are_placed, dot, is_placed};
 
-/// Lengths are reckoned in parts of so much of a u.
+/// Lengths are reckoned in parts of which a u has so many.
 pub const FINE: u128 = 16_777_216;
 
 /// Whether start, end and the points are within a metre.

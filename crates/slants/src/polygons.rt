@@ -17,7 +17,7 @@ use planar::{METRE, Spot, are_placed};
 /// Half a turn, in 10^-7 degrees.
 pub const HALF_TURN: u32 = 2 * RIGHT_ANGLE;
 
-/// Diameters of polygons are whole in parts of so much of a u.
+/// Diameters of polygons are whole in parts of which a u has so many.
 pub const PARTS: u128 = 10_000;
 
 /// A regular polygon (Gerber Layer Format Specification, 4.4.5 and 4.5.1).

@@ -66,8 +66,8 @@ pub record HasSmallParts (v : Verdict) : Type 0 where
   pub shorts : AllByRecursion IsSmallShort v.shorts
   pub bare : AllByRecursion HasSixDigits v.bare
 
--- At most 200,000 pieces in at most as many nets, and 400,000 points with 200,000 names. No more opens and no more branches than
--- points. In all branches together no more pieces than the board has, and one more for each branch.
+-- At most 200,000 pieces in at most as many nets, 200,000 names and shorts, and 400,000 points, opens, branches and points without
+-- copper. In the paths of all branches together at most 600,000 pieces: those of a board, and one more for each branch.
 pub record HasFewParts (v : Verdict) : Type 0 where
   pub nets : length v.nets ≤ 200_000
   pub twigs : sum_by net_length v.nets ≤ 200_000

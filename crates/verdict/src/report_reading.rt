@@ -163,8 +163,8 @@ fn report(alloc: Global, text: &[u8]) -> Result<Verdict, ReadFault>
     lists(alloc, told, pieces, rest)
 }
 
-/// The verdict whose text this is. `NotAReport` comes only where the bytes are the text of no verdict; `NoMemory` is free. No
-/// more memory is taken than the bytes that are there have room for, but no clause says so.
+/// The verdict whose text this is. `NotAReport` comes only where the bytes are the text of no verdict; `NoMemory` is free. The
+/// memory that is taken grows with the bytes, but no clause says so.
 pub fn read_report(alloc: Global, text: &[u8]) -> Result<Verdict, ReadFault>
     ensures ok { IfOk result (λ v. IsVerdict v × (text.now ≡ report_text v)) }
     ensures fault { IfErr result (λ fault. fault ≡ ReadFault.NotAReport → (v : Verdict) → IsVerdict v → text.now ≡ report_text v → ⊥) }

@@ -61,7 +61,7 @@ fn are_joined_pieces<L: Ledger>(
     share_an_end(&one.shape, &two.shape, frame) || one.shape.meets(&two.shape, frame, tests)
 }
 
-// A quick test, which most pairs that are joined pass: two capsules begin at one spot, or one ends in an area.
+// A quick test, which most pairs that are joined pass and which is not counted: two capsules begin at one spot, or one ends in an area.
 fn share_an_end(one: &Shape, two: &Shape, frame: Frame) -> bool
     requires one_inside { IsInside (shape_box one.now) frame }
     requires two_inside { IsInside (shape_box two.now) frame }

@@ -1,4 +1,4 @@
--- Where barrels come to stand.
+-- Which layers and which file barrels are of, and how many more there may be.
 use Rattle.std.specs.Prelude.{ℕ}
 
 -- the span of layers and the file that barrels are of, and the room for them

@@ -66,7 +66,7 @@ ComesReading source names name =
 
 -- ---- What is answered
 
--- The packages fit, and the boards of the lower and the upper one bound the real one by the counts: the checks take them.
+-- The packages and the counts are read, and the boards of the lower and the upper one bound the real one: the checks take them.
 pub record AreBounded (source : Source) (names : BoundNames) : Type 0 where
   pub real : PlainRealBoard
   pub lower : PlainBoard
@@ -80,7 +80,7 @@ pub record IsDecided (source : Source) (names : BoundNames) (text : List ℕ) (s
   pub bounds : AreBounded source names
   pub decision : IsDecisionOn (length bounds.real.pieces) bounds.lower bounds.upper text status line
 
--- The packages fit, but the boards are no bounds of the real one, for this reason.
+-- The packages and the counts are read, but the boards are no bounds of the real one, for this reason.
 pub record AreUnbound (source : Source) (names : BoundNames) (reason : NoBounds) : Type 0 where
   pub real : PlainRealBoard
   pub lower : PlainBoard
@@ -108,7 +108,8 @@ IsPlainStop (at_counts first) stop = first ≡ stop
 abbrev pub StopsManifest : Source → BoundNames → Stop → List ℕ → Type 0
 StopsManifest source names stop name = ((name ≡ names.lower) × StopsReading source names (at_lower stop)) ⊎ ((name ≡ names.upper) × StopsReading source names (at_upper stop))
 
--- beside a stop: an arc, the form of the second or third manifest or the frame of its board, or what is wrong with the bounds
+-- beside a stop: an arc or another figure of REAL that is not read, the form of the manifest of LOWER or UPPER or the frame of its board,
+-- or what is wrong with the bounds
 abbrev pub BetweenRefuses : Source → BoundNames → Unanswered → Type 0
 BetweenRefuses source names (why.Bent name kind command byte) = StopsReading source names (at_real (bent name kind command byte))
 BetweenRefuses source names (why.NotJson name) = StopsManifest source names not_json name
