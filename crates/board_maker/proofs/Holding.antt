@@ -22,4 +22,5 @@ untouched_more old new k u = record {
   calls = k.calls ∙ u.calls;
   faults = k.faults ∙ u.faults;
   lost = k.lost ∙ u.lost;
+  handed = k.handed ∙ u.handed;
 }

@@ -17,12 +17,13 @@ made_files seed size name =
     else (if bytes_eq (codes "n.ipc") name then Some (part_text Points seed size)
     else None))))
 
--- none of its takes is to fail, and there were none
+-- none of its takes is to fail, there were none, and nothing was handed over
 pub record IsUntouched (made : MemoryPackage) : Type 0 where
   pub failing : (call : ℕ) → fails made call ≡ false
   pub calls : calls_of made ≡ 0
   pub faults : faults_of made ≡ 0
   pub lost : lost_of made ≡ []
+  pub handed : made.past.log.notes ≡ []
 
 -- a package that holds the five files and is as it was made
 pub record IsMade (seed size : ℕ) (made : MemoryPackage) : Type 0 where

@@ -39,7 +39,8 @@ impl<S: Drop> Parts<S> {
         }
     }
 
-    /// Adds the pieces of a file, for which there is room. `NoMemory` is its only fault. Those of the first file stay where they are.
+    /// Adds the pieces of a file, for which there is room. `NoMemory` is its only fault, and changes nothing. Those of the first file
+    /// stay where they are.
     pub fn add(&mut self, mut pieces: Vec<Placed<S>>) -> Result<(), BuildFault>
         requires lawful { IsLawfulParts self.old }
         requires few { length self.old.pieces.items + length pieces.items ≤ MOST_PIECES }
@@ -47,6 +48,7 @@ impl<S: Drop> Parts<S> {
         ensures ok { OnOk result (Has self.new (self.old.pieces.items ++ pieces.items) self.old.probes self.old.names self.old.layers) }
         ensures lawful { OnOk result (IsLawfulParts self.new) }
         ensures fault { IfErr result (λ why. why ≡ fault.NoMemory) }
+        ensures kept { IfErr result (λ why. Has self.new self.old.pieces.items self.old.probes self.old.names self.old.layers) }
     {
         if self.pieces.is_empty() {
             self.pieces = pieces;

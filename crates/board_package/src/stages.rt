@@ -193,7 +193,7 @@ fn take_entry<P: Package>(
     read_file(alloc, entry, file.as_slice(), parts)
 }
 
-/// Takes the file of this name into `file`, if it has at most 67,108,864 bytes.
+/// Takes the file of this name into `file`, if it has at most 67,108,864 bytes; a fault leaves `file` empty.
 ///
 /// `Longer` and `CannotRead` carry the name; `CannotRead` comes only where the package's count of faults rose in this call.
 pub fn take_file<P: Package>(
@@ -204,6 +204,7 @@ pub fn take_file<P: Package>(
 ) -> Result<(), BuildFault>
     ensures leaves { Leaves P.held P.handed P.faults «package».old «package».new }
     ensures spared { Spares KeepsFaults P.faults P.lost «package».old «package».new result }
+    ensures emptied { IfErr result (λ why. file.new.items ≡ []) }
     ensures short { OnOk result (length file.new.items ≤ MOST_BYTES) }
     ensures found { OnOk result (IfSome (P.held «package».old) (λ files. IsHeld files name.now file.new.items)) }
     ensures handed { OnOk result (IsHanded (P.handed «package».old) (P.handed «package».new) name.now file.new.items) }

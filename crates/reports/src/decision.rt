@@ -1,5 +1,4 @@
 //! What two boards decide of one between them.
-ghost use Rattle.board_shapes.specs.LawfulBoard.{IsLawfulBoard};
 ghost use Rattle.board_shapes.specs.Plain.{plain_board};
 ghost use Rattle.reports.specs.BetweenText.{IsDecision, between_text};
 ghost use Rattle.reports.specs.Decision.{IsDecisionOn};
@@ -10,22 +9,22 @@ use crate::answer::{Answer, Note};
 use crate::between_text::write_between;
 use crate::findings::{certain, undecided};
 use crate::judged::verdict_on;
-use board_shapes::Board;
+use board_shapes::{Board, laws as shapes};
 use lengths::rows::NoMemory;
 use std::alloc::Global;
 use verdict::Verdict;
 
-/// What right verdicts on two boards decide of one between them that has so many pieces.
+/// What right verdicts on two boards decide of one between them that has so many pieces. The call of a law does nothing when the
+/// program runs.
 pub fn decision_on(
     alloc: Global,
     count: usize,
     lower: &Board,
     upper: &Board,
 ) -> Result<Answer, NoMemory>
-    requires lower { IsLawfulBoard (plain_board lower.now) }
-    requires upper { IsLawfulBoard (plain_board upper.now) }
     ensures { IfOk result (λ answer. IsDecisionOn count (plain_board lower.now) (plain_board upper.now) answer.text.items (status_of answer.note) (line_of answer.note)) }
 {
+    shapes::boards_are_lawful();
     let below = verdict_on(alloc, lower)?;
     let above = verdict_on(alloc, upper)?;
     decided(alloc, count, lower, &below, &above)

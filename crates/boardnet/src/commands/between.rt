@@ -6,7 +6,6 @@
 //! taken, or the boards are no bounds, and the line says why.
 ghost use Rattle.arc_covers.specs.Counts.{AreCounts};
 ghost use Rattle.board_package.specs.HandedBoard.{ComesHanded, IsBoardHanded, IsFirstStopHanded};
-ghost use Rattle.board_shapes.specs.LawfulBoard.{IsLawfulBoard};
 ghost use Rattle.board_shapes.specs.Plain.{plain_board};
 ghost use Rattle.boardnet.specs.Answers.{behind_of};
 ghost use Rattle.reports.specs.Notes.{line_of, status_of};
@@ -128,7 +127,6 @@ fn bound<P: Package>(alloc: Global, name: Text, package: &mut P) -> Result<Board
     ensures spared { Spares LeftBy P.faults P.lost «package».old «package».new result }
     ensures handed { IfOk result (λ board. IsBoardHanded (P.handed «package».old) (P.handed «package».new) name (plain_board board)) }
     ensures reason { IfErr result (IsBehindReason name (λ stop. IsFirstStopHanded (P.handed «package».old) (P.handed «package».new) name stop) (λ other. ComesHanded (P.handed «package».old) (P.handed «package».new) name other) (P.faults «package».old) (P.faults «package».new) (P.lost «package».new)) }
-    ensures limits { IfOk result (λ board. IsLawfulBoard (plain_board board)) }
 {
     match build(alloc, &name, package) {
         Ok(board) => Ok(board),
@@ -184,7 +182,6 @@ fn taken<P: Package>(
     ensures spared { Spares LeftBy P.faults P.lost «package».old «package».new result }
     ensures handed { IfOk result (λ boards. AreRead (HandedOver (P.handed «package».old) (P.handed «package».new)) (bound_names names.real names.lower names.upper names.counts) (plain_real_board boards.real) (plain_board boards.lower) (plain_board boards.upper) file.new.items) }
     ensures reason { IfErr result (HasHandedReason (HandedOver (P.handed «package».old) (P.handed «package».new)) (Between (bound_names names.real names.lower names.upper names.counts)) (P.faults «package».old) (P.faults «package».new) (P.lost «package».new)) }
-    ensures limits { IfOk result (λ boards. IsLawfulBoard (plain_board boards.lower) × IsLawfulBoard (plain_board boards.upper)) }
 {
     let real = build_real(alloc, &names.real, package)?;
     let lower = bound(alloc, names.lower, package)?;
@@ -258,8 +255,6 @@ fn bounded(alloc: Global, boards: &Boards, bytes: &[u8]) -> Result<(), Unanswere
 
 // What right verdicts on both boards decide.
 fn decided(alloc: Global, boards: &Boards) -> Result<Answer, NoMemory>
-    requires lower { IsLawfulBoard (plain_board boards.now.lower) }
-    requires upper { IsLawfulBoard (plain_board boards.now.upper) }
     ensures { IfOk result (λ answer. IsDecisionOn (length (plain_real_board boards.now.real).pieces) (plain_board boards.now.lower) (plain_board boards.now.upper) answer.text.items (status_of answer.note) (line_of answer.note)) }
 {
     let count = boards.real.pieces.as_slice().len();

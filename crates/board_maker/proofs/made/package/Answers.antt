@@ -18,6 +18,7 @@ returns c =
       calls = c.new-package.ensures.calls;
       faults = c.new-package.ensures.faults;
       lost = c.new-package.ensures.lost;
+      handed = c.new-package.ensures.handed;
     } in
     let first = untouched_more _ c.hold.new.self c.in_ok-hold.ensures.others fresh in
     let second = untouched_more _ c.hold-2.new.self c.in_ok-hold-2.ensures.others first in
