@@ -20,6 +20,7 @@ sys.dont_write_bytecode = True
 sys.path.insert(0, os.path.dirname(os.path.abspath(__file__)))
 import children  # noqa: E402
 import kept  # noqa: E402
+import order  # noqa: E402
 from progress import Progress  # noqa: E402
 from proof import Failed, Proof  # noqa: E402
 from trial import Trial  # noqa: E402
@@ -38,10 +39,10 @@ def say(text):
 
 
 def places():
-    """How many jobs can run at a time: one a processor, as far as free memory goes."""
+    """How many jobs can run at a time, as far as free memory goes."""
     with open("/proc/meminfo", encoding="ascii") as file:
         free = next((int(line.split()[1]) << 10 for line in file if line.startswith("MemAvailable:")), 0)
-    return max(1, min(len(os.sched_getaffinity(0)), free // MEMORY_OF_A_CHECK))
+    return max(1, min(order.places(len(os.sched_getaffinity(0))), free // MEMORY_OF_A_CHECK))
 
 
 def line_of_rt():

@@ -5,6 +5,11 @@ import re
 MOST_JOBS = 4
 
 
+def places(processors):
+    """How many jobs serve so many processors: three for two, since a check of several jobs begins and ends with one of them alone."""
+    return processors + processors // 2
+
+
 def named(text):
     """The crates of a crates.txt in its order, each with the names on its line, of the toolchain's libraries too."""
     found = {}
