@@ -55,10 +55,12 @@ class Minutes(common.Case):
     def test_first_call(self):
         using = {"low": [], "wide": [], "middle": ["low"], "boardnet": ["low", "middle"]}
         proofs = {"low": 2.0, "wide": 1.0, "middle": 1.0, "boardnet": 3.0}
-        # One processor does all in turn. More are shared by low and wide, and low goes on with the jobs that it began with; those
-        # above have all.
-        two, four = (minutes.gain(jobs) for jobs in (2, 4))
-        for processors, wanted in ((1, 7.0), (2, 2 + 4 / two), (4, 2 / two + 4 / four)):
+        # One processor does all in turn. Of two low begins with two jobs and wide with one, of four both with three; wide ends first,
+        # and low goes on with the jobs that it began with. Those above have all.
+        two, three, four = (minutes.gain(jobs) for jobs in (2, 3, 4))
+        of_two = (two + 1) / 2 + (2 - two) / two + 4 / min(2, three)
+        of_four = 1 / min(2, three) + 1 / three + 4 / four
+        for processors, wanted in ((1, 7.0), (2, of_two), (4, of_four)):
             self.assertAlmostEqual(minutes.first_call(proofs, using, processors), wanted)
         self.assertEqual(minutes.longest_chain(proofs, using), ["low", "middle", "boardnet"])
 
