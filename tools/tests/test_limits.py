@@ -26,6 +26,14 @@ LIMITS = [
     ("MOST_FLAT_EDGES", "gerber_layer/src/lib.rt", r"1_?000_?000", ""),
     ("MOST_EDGES", "board_package/src/parts.rt", r"2_?000_?000", ""),
     ("MOST_DRILLS", "board_package/src/manifest.rt", r"64", r"drills"),
+    ("MOST_TOOLS", "xnc/src/lib.rt", r"1_?000", r"tools|Tools"),
+    ("MOST_OUTLINE_EDGES", "aperture_macros/src/lib.rt", r"5_?000", ""),
+    ("MOST_TERMS", "aperture_macros/src/expression.rt", r"64", r"sum|terms"),
+    ("MOST_REACH", "planar/src/lib.rt", r"700_?000_?000", ""),
+    ("MOST_PART", "slants/src/turns.rt", r"100_?000_?000", ""),
+    ("MOST_PRIMITIVES", "gerber_layer/src/lib.rt", r"256", r"body|primitive"),
+    ("MOST_CELLS", "board_maker/src/lib.rt", r"10_?000", r"\bsize\b"),
+    ("MOST_NANOMETRES", "gaps/src/lib.rt", r"10_?000_?000", r"nanometres"),
 ]
 
 # Where such a number is left, and why.
@@ -59,6 +67,12 @@ LEFT = {
     ("boardnet/proofs/refusing/put_fault/Answers.antt", "67108864"): "the words of a line, as its definition has them",
     ("netlist_writer/proofs/Digits.antt", "1_000_000"): "no limit: what six digits tell",
     ("verdict/proofs/LineNumbers.antt", "65536"): "no limit: what two bytes tell",
+    ("planar/proofs/SpotWithin.antt", "700000000"): "MOST_REACH, as arithmetic wants it",
+    ("made_files/proofs/Frame.antt", "100_000_000"): "no limit: how far a cell reaches in u",
+    ("board_maker/src/made.rt", "10000"): "the words of a refusal",
+    ("board_maker/proofs/Shortness.antt", "10_000"): "a cell's number, which the limit bounds",
+    ("made_files/proofs/MadeCopper.antt", "10_000"): "the same",
+    ("made_files/proofs/Frame.antt", "10_000"): "the same",
     ("slants/proofs/Reach.antt", "10000000000"): "METRE, as arithmetic wants it: callers have it by its name",
     ("netlist_writer/proofs/Histories.antt", "1_000_000"): "the same",
     ("netlist_writer/proofs/TestLines.antt", "1_000_000"): "the same",

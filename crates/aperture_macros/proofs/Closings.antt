@@ -1,11 +1,10 @@
 -- What an outline's points say of the first and the last.
-use Rattle.std.proofs.Common.{◌≡◌, ℕ, ◌+◌, suc, zero, Bool, true, false, ◌&&◌, cond, List, [], ◌∷◌, ◌++◌, length, length-append, map, Some, Result, Ok, Err, ℤ, refl, sym, ap, subst, ◌∙◌, arith}
-use Rattle.std.proofs.lemmas.Bool.Decides.{Decides-int_eq}
-use Rattle.std.specs.Ordering.{int_eq}
+use Rattle.std.proofs.Common.{◌≡◌, ℕ, ◌+◌, suc, zero, Bool, true, false, cond, List, [], ◌∷◌, ◌++◌, length, length-append, map, Some, Result, Ok, Err, refl, sym, ap, subst, ◌∙◌, arith}
 use Rattle.std.proofs.lemmas.List.{length-map, map-append}
 use Rattle.std.specs.List.{list_all}
-use Rattle.planar.specs.Plane.{is_placed}
+use Rattle.planar.specs.Plane.{is_placed, same_spot}
 use Rattle.planar.specs.declared.Spot.{Spot}
+use Rattle.planar.proofs.Spots.{spot_is}
 use Rattle.board_shapes.specs.Figures.{filled}
 use Rattle.area_contact.specs.Contour.{IsClosed, end_from}
 use Rattle.lengths.specs.Decimal.{Fraction}
@@ -14,7 +13,7 @@ use Rattle.aperture_macros.specs.declared.fault.MacroFault.{MacroFault}
 use Rattle.aperture_macros.specs.declared.fault.MacroFault.TheVariants.{BadMacro, OutOfRange}
 use Rattle.aperture_macros.specs.BodyWord.{◌>>=◌, past}
 use Rattle.aperture_macros.specs.Values.{point_at}
-use Rattle.aperture_macros.specs.Images.{area_at, is_closed, is_done, judged_by, outlined, set_down, outline_at, points_from, same_spot}
+use Rattle.aperture_macros.specs.Images.{area_at, is_closed, is_done, judged_by, outlined, set_down, outline_at, points_from}
 use Rattle.aperture_macros.specs.Outlines.{closing_at, last_from, moved_from}
 use Rattle.aperture_macros.specs.Seen.{IsRefusal, Makes}
 use Rattle.aperture_macros.specs.declared.primitive.Form.TheVariants.{Outline}
@@ -72,20 +71,6 @@ length_is points (suc n) text given unit made h = by (point_at text given unit) 
     by : (r : Result Spot MacroFault) → point_at text given unit ≡ r → points_from points (suc n) text given unit ≡ Ok made → ((q : Spot) → points_from (points ++ q ∷ []) n (past 2 text) given unit ≡ Ok made → length made ≡ length (points ++ q ∷ []) + n) → length made ≡ length points + suc n
     by (Ok q) e h more = let k = more q (rw e at h) in omega (arith, k, length-append points (q ∷ []))
     by (Err fault) e h more = absurd (let k = rw e at h in cc)
-
-both : (x y : Bool) → (x && y) ≡ true → (x ≡ true) × (y ≡ true)
-both true y h = (refl, h)
-both false y h = cc
-
-abbrev spot : ℤ → ℤ → Spot
-spot x y = record { x = x; y = y }
-
-pub spot_is : (p q : Spot) → same_spot p q ≡ true → p ≡ q
-spot_is p q h =
-    let b = both (int_eq p.x q.x) (int_eq p.y q.y) h in
-    let x : p.x ≡ q.x = (Decides-int_eq p.x q.x).0 b.0 in
-    let y : p.y ≡ q.y = (Decides-int_eq p.y q.y).0 b.1 in
-    ap (λ (n : ℤ). spot n p.y) x ∙ ap (λ (n : ℤ). spot q.x n) y
 
 end_moved : (f : Spot → Spot) (p : Spot) (ps : List Spot) → end_from (f p) (map f ps) ≡ f (end_from p ps)
 end_moved f p [] = refl

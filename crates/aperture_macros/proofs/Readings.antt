@@ -6,6 +6,7 @@ use Rattle.std.specs.Prelude.{IfSome, codes}
 use Rattle.lengths.specs.Decimal.{Fraction, is_decimal, fraction}
 use Rattle.texts.specs.Words.{begins, is_word}
 use Rattle.aperture_macros.specs.Expression.{is_expression}
+use Rattle.aperture_macros.specs.declared.TheConstants.{MOST_OUTLINE_EDGES}
 use Rattle.aperture_macros.specs.declared.fault.MacroFault.{MacroFault}
 use Rattle.aperture_macros.specs.declared.fault.MacroFault.TheVariants.{BadMacro, ExposureOff}
 use Rattle.aperture_macros.specs.declared.primitive.Copper.{Copper}
@@ -29,9 +30,9 @@ either_sized false o p h k = k
 
 outline_sized : (word : List ℕ) (n : ℕ) → IfSome (outline_of word n) IsSized
 unfolding outline_of
-outline_sized word n = by (nat_le 3 n) (nat_le n 5000) refl refl
+outline_sized word n = by (nat_le 3 n) (nat_le n MOST_OUTLINE_EDGES) refl refl
   where
-    by : (a b : Bool) → nat_le 3 n ≡ a → nat_le n 5000 ≡ b → IfSome (cond (not (a && b)) None (cond (not (is_decimal (part 2 word))) None (cond (is_number (fraction (part 2 word)) n) (Some (Outline n)) None))) IsSized
+    by : (a b : Bool) → nat_le 3 n ≡ a → nat_le n MOST_OUTLINE_EDGES ≡ b → IfSome (cond (not (a && b)) None (cond (not (is_decimal (part 2 word))) None (cond (is_number (fraction (part 2 word)) n) (Some (Outline n)) None))) IsSized
     by false b low high = tt
     by true false low high = tt
     by true true low high = either_sized (not (is_decimal (part 2 word))) None (cond (is_number (fraction (part 2 word)) n) (Some (Outline n)) None) tt (either_sized (is_number (fraction (part 2 word)) n) (Some (Outline n)) None (leb-true _ _ low, leb-true _ _ high) tt)

@@ -6,6 +6,7 @@ use Rattle.std.proofs.lemmas.List.{length-map}
 use Rattle.std.specs.Prelude.{nat_le, nat_lt, slice_index_or, unsigned_abs, ◌&&◌}
 use Rattle.std.specs.List.{list_all}
 use Rattle.std.specs.Ordering.{int_eq}
+use Rattle.planar.proofs.Spots.{spot_same}
 use Rattle.planar.specs.Plane.{is_placed}
 use Rattle.planar.specs.declared.Spot.{Spot}
 use Rattle.board_shapes.specs.Figures.{Figure, Stroke as Figured, filled, round}
@@ -13,6 +14,7 @@ use Rattle.board_shapes.specs.Rectangles.{rectangle}
 use Rattle.area_contact.specs.Contour.{IsClosed, end_from}
 use Rattle.lengths.specs.Decimal.{Fraction}
 use Rattle.lengths.specs.declared.decimal.Unit.{Unit as Measure}
+use Rattle.aperture_macros.specs.declared.TheConstants.{MOST_OUTLINE_EDGES}
 use Rattle.aperture_macros.specs.declared.degrees.Turn.{Turn}
 use Rattle.aperture_macros.specs.declared.fault.MacroFault.{MacroFault}
 use Rattle.aperture_macros.specs.declared.fault.MacroFault.TheVariants.{OutOfRange, Turn as Turned}
@@ -25,7 +27,7 @@ use Rattle.aperture_macros.specs.declared.images.Sketch.{Sketch}
 use Rattle.aperture_macros.specs.declared.images.Sketch.TheVariants.{Disc, Rectangle, Regular, Stroke}
 use Rattle.aperture_macros.specs.declared.primitive.Copper.TheVariants.{Real}
 use Rattle.aperture_macros.specs.declared.primitive.Form.TheVariants.{Circle, Outline, VectorLine, CentreLine, Polygon}
-use Rattle.aperture_macros.specs.Images.{area_at, centre_at, circle_at, figure_by, is_closed, line_at, outline_at, outlined, polygon_at, polygon_spots, same_spot, set_down, sketch_at, sketched}
+use Rattle.aperture_macros.specs.Images.{area_at, centre_at, circle_at, figure_by, is_closed, line_at, outline_at, outlined, polygon_at, polygon_spots, set_down, sketch_at, sketched}
 use Rattle.aperture_macros.specs.Sized.{IsSized}
 use Rattle.aperture_macros.proofs.Closings.{closed_moved, outline_is}
 use Rattle.aperture_macros.specs.Flashes.{figure_turned, needs_quarters, tell, told_figure, turn_behind, turn_judged}
@@ -71,9 +73,6 @@ way_back x y q r = omega (arith, ints)
 
 rest_back : (about : Spot) (rest : ℕ) → rest_of about (record { x = about.x +ℤ (way_of rest).x; y = about.y +ℤ (way_of rest).y }) ≡ rest
 rest_back about rest = let w = way_back about.x about.y (rest / 30000) (rest % 30000) in w ∙ omega arith
-
-pub spot_same : (p q : Spot) → p ≡ q → same_spot p q ≡ true
-spot_same p q h = rw (h, (Decides-int_eq q.x q.x).1 refl, (Decides-int_eq q.y q.y).1 refl) refl
 
 found : (about : Spot) (rest : ℕ) (p : Spot) (contour : List Spot) → is_closed (p ∷ contour) ≡ true → telling_at (p ∷ contour) (tail_of about rest p) ≡ Some (record { contour = p ∷ contour; about = about; rest = rest })
 found about rest p contour closed = rw (closed, rest_back about rest) refl
@@ -169,7 +168,7 @@ sketch_bounded rotation at (Some (Regular p d n)) points h =
 sketched_bounded : (r : Result (Option Sketch) MacroFault) (rotation : Rotation) (at : Spot) (points : List Spot) → sketched rotation at r ≡ Ok (Some (filled points)) → IsBounded points
 sketched_bounded r rotation at points h = let o = then_ok r (sketch_at rotation at) (Some (filled points)) h in sketch_bounded rotation at o.0 points o.2
 
-outline_bounded : (n : ℕ) (rotation : Rotation) (text : List ℕ) (given : List Fraction) (unit : Measure) (at : Spot) (points : List Spot) → 3 ≤ n → n ≤ 5000 → outlined rotation at (outline_at n text given unit) ≡ Ok (Some (filled points)) → IsBounded points
+outline_bounded : (n : ℕ) (rotation : Rotation) (text : List ℕ) (given : List Fraction) (unit : Measure) (at : Spot) (points : List Spot) → 3 ≤ n → n ≤ MOST_OUTLINE_EDGES → outlined rotation at (outline_at n text given unit) ≡ Ok (Some (filled points)) → IsBounded points
 outline_bounded n rotation text given unit at points low high h =
     let o = then_ok (outline_at n text given unit) (λ ps. area_at (map (set_down rotation at) ps)) (Some (filled points)) h in
     let is = outline_is n text given unit o.0 o.1 in

@@ -1,15 +1,13 @@
 -- Signed sums as they are computed.
 use Rattle.std.proofs.Common.{ℕ, ◌≡◌, ◌+◌, ◌*◌, ◌<◌, arith, ℤ, pos, ◌+ℤ◌, ◌-ℤ◌, ◌≤ℤ◌, neg_ℤ, to_z, of_z, w64}
 use Rattle.std.proofs.lemmas.Int.{ints}
-use Rattle.planar.specs.Plane.{IsPlaced, IsReached, IsWithin}
+use Rattle.planar.specs.Plane.{IsPlaced, IsReachable, IsReached, IsWithin}
 use Rattle.planar.specs.declared.Spot.{Spot}
 use Rattle.planar.specs.declared.TheConstants.{METRE, TWO_METRES}
+use Rattle.board_shapes.proofs.Shifts.{sum_read as plus_read}
 use Rattle.aperture_macros.specs.Images.{set_down}
-use Rattle.board_shapes.specs.Rectangles.{IsReachable}
+use Rattle.aperture_macros.specs.declared.expression.TheConstants.{MOST_TERMS}
 use Rattle.aperture_macros.specs.declared.primitive.Rotation.TheVariants.{Unturned, Quarter, Half, ThreeQuarters}
-
-plus_read : (a b : ℤ) → IsReached a → IsWithin TWO_METRES b → to_z w64 (of_z w64 (to_z w64 (of_z w64 a) +ℤ to_z w64 (of_z w64 b))) ≡ a +ℤ b
-plus_read a b h k = omega (arith, ints)
 
 less_read : (a b : ℤ) → IsReached a → IsWithin TWO_METRES b → to_z w64 (of_z w64 (to_z w64 (of_z w64 a) -ℤ to_z w64 (of_z w64 b))) ≡ a +ℤ neg_ℤ b
 less_read a b h k = omega (arith, ints)
@@ -31,7 +29,7 @@ pub three_quarters_read : (at p : Spot) → IsPlaced at → IsReachable p →
 three_quarters_read at p h k = rw (plus_read at.x p.y h.0 k.1, less_read at.y p.x h.1 k.0)
 
 -- a sum of at most 63 terms and one more
-pub sum_read : (s u : ℤ) (k : ℕ) → pos 0 ≤ℤ (s +ℤ pos (k * METRE)) → s ≤ℤ pos (k * METRE) → k < 64 → IsReached u → to_z w64 (of_z w64 (s +ℤ to_z w64 (of_z w64 u))) ≡ s +ℤ u
+pub sum_read : (s u : ℤ) (k : ℕ) → pos 0 ≤ℤ (s +ℤ pos (k * METRE)) → s ≤ℤ pos (k * METRE) → k < MOST_TERMS → IsReached u → to_z w64 (of_z w64 (s +ℤ to_z w64 (of_z w64 u))) ≡ s +ℤ u
 sum_read s u k low high few h = omega (arith, ints)
 
 pub sum_low : (s u : ℤ) (k : ℕ) → pos 0 ≤ℤ (s +ℤ pos (k * METRE)) → IsReached u → pos 0 ≤ℤ ((s +ℤ u) +ℤ pos ((k + 1) * METRE))

@@ -4,6 +4,7 @@ use Rattle.std.specs.List.{after_first, before_first, count_by}
 use Rattle.std.specs.Option.{option_and_then}
 use Rattle.texts.specs.Words.{begins, is_word}
 use Rattle.lengths.specs.Decimal.{Fraction, is_decimal, fraction}
+use Rattle.aperture_macros.specs.declared.TheConstants.{MOST_OUTLINE_EDGES}
 use Rattle.aperture_macros.specs.declared.primitive.Form.{Form}
 use Rattle.aperture_macros.specs.declared.primitive.Form.TheVariants.{Circle, Outline, VectorLine, CentreLine, Polygon}
 use Rattle.aperture_macros.specs.declared.primitive.Copper.{Copper}
@@ -72,10 +73,10 @@ has_rotation form n = n == (row form).head + count form
 abbrev pub fits : Form → ℕ → Bool
 fits form n = has_rotation form n || (not (row form).needs_rotation && has_rotation form (n + 1))
 
--- an outline of n edges, where n is from 3 to 5,000 and part 2 says so
+-- an outline of n edges, where n is from 3 to MOST_OUTLINE_EDGES and part 2 says so
 unfoldable pub outline_of : List ℕ → ℕ → Option Form
 outline_of word n =
-    if not (nat_le 3 n && nat_le n 5000) then None
+    if not (nat_le 3 n && nat_le n MOST_OUTLINE_EDGES) then None
     else (if not (is_decimal (part 2 word)) then None
     else (if is_number (fraction (part 2 word)) n then Some (Outline n) else None))
 

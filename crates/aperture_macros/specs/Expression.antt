@@ -4,6 +4,7 @@ use Rattle.std.specs.List.{list_all, prefix_len}
 use Rattle.std.specs.Str.Parse.{digits_value}
 use Rattle.texts.specs.Digits.{is_decimal_digit}
 use Rattle.lengths.specs.Decimal.{is_decimal, unsigned}
+use Rattle.aperture_macros.specs.declared.expression.TheConstants.{MOST_TERMS}
 
 abbrev pub is_empty : List ℕ → Bool
 is_empty [] = true
@@ -81,6 +82,6 @@ unfoldable pub is_sum : ℕ → List ℕ → Bool
 is_sum zero text = is_empty text
 is_sum (suc n) text = is_empty text || (is_term (first_term text) && is_sum n (further_terms text))
 
--- an optional sign and 1 to 64 terms, joined by `+` or `-`
+-- an optional sign and 1 to MOST_TERMS terms, joined by `+` or `-`
 unfoldable pub is_expression : List ℕ → Bool
-is_expression text = not (is_empty text) && is_sum 64 text
+is_expression text = not (is_empty text) && is_sum MOST_TERMS text

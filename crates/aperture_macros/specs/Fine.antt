@@ -3,7 +3,6 @@ use Rattle.std.specs.Prelude.{ℕ, ◌*◌, Bool, false, ◌||◌, ◌==◌, nat
 use Rattle.planar.specs.declared.Spot.{Spot}
 use Rattle.contact.specs.declared.TheConstants.{MOST_DIAMETER}
 use Rattle.board_shapes.specs.Figures.{Figure}
-use Rattle.board_shapes.specs.Rectangles.{IsReachable}
 use Rattle.lengths.specs.Decimal.{Fraction}
 use Rattle.lengths.specs.declared.decimal.Unit.{Unit as Measure}
 use Rattle.aperture_macros.specs.declared.fine.FineKind.{FineKind}
@@ -15,7 +14,8 @@ use Rattle.aperture_macros.specs.declared.primitive.Rotation.{Rotation}
 use Rattle.aperture_macros.specs.declared.fault.MacroFault.{MacroFault}
 use Rattle.aperture_macros.specs.declared.fault.MacroFault.TheVariants.{OffGrid, OutOfRange}
 use Rattle.aperture_macros.specs.BodyWord.{◌>>=◌, part, past}
-use Rattle.aperture_macros.specs.Images.{area_at, right_of, same_spot, set_down}
+use Rattle.planar.specs.Plane.{IsReachable, same_spot}
+use Rattle.aperture_macros.specs.Images.{area_at, right_of, set_down}
 use Rattle.aperture_macros.specs.Telling.{told}
 use Rattle.aperture_macros.specs.Values.{extent_at, point_at}
 

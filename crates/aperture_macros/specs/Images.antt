@@ -2,7 +2,7 @@
 use Rattle.std.specs.Prelude.{ℕ, zero, suc, ◌+◌, ◌/◌, ◌%◌, Bool, true, ◌&&◌, ◌||◌, ◌==◌, nat_lt, if◌then◌else◌, List, [], ◌∷◌, ◌++◌, map, ◌+ℤ◌, neg_ℤ, int_lt, pos, Option, Some, None, Result, Ok, Err}
 use Rattle.std.specs.List.{list_all}
 use Rattle.std.specs.Ordering.{int_eq}
-use Rattle.planar.specs.Plane.{is_placed}
+use Rattle.planar.specs.Plane.{is_placed, same_spot}
 use Rattle.planar.specs.declared.Spot.{Spot}
 use Rattle.contact.specs.declared.TheConstants.{MOST_DIAMETER}
 use Rattle.area_contact.specs.Contour.{end_from}
@@ -23,10 +23,6 @@ use Rattle.aperture_macros.specs.declared.fault.MacroFault.TheVariants.{BadMacro
 use Rattle.aperture_macros.specs.BodyWord.{◌>>=◌, part, past}
 use Rattle.aperture_macros.specs.Values.{across_at, diameter_at, point_at, size_at}
 use Rattle.aperture_macros.specs.declared.values.TheConstants.{PARTS}
-
--- the spots are one
-abbrev pub same_spot : Spot → Spot → Bool
-same_spot p q = int_eq p.x q.x && int_eq p.y q.y
 
 -- `d,x,y`: a circle is a disc (Gerber Layer Format Specification, 4.5.1, code 1); none with diameter 0
 unfoldable pub circle_at : List ℕ → List Fraction → Measure → Result (Option Sketch) MacroFault

@@ -7,7 +7,7 @@ use Rattle.aperture_macros.specs.declared.fault.MacroFault.{MacroFault}
 use Rattle.aperture_macros.specs.declared.fault.MacroFault.TheVariants.{BadMacro}
 use Rattle.aperture_macros.specs.BodyWord.{◌>>=◌, past}
 use Rattle.aperture_macros.specs.Values.{point_at}
-use Rattle.aperture_macros.specs.Images.{same_spot}
+use Rattle.planar.specs.Plane.{same_spot}
 
 -- the last of n points, or the one before them
 unfoldable pub last_from : Spot → ℕ → List ℕ → List Fraction → Measure → Result Spot MacroFault

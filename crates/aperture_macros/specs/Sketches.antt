@@ -1,8 +1,7 @@
 -- Figures about the origin are near it.
 use Rattle.std.specs.Prelude.{Bool, true, false, ◌*◌, ◌≤◌, Option, Some, None}
 use Rattle.contact.specs.declared.TheConstants.{MOST_DIAMETER}
-use Rattle.board_shapes.specs.Rectangles.{IsReachable}
-use Rattle.planar.specs.Plane.{IsPlaced}
+use Rattle.planar.specs.Plane.{IsPlaced, IsReachable}
 use Rattle.aperture_macros.specs.declared.images.Sketch.{Sketch}
 use Rattle.aperture_macros.specs.declared.values.TheConstants.{PARTS}
 use Rattle.aperture_macros.specs.declared.images.Sketch.TheVariants.{Disc, Rectangle, Regular, Stroke}

@@ -4,7 +4,8 @@ use Rattle.planar.specs.declared.Spot.{Spot}
 use Rattle.board_shapes.specs.Figures.{Stroke}
 use Rattle.aperture_macros.specs.declared.primitive.Form.{Form}
 use Rattle.aperture_macros.specs.declared.primitive.Form.TheVariants.{Polygon}
-use Rattle.aperture_macros.specs.Images.{is_closed, same_spot}
+use Rattle.planar.specs.Plane.{same_spot}
+use Rattle.aperture_macros.specs.Images.{is_closed}
 
 -- whole quarter turns are made already; what is left, in parts of 10^-7 degrees, is below 90 degrees: 30,000 times the way across, and the way up
 abbrev pub way_of : ℕ → Spot

@@ -13,6 +13,7 @@ use Rattle.aperture_macros.specs.declared.fault.MacroFault.TheVariants.{BadMacro
 use Rattle.aperture_macros.specs.Expression.{is_empty, is_product, variable_number, first_factor, first_term, further_terms, second_factor}
 use Rattle.aperture_macros.specs.declared.values.TheConstants.{PARTS, PARTS_OF_PRODUCT}
 use Rattle.aperture_macros.specs.BodyWord.{◌>>=◌, part}
+use Rattle.aperture_macros.specs.declared.expression.TheConstants.{MOST_TERMS}
 
 -- how a position that is none is refused
 abbrev pub as_fault : Result ℤ GridFault → Result ℤ MacroFault
@@ -51,7 +52,7 @@ sum_from (suc n) sum text parameters unit =
 -- a coordinate: at most 1 m from 0
 unfoldable pub coordinate_at : List ℕ → List Fraction → Measure → Result ℤ MacroFault
 coordinate_at text parameters unit =
-    sum_from 64 (pos 0) text parameters unit >>= λ u. if nat_lt METRE (unsigned_abs u) then Err OutOfRange else Ok u
+    sum_from MOST_TERMS (pos 0) text parameters unit >>= λ u. if nat_lt METRE (unsigned_abs u) then Err OutOfRange else Ok u
 
 -- a size is even, and not negative
 abbrev pub as_size : ℤ → Result ℕ MacroFault

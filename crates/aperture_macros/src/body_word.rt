@@ -4,6 +4,7 @@ ghost use Rattle.aperture_macros.specs.BodyWord as spec;
 ghost use Rattle.aperture_macros.specs.Seen.{seen_body, seen_one};
 ghost use Rattle.aperture_macros.specs.Sized.{IsSized};
 
+use crate::MOST_OUTLINE_EDGES;
 use crate::expression::{is_expression, is_product};
 use crate::fault::MacroFault;
 use crate::primitive::{Copper, Form, Primitive, Rotation, Turning};
@@ -149,7 +150,7 @@ fn outline(word: &[u8], n: usize) -> Option<Form>
     ensures value { result ≡ spec.outline_of word.now n }
     ensures sized { IfSome result IsSized }
 {
-    if n < 3 || n > 5000 {
+    if n < 3 || n > MOST_OUTLINE_EDGES {
         return None;
     }
     let decimal = read_decimal(part(2, word))?;

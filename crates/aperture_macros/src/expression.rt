@@ -135,7 +135,7 @@ pub fn is_product(text: &[u8]) -> bool
     is_factor(first_factor(text)) && is_factor(second_factor(text))
 }
 
-/// Whether a text is an expression: an optional sign and 1 to 64 terms joined by `+` or `-`, each an
+/// Whether a text is an expression: an optional sign and 1 to `MOST_TERMS` terms joined by `+` or `-`, each an
 /// unsigned decimal or `$` with a number from 1 to 999.
 #[tactic(auto, unfolding(crate::specs::Expression::is_expression))]
 pub fn is_expression(text: &[u8]) -> bool

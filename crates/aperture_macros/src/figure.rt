@@ -1,9 +1,9 @@
 //! Primitives with their parameters: whether they are lawful, and what they flash.
 ghost use Rattle.std.specs.Prelude.{◌≡◌, ◌≢◌, ◌*◌, ◌^◌, ◌<◌, ◌≤◌, false, true, IfOk, None, Ok, Some, length, map};
-ghost use Rattle.planar.specs.Plane.{IsPlaced};
+ghost use Rattle.planar.specs.Plane.{IsPlaced, IsReachable};
 ghost use Rattle.contact.specs.declared.TheConstants.{MOST_DIAMETER};
 ghost use Rattle.area_contact.specs.Contour.{IsClosed};
-ghost use Rattle.board_shapes.specs.Rectangles.{IsReachable, rectangle};
+ghost use Rattle.board_shapes.specs.Rectangles.{rectangle};
 ghost use Rattle.aperture_macros.specs.Flashes as flashes;
 ghost use Rattle.aperture_macros.specs.Images as spec;
 ghost use Rattle.aperture_macros.specs.declared.primitive.Rotation.{Rotation as Turned};

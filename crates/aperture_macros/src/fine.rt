@@ -1,10 +1,9 @@
 //! Circles, vector lines and centre lines of real copper with a size that is an odd number of u.
 ghost use Rattle.std.specs.Prelude.{◌≡◌, ◌≤◌, map, pos, IfOk, Some, length};
-ghost use Rattle.planar.specs.Plane.{IsPlaced};
+ghost use Rattle.planar.specs.Plane.{IsPlaced, IsReachable};
 ghost use Rattle.planar.specs.declared.TheConstants.{METRE};
 ghost use Rattle.contact.specs.declared.TheConstants.{MOST_DIAMETER};
 ghost use Rattle.area_contact.specs.Contour.{IsClosed};
-ghost use Rattle.board_shapes.specs.Rectangles.{IsReachable};
 ghost use Rattle.aperture_macros.specs.Fine as spec;
 ghost use Rattle.aperture_macros.specs.Flashes as flashes;
 ghost use Rattle.aperture_macros.specs.Fine.{IsNearFine};
@@ -14,7 +13,6 @@ ghost use Rattle.aperture_macros.specs.Telling.{told};
 
 use crate::body_word::{part, past};
 use crate::fault::{FigureFault, MacroFault};
-use crate::images::same;
 use crate::outline::area_of;
 use crate::placing::Placing;
 use crate::primitive::Form;
@@ -23,7 +21,7 @@ use crate::values::{extent, point};
 use board_shapes::Shape;
 use contact::MOST_DIAMETER;
 use lengths::decimal::{Decimal, Unit};
-use planar::Spot;
+use planar::{Spot, is_same};
 use std::alloc::Global;
 
 /// What a fine primitive flashes.
@@ -116,7 +114,7 @@ fn line(text: &[u8], parameters: &[Decimal], unit: Unit) -> Result<Option<FineSk
     let w = breadth(part(0, text), parameters, unit)?;
     let p = point(past(1, text), parameters, unit)?;
     let q = point(past(3, text), parameters, unit)?;
-    Ok(if w == 0 || same(p, q) {
+    Ok(if w == 0 || is_same(p, q) {
         None
     } else {
         Some(FineSketch {
@@ -177,7 +175,7 @@ fn is_central(kind: FineKind, p: Spot) -> bool
     ensures { result ≡ spec.is_central kind p }
 {
     match kind {
-        FineKind::Disc => same(p, Spot { x: 0, y: 0 }),
+        FineKind::Disc => is_same(p, Spot { x: 0, y: 0 }),
         FineKind::Rectangle => false,
         FineKind::Line => false,
     }

@@ -12,7 +12,7 @@ use crate::values::{across, diameter, point, size};
 use board_shapes::corners_around;
 use contact::MOST_DIAMETER;
 use lengths::decimal::{Decimal, Unit};
-use planar::Spot;
+use planar::{Spot, is_same};
 
 /// A figure about the origin, in u: a disc by its centre and its diameter, a rectangle by its lower left
 /// and its upper right corner, the stroke of a slanted line by its ends and its width, at most `MOST_DIAMETER`, or a
@@ -145,13 +145,6 @@ pub fn polygon(
     })
 }
 
-/// Whether the spots are one.
-pub fn same(p: Spot, q: Spot) -> bool
-    ensures { result ≡ spec.same_spot p q }
-{
-    p.x == q.x && p.y == q.y
-}
-
 // Whether the one end of a line along an axis is to the left of the other, or below it.
 fn is_first(p: Spot, q: Spot) -> bool
     ensures { result ≡ spec.is_first p q }
@@ -168,7 +161,7 @@ fn strip(w: u64, p: Spot, q: Spot, across: u64, up: u64) -> Option<Sketch>
     ensures value { result ≡ spec.strip w p q across up }
     ensures near { IsNear result }
 {
-    if w == 0 || same(p, q) {
+    if w == 0 || is_same(p, q) {
         return None;
     }
     if is_first(p, q) {

@@ -37,3 +37,6 @@ mod values;
 pub use body_word::read_body;
 pub use fault::{FigureFault, MacroFault};
 pub use primitive::{Copper, Form, Primitive, Rotation, Turning};
+
+/// The most edges of an outline.
+pub const MOST_OUTLINE_EDGES: usize = 5000;

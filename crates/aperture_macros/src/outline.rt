@@ -8,16 +8,16 @@ ghost use Rattle.aperture_macros.specs.Images.{area_at, outline_at, outlined, se
 ghost use Rattle.aperture_macros.specs.Outlines.{closing_at, last_from, moved_from};
 ghost use Rattle.aperture_macros.specs.Seen.{IsMade, IsNoArea, IsRefusal, Makes};
 ghost use Rattle.aperture_macros.specs.Sized.{IsSized};
+ghost use Rattle.aperture_macros.specs.declared.TheConstants.{MOST_OUTLINE_EDGES};
 ghost use Rattle.aperture_macros.specs.declared.primitive.Form.TheVariants as form;
 
 use crate::body_word::past;
 use crate::fault::{FigureFault, MacroFault};
-use crate::images::same;
 use crate::placing::Placing;
 use crate::values::point;
 use board_shapes::Shape;
 use lengths::decimal::{Decimal, Unit};
-use planar::{Spot, are_placed};
+use planar::{Spot, are_placed, is_same};
 use std::alloc::Global;
 
 /// The points of an outline as they are written, one more than its edges, and the parameters of an
@@ -38,7 +38,7 @@ impl Outline<'_> {
     {
         let first = point(self.text, self.parameters, self.unit)?;
         let last = self.last_point(first)?;
-        if same(last, first) {
+        if is_same(last, first) {
             Ok(())
         } else {
             Err(MacroFault::BadMacro)
@@ -90,7 +90,7 @@ impl Outline<'_> {
     // The points, each set down as it is read.
     #[tactic(auto, unfolding(crate::specs::Outlines::moved_from))]
     fn points(&self, alloc: Global, by: Placing) -> Result<Vec<Spot>, FigureFault>
-        requires few { self.now.edges ≤ 5000 }
+        requires few { self.now.edges ≤ MOST_OUTLINE_EDGES }
         ensures ok { IfOk result (λ points. moved_from (set_down by.rotation by.at) [] (self.now.edges + 1) self.now.text.now self.now.parameters.now self.now.unit ≡ Ok points.items) }
         ensures fault { IfErr result (IsRefusal (moved_from (set_down by.rotation by.at) [] (self.now.edges + 1) self.now.text.now self.now.parameters.now self.now.unit)) }
     {

@@ -1,7 +1,6 @@
 //! Where a figure is set down.
 ghost use Rattle.std.specs.Prelude.{◌≡◌};
-ghost use Rattle.planar.specs.Plane.{IsPlaced};
-ghost use Rattle.board_shapes.specs.Rectangles.{IsReachable};
+ghost use Rattle.planar.specs.Plane.{IsPlaced, IsReachable};
 ghost use Rattle.aperture_macros.specs.Images.{set_down};
 
 use crate::primitive::Rotation;

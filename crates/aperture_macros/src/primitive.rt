@@ -2,8 +2,9 @@
 ghost use Rattle.std.specs.Prelude.{◌≡◌, ◌≤◌, ◌+◌, ◌*◌};
 ghost use Rattle.aperture_macros.specs.BodyWord.{row};
 ghost use Rattle.aperture_macros.specs.Sized.{IsSized, outline_edges};
+ghost use Rattle.aperture_macros.specs.declared.TheConstants.{MOST_OUTLINE_EDGES};
 
-/// What a primitive is, by its code: 1, 4, 20, 21 or 5. An outline has so many edges, from 3 to 5,000, a polygon so many
+/// What a primitive is, by its code: 1, 4, 20, 21 or 5. An outline has so many edges, from 3 to `MOST_OUTLINE_EDGES`, a polygon so many
 /// corners, from 3 to 12.
 #[derive(Clone, Copy, Debug)]
 pub enum Form {
@@ -88,5 +89,5 @@ pub struct Primitive<'a> {
     pub rotation: Turning,
     pub lengths: &'a [u8],
     ghost enough: { 3 ≤ outline_edges form },
-    ghost few: { outline_edges form ≤ 5000 },
+    ghost few: { outline_edges form ≤ MOST_OUTLINE_EDGES },
 }

@@ -9,13 +9,12 @@ ghost use Rattle.aperture_macros.specs.Telling as spec;
 ghost use Rattle.aperture_macros.specs.declared.primitive.Rotation.TheVariants as rotation;
 
 use crate::fault::{FigureFault, MacroFault};
-use crate::images::same;
 use crate::outline::area_of;
 use crate::placing::Placing;
 use crate::primitive::{Form, Rotation};
 use board_shapes::Shape;
 use contact::Capsule;
-use planar::{Spot, are_placed};
+use planar::{Spot, are_placed, is_same};
 use std::alloc::Global;
 
 /// The area whose contour is this one with three spots more: what it is turned about, that spot moved by what the
@@ -93,7 +92,7 @@ pub fn end_of_way(about: Spot, rest: u32) -> Spot
 pub fn is_moved(about: Spot, rest: u32, capsule: &Capsule) -> bool
     ensures { result ≡ spec.is_moved about rest (record { a = capsule.now.a; b = capsule.now.b; r = capsule.now.r }) }
 {
-    rest > 0 && !(same(capsule.a, about) && same(capsule.b, about))
+    rest > 0 && !(is_same(capsule.a, about) && is_same(capsule.b, about))
 }
 
 /// The area that tells a disc or a stroke with its turn: both ends, the start again, a spot to its right as far as the

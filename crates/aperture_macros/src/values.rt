@@ -1,4 +1,5 @@
 //! What lengths are, in u.
+ghost use Rattle.aperture_macros.specs.declared.expression.TheConstants.{MOST_TERMS};
 ghost use Rattle.std.specs.Prelude.{◌≡◌, ◌≤◌, ◌*◌, pos, IfOk};
 ghost use Rattle.planar.specs.Plane.{IsPlaced, IsReached};
 ghost use Rattle.contact.specs.declared.TheConstants.{MOST_DIAMETER};
@@ -65,7 +66,7 @@ fn term(text: &[u8], parameters: &[Decimal], unit: Unit) -> Result<i64, MacroFau
 // What the terms of an expression come to.
 #[tactic(auto, unfolding(crate::specs::Values::sum_from))]
 fn sum(text: &[u8], parameters: &[Decimal], unit: Unit) -> Result<i64, MacroFault>
-    ensures { result ≡ spec.sum_from 64 (pos 0) text.now parameters.now unit }
+    ensures { result ≡ spec.sum_from MOST_TERMS (pos 0) text.now parameters.now unit }
 {
     let mut rest = text;
     let mut sum = 0;

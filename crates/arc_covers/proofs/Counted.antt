@@ -5,6 +5,7 @@ use Rattle.std.proofs.lemmas.List.Elements.{All-append, All-cons, All-head, All-
 use Rattle.verdict.specs.ReportReading.{behind, number_at, word_at}
 use Rattle.verdict.specs.ReportText.{end, word}
 use Rattle.verdict.proofs.Steps.{behind_again, behind_takes, bind_some, front_then, number_again, number_takes, some_is, step, word_again, word_takes}
+use Rattle.verdict.proofs.OneText.{pair_parts, cancel}
 use Rattle.arc_covers.specs.Counts.{AreCounts, IsCount, IsFirstOther, IsOther, count_line, count_lines, first_line}
 use Rattle.arc_covers.specs.CountsReading.{both_at}
 
@@ -56,14 +57,11 @@ none_begins (below, above, more, few, many, e) =
     let n = ap length e in
     absurd (omega (arith, one, n))
 
-pair_of : {A B : Type 0} (x y : A × B) → x ≡ y → (x.0 ≡ y.0) × (x.1 ≡ y.1)
-pair_of x y e = (ap (λ (p : _ × _). p.0) e, ap (λ (p : _ × _). p.1) e)
-
 line_one : (b a c d : ℕ) (r s : List ℕ) → IsCount b → IsCount a → IsCount c → IsCount d → count_line b a ++ r ≡ count_line c d ++ s → (b ≡ c) × (a ≡ d) × (r ≡ s)
 line_one b a c d r s hb ha hc hd e =
     let same : ◌≡◌ {A = (ℕ × ℕ) × List ℕ} ((b, a), r) ((c, d), s) = some_is ((b, a), r) ((c, d), s) (sym (both_again b a r hb ha) ∙ (ap both_at e ∙ both_again c d s hc hd)) in
-    let parts = pair_of ((b, a), r) ((c, d), s) same in
-    let counts = pair_of (b, a) (c, d) parts.0 in
+    let parts = pair_parts ((b, a), r) ((c, d), s) same in
+    let counts = pair_parts (b, a) (c, d) parts.0 in
     (counts.0, counts.1, parts.1)
 
 -- ---- many lines
@@ -118,10 +116,6 @@ fewer (b ∷ l) (a ∷ u) (c ∷ m) [] r s is at n e = let even = at.even in abs
 fewer (b ∷ l) (a ∷ u) (c ∷ m) (d ∷ v) r s is at n e = fewer l u m v r s (rest_even b a l u is) (rest_even c d m v at) (omega arith) (first_of b a c d l u m v r s is at e).2
 
 -- ---- files
-
-cancel : (a r s : List ℕ) → a ++ r ≡ a ++ s → r ≡ s
-cancel [] r s e = e
-cancel (b ∷ a) r s e = cancel a r s cc
 
 evenly : (bytes lower upper : List ℕ) → AreCounts bytes lower upper → IsEven lower upper
 evenly bytes lower upper is = record { even = is.even; below = is.below; above = is.above }

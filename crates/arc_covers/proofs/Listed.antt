@@ -18,7 +18,10 @@ use Rattle.verdict.specs.declared.verdict.Twig.{Twig}
 use Rattle.verdict.specs.declared.verdict.Verdict.{Verdict}
 use Rattle.verdict.proofs.Holding.{one_of}
 use Rattle.verdict.proofs.Seating.{fresh_new, fresh_old, seats_none, seats_other, seats_some}
+use Rattle.verdict.proofs.Marking.{first_other, first_here}
 use Rattle.witness_check.specs.Laws.{IsSeated, IsWithoutNet}
+use Rattle.witness_check.proofs.Bare.{opened_some, opened_none}
+use Rattle.witness_check.proofs.Naming.{none_cons}
 
 -- test point k has the name, and is on the net
 abbrev IsAt : List PointLine → ℕ → ℕ → ℕ → Type 0
@@ -31,12 +34,6 @@ not_both : true ≡ false → ⊥
 not_both e = cc
 
 -- ---- Missing points
-
-opened_none : (n : ℕ) (line : PointLine) (rest : List PointLine) → line.net ≡ None → bare_from n (line ∷ rest) ≡ n ∷ bare_from (n + 1) rest
-opened_none n line rest none = rw none refl
-
-opened_some : (n net : ℕ) (line : PointLine) (rest : List PointLine) → line.net ≡ Some net → bare_from n (line ∷ rest) ≡ bare_from (n + 1) rest
-opened_some n net line rest some = rw some refl
 
 -- the line of point k, of lines from point n on, has no net
 abbrev IsBareAt : ℕ → List PointLine → ℕ → Type 0
@@ -115,9 +112,6 @@ first_seat name n (l ∷ lines) seen s inside = by (l.name == name) refl l.net r
   by false e o f more = let g = more seen s (subst (λ (xs : List Seat). Contains (fresh seen xs) s) (seats_other name n l lines e) inside) in later_seat name n l lines seen seen s (λ named on. eqb-false l.name name e named) g.new g
   by true e None f more = let g = more seen s (subst (λ (xs : List Seat). Contains (fresh seen xs) s) (seats_none name n l lines f) inside) in later_seat name n l lines seen seen s (λ named on. none_is_some s.net (sym f ∙ on)) g.new g
   by true e (Some m) f more = on_net m e f more (list_any (λ x. x == m) seen) refl (subst (λ (xs : List Seat). Contains (fresh seen xs) s) (seats_some name n m l lines e f) inside)
-
-none_cons : {X : Type 0} (x : X) (xs : List X) → [] ≡ x ∷ xs → ⊥
-none_cons x xs e = cc
 
 head_is : (s t : Seat) (xs ys : List Seat) → s ∷ xs ≡ t ∷ ys → s ≡ t
 head_is s t xs ys e = cc
@@ -258,12 +252,6 @@ both false b e = absurd (not_both (sym e))
 on_of : (o : Option ℕ) (net : ℕ) → is_on o net ≡ true → o ≡ Some net
 on_of None net e = absurd (not_both (sym e))
 on_of (Some n) net e = ap Some (eqb-true n net e)
-
-first_other : (net name n : ℕ) (line : PointLine) (lines : List PointLine) → marks net name line ≡ false → first_from net name n (line ∷ lines) ≡ first_from net name (n + 1) lines
-first_other net name n line lines e = rw e refl
-
-first_here : (net name n : ℕ) (line : PointLine) (lines : List PointLine) → marks net name line ≡ true → first_from net name n (line ∷ lines) ≡ Some n
-first_here net name n line lines e = rw e refl
 
 first_at : (net name n : ℕ) (lines : List PointLine) (probe : ℕ) → first_from net name n lines ≡ Some probe → (k : ℕ) × (probe ≡ n + k) × IsAt lines name net k
 first_at net name n [] probe e = absurd (none_is_some probe e)

@@ -1,5 +1,5 @@
 -- One real piece more.
-use Rattle.std.proofs.Common.{◌≡◌, ◌⊎◌, inl, inr, Bool, true, false, ℕ, ◌+◌, ◌≤◌, ◌<◌, List, length, get_or, take, drop, sum, Some, slice_get, sym, ◌∙◌, ap, subst, arith}
+use Rattle.std.proofs.Common.{◌≡◌, ◌⊎◌, inl, inr, ℕ, ◌+◌, ◌≤◌, ◌<◌, List, length, get_or, take, drop, sum, Some, slice_get, sym, ◌∙◌, ap, subst, arith}
 use Rattle.std.proofs.lemmas.List.{drop-map, length-map, take-map}
 use Rattle.std.proofs.lemmas.List.Sums.{sum_by_more, sum_by_more_le}
 use Rattle.std.proofs.lemmas.Option.{same_Some, slice_get-get_or}
@@ -25,9 +25,6 @@ unshared side piece counts pieces part i start from is = subst (PiecesAreTaken s
 
 pub item_there : {X : Type 0} (xs : List X) (i : ℕ) (x : X) → i < length xs → x ≡ get_or xs i x → slice_get xs i ≡ Some x
 item_there xs i x below is = slice_get-get_or xs i x below ∙ ap Some (sym is)
-
-pub not_both : (b : Bool) → b ≡ false → b ≡ true → ⊥
-not_both b first second = cc
 
 -- it lies within them
 pub fits : (real : List (Placed RealShape)) (counts : List ℕ) (pieces : List (Placed Shape)) (i start : ℕ) → AddUp real counts (plain_pieces pieces) → i < length real → start ≡ sum (take i counts) → start + get_or counts i 0 ≤ length pieces

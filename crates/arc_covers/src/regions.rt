@@ -14,11 +14,11 @@ ghost use Rattle.std.specs.Prelude.{All, IfNone, IfOk, IfSome, IsTrue, List, ℕ
 use crate::eighths::is_inside;
 use crate::rows::next_spot;
 use crate::side::Side;
-use arc_regions::{Bend, Part, Region, end_of, is_part, is_same};
+use arc_regions::{Bend, Part, Region, end_of, is_part};
 use arcs::Spot;
 use board_shapes::{Piece, Shape};
 use lengths::rows::NoMemory;
-use planar::is_placed;
+use planar::{is_placed, is_same};
 use std::alloc::Global;
 
 /// How many spots there are up to the first that is `end`.

@@ -4,7 +4,8 @@ use Rattle.std.specs.Prelude.{not, nat_lt}
 use Rattle.std.specs.List.{list_any}
 use Rattle.planar.specs.declared.Spot.{Spot}
 use Rattle.area_contact.specs.Contour.{end_from}
-use Rattle.regions.specs.Contours.{Flaw, close_of, same_spot, stays_open, too_short}
+use Rattle.planar.specs.Plane.{same_spot}
+use Rattle.regions.specs.Contours.{Flaw, close_of, stays_open, too_short}
 use Rattle.gerber_layer.specs.Command.{Command, nothing, refused, counts_in, formats, defines, names_macro, body_word, selects, operates, opens_region, closes_region, repeats, ends, breaks, finishes, functions}
 use Rattle.gerber_layer.specs.CommandEffects.{code_of, edges_in}
 use Rattle.gerber_layer.specs.Settings.{contour_before, contour_by, drawn, lengthened, ok_or_none, point_before, region_open}

@@ -4,12 +4,10 @@ use Rattle.std.specs.Prelude.{FitsSigned}
 use Rattle.std.proofs.lemmas.Int.{ints}
 use Rattle.planar.specs.Plane.{IsReached, IsWithin}
 use Rattle.planar.specs.declared.TheConstants.{TWO_METRES}
-
-pub sum_read : (a b : ℤ) → IsReached a → IsReached b → to_z w64 (of_z w64 (to_z w64 (of_z w64 a) +ℤ to_z w64 (of_z w64 b))) ≡ a +ℤ b
-sum_read a b h k = omega (arith, ints)
+use Rattle.board_shapes.proofs.Halves.{sum}
 
 pub sum_within : (a b : ℤ) → IsReached a → IsReached b → IsWithin TWO_METRES (to_z w64 (of_z w64 (to_z w64 (of_z w64 a) +ℤ to_z w64 (of_z w64 b))))
-sum_within a b h k = rw (sum_read a b h k) (omega (arith, ints))
+sum_within a b h k = rw (sum a b h k) (omega (arith, ints))
 
 -- ---- 30,000 times one difference, and another
 

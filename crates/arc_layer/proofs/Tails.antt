@@ -1,39 +1,20 @@
 -- What the last three points of a contour tell.
-use Rattle.std.proofs.Common.{◌≡◌, ◌↔◌, ℕ, ℤ, ◌+◌, ◌-◌, ◌≤◌, nat_le, Bool, true, false, cond, ◌&&◌, IsTrue, List, [], ◌∷◌, length, take, drop, get_or, All, Some, None, refl, sym, ap, ◌∙◌, subst, arith}
+use Rattle.std.proofs.Common.{◌≡◌, ◌↔◌, ℕ, ◌+◌, ◌-◌, ◌≤◌, nat_le, Bool, true, false, cond, IsTrue, List, [], ◌∷◌, length, take, drop, get_or, All, Some, None, refl, sym, ap, ◌∙◌, subst, arith}
 use Rattle.std.specs.Bool.{Decides}
-use Rattle.std.specs.Ordering.{int_eq}
-use Rattle.std.proofs.lemmas.Bool.Decides.{Decides-int_eq}
 use Rattle.std.proofs.lemmas.List.{drop_all, drop_more}
 use Rattle.std.proofs.lemmas.List.Elements.{All-drop, All-head}
 use Rattle.planar.specs.Plane.{IsPlaced}
+use Rattle.planar.proofs.Spots.{spot_decides}
 use Rattle.planar.specs.declared.Spot.{Spot}
 use Rattle.area_contact.specs.Contour.{IsClosed, end_from}
-use Rattle.aperture_macros.specs.Images.{is_closed, same_spot}
+use Rattle.aperture_macros.specs.Images.{is_closed}
 use Rattle.aperture_macros.specs.Telling.{Telling, rest_of, telling_at, told_in}
-
-both : (x y : Bool) → (x && y) ≡ true → (x ≡ true) × (y ≡ true)
-both true y h = (refl, h)
-both false y h = absurd cc
 
 -- ---- whether points are closed
 
-one_spot : (p q : Spot) → p.x ≡ q.x → p.y ≡ q.y → p ≡ q
-one_spot p q x y = ap (λ (z : ℤ). let s : Spot = record { x = z; y = p.y } in s) x ∙ ap (λ (z : ℤ). let s : Spot = record { x = q.x; y = z } in s) y
-
-same_decides : (p q : Spot) → Decides (same_spot p q) (p ≡ q)
-same_decides p q = (
-  λ yes.
-      let b = both (int_eq p.x q.x) (int_eq p.y q.y) yes in
-      one_spot p q ((Decides-int_eq p.x q.x).0 b.0) ((Decides-int_eq p.y q.y).0 b.1),
-  λ e.
-      let x : int_eq p.x q.x ≡ true = (Decides-int_eq p.x q.x).1 (ap (λ (s : Spot). s.x) e) in
-      let y : int_eq p.y q.y ≡ true = (Decides-int_eq p.y q.y).1 (ap (λ (s : Spot). s.y) e) in
-      rw (x, y) refl,
-)
-
 closed_decides : (points : List Spot) → Decides (is_closed points) (IsClosed points)
 closed_decides [] = (λ _. tt, λ _. refl)
-closed_decides (p ∷ ps) = same_decides (end_from p ps) p
+closed_decides (p ∷ ps) = spot_decides (end_from p ps) p
 
 pub closed_read : (answer : Bool) (points : List Spot) → IsTrue answer ↔ IsClosed points → is_closed points ≡ answer
 closed_read true points h = (closed_decides points).1 (h.0 refl)

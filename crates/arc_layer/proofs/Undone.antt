@@ -8,7 +8,8 @@ use Rattle.planar.specs.declared.Spot.{Spot}
 use Rattle.area_contact.specs.Contour.{IsClosed, IsContour}
 use Rattle.aperture_macros.specs.Laws.{RoundToldIsFound, ToldIsFound}
 use Rattle.aperture_macros.specs.Telling.{RoundTelling, Telling, round_told, told, told_in, told_round}
-use Rattle.aperture_macros.proofs.Told.{spot_same, told_length}
+use Rattle.planar.proofs.Spots.{spot_same}
+use Rattle.aperture_macros.proofs.Told.{told_length}
 use Rattle.apertures.specs.Telling.{Fine, Frame, Pierced, Ring, fine_told, frame_told, pierced_told, ring_told}
 use Rattle.board_shapes.specs.Figures.{filled}
 use Rattle.arc_layer.specs.Laws.{DiscsAreUndone, TurnedAreContours, TurnsAreUndone}

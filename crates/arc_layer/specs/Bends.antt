@@ -1,6 +1,6 @@
 -- The bend of an arc draw: what the straight reading of its arc draws leaves out (Gerber Layer Format Specification, 4.7 and 4.8).
 use Rattle.std.specs.Prelude.{Bool, true, false, ◌&&◌, ◌||◌, not, if◌then◌else◌, pos, Option, Some, None, is_none, is_some, Result, Ok, Err, IfSome}
-use Rattle.planar.specs.Plane.{IsPlaced, is_placed}
+use Rattle.planar.specs.Plane.{IsPlaced, is_placed, same_spot}
 use Rattle.planar.specs.declared.Spot.{Spot}
 use Rattle.file_reading.specs.Conditions.{◌>>=◌, unless, needed}
 use Rattle.gerber_layer.specs.Command.{Command, operates}
@@ -12,7 +12,7 @@ use Rattle.gerber_layer.specs.declared.command.Code.TheVariants.{Draw}
 use Rattle.gerber_layer.specs.declared.kind.GerberKind.{GerberKind}
 use Rattle.gerber_layer.specs.declared.kind.GerberKind.TheVariants as kind
 use Rattle.gerber_layer.specs.WordCommands.{is_number_if}
-use Rattle.arc_layer.specs.Centres.{centre_at, choice, same_spot}
+use Rattle.arc_layer.specs.Centres.{centre_at, choice}
 use Rattle.arc_layer.specs.Kinds.{gerber}
 use Rattle.arc_layer.specs.State.{curve_at, point_behind}
 use Rattle.arc_layer.specs.Words.{Saying}

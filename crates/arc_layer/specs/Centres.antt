@@ -1,8 +1,7 @@
 -- Which centre an arc of a single quadrant means: its offsets have no signs (Gerber Layer Format Specification, 4.7, G74, in the revisions that have it).
 use Rattle.std.specs.Prelude.{ℕ, ◌+◌, ◌*◌, ◌^◌, ◌≤◌, Bool, ◌&&◌, ◌||◌, not, ◌==◌, nat_le, nat_lt, int_lt, if◌then◌else◌, ℤ, pos, neg_ℤ, unsigned_abs, ◌+ℤ◌, ◌-ℤ◌, Option, Some, None}
 use Rattle.std.specs.Int.{abs_diff}
-use Rattle.std.specs.Ordering.{int_eq}
-use Rattle.planar.specs.Plane.{IsPlaced, cross_of, dot_of}
+use Rattle.planar.specs.Plane.{IsPlaced, cross_of, dot_of, same_spot}
 use Rattle.planar.specs.declared.Spot.{Spot}
 use Rattle.lengths.specs.Decimal.{units_in}
 use Rattle.arc_layer.specs.declared.centres.Draw.{Draw}
@@ -61,10 +60,6 @@ abbrev pub is_better : Draw → Spot → Spot → Bool
 is_better d a b =
     if unlike d a == unlike d b then not (is_wide d a) && is_wide d b
     else nat_lt (unlike d a) (unlike d b)
-
--- the spots are one
-abbrev pub same_spot : Spot → Spot → Bool
-same_spot a b = int_eq a.x b.x && int_eq a.y b.y
 
 -- the other is the same, may not be meant, or is not as good
 abbrev pub beats : Draw → Spot → Spot → Bool

@@ -120,6 +120,10 @@ is_line other = false
 abbrev pub is_quiet : List ℕ → Bool
 is_quiet text = is_line (curve_in text) && not (begins_offset (from_offsets text))
 
+-- and a word between percent signs begins no macro and defines nothing that tells more
+abbrev pub is_quiet_word : Entry → Bool
+is_quiet_word w = if w.extended then not (begins_telling w.text) else is_quiet w.text
+
 -- a byte that no code of curves and no offset begins with: none from `G` to `J`
 abbrev pub is_mute : ℕ → Bool
 is_mute b = nat_lt b 71 || nat_lt 74 b

@@ -6,7 +6,7 @@ ghost use Rattle.lengths.specs.Decimal.{units_in as of_unit};
 ghost use Rattle.std.specs.Prelude.{◌≡◌, ◌≤◌, ◌^◌, not, int_lt, pos, IfSome};
 
 use lengths::decimal::Unit;
-use planar::{Spot, cross, dot};
+use planar::{Spot, cross, dot, is_same};
 
 /// A draw whose centre is looked for, in u. `decimals` and `unit` tell the step of its file.
 #[derive(Clone, Copy)]
@@ -79,13 +79,6 @@ fn is_little(over: u128, steps: u128, units: u128, reach: u64) -> bool
         Some(over) => over <= units * (u128::from(reach) * steps + units),
         None => false,
     }
-}
-
-/// Whether the spots are one.
-pub fn same_spot(a: Spot, b: Spot) -> bool
-    ensures { result ≡ spec.same_spot a b }
-{
-    a.x == b.x && a.y == b.y
 }
 
 fn flip_x(way: Spot) -> Spot
@@ -192,7 +185,7 @@ impl Draw {
         requires b { IsReachable b }
         ensures { result ≡ spec.beats self.now a b }
     {
-        if same_spot(a, b) || !self.is_fit(b) {
+        if is_same(a, b) || !self.is_fit(b) {
             return true;
         }
         self.is_better(a, b)

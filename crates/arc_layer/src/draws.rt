@@ -11,13 +11,13 @@ ghost use Rattle.planar.specs.Plane.{IsPlaced, IsReached};
 ghost use Rattle.std.specs.Option.{option_copied};
 ghost use Rattle.std.specs.Prelude.{◌≡◌, ◌≤◌, pos, IfOk};
 
-use crate::centres::{Draw, moved, same_spot};
+use crate::centres::{Draw, moved};
 use crate::kind::{RealKind, gerber};
 use crate::state::State;
 use crate::words::{Curve, Quadrants, Saying};
 use gerber_layer::{Code, Command, Format, GerberKind, Here, code_of, coordinate, is_number_if};
 use lengths::decimal::Unit;
-use planar::{Spot, is_placed};
+use planar::{Spot, is_placed, is_same};
 
 /// What makes a draw an arc: its direction, and the way from its start to its centre, in u.
 #[derive(Clone, Copy, Debug, PartialEq, Eq)]
@@ -74,7 +74,7 @@ fn quarter_bend(draw: &Draw, way: Spot) -> Result<Option<Bend>, RealKind>
     ensures value { result ≡ spec.quarter_bend draw.now way }
     ensures short { IfOk result IsShort }
 {
-    if same_spot(draw.start, draw.end) {
+    if is_same(draw.start, draw.end) {
         return Ok(None);
     }
     match draw.choice(way) {

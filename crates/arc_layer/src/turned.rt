@@ -10,16 +10,15 @@ ghost use Rattle.planar.specs.Plane.{IsPlaced};
 ghost use Rattle.slants.specs.declared.cones.TheConstants.{RIGHT_ANGLE};
 ghost use Rattle.std.specs.Prelude.{◌≡◌, ◌≤◌, ◌<◌, ◌^◌, ◌*◌, ◌-◌, ◌-ℤ◌, unsigned_abs, All, length, option_map, take, IfErr, IfOk, Some};
 
-use crate::centres::same_spot;
 use crate::fine::{fine_in, fine_primitive, holed_in};
 use crate::kind::RealFault;
 use arc_regions::{Bend, Part, Region};
 use arcs::Arc;
-use area_contact::Area;
+use area_contact::{Area, is_closed};
 use board_shapes::Shape;
-use planar::Spot;
+use planar::{Spot, is_same};
 use real_shapes::RealShape;
-use slants::{PARTS, RIGHT_ANGLE, RegularPolygon, TurnedDisc, TurnedFigure, is_closed};
+use slants::{PARTS, RIGHT_ANGLE, RegularPolygon, TurnedDisc, TurnedFigure};
 use std::alloc::Global;
 use turned_polygons::TurnedPolygon;
 
@@ -216,7 +215,7 @@ fn round_in(points: &[Spot]) -> Option<Round>
     let [start, end, _, rim, about, to, _] = points else {
         return None;
     };
-    if same_spot(*start, *rim) {
+    if is_same(*start, *rim) {
         return None;
     }
     Some(Round {
@@ -236,7 +235,7 @@ fn turned_disc(area: Area, round: Round) -> RealShape
 {
     let turning = round.turning;
     let below = turning.rest > 0 && turning.rest < u64::from(RIGHT_ANGLE);
-    if below && same_spot(round.start, round.end) {
+    if below && is_same(round.start, round.end) {
         RealShape::TurnedDisc(TurnedDisc {
             centre: round.start,
             radius: round.radius,

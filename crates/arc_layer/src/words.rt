@@ -260,7 +260,8 @@ fn is_quiet_text(text: &[u8]) -> bool
 
 /// Whether a word says nothing of arcs, begins no macro and defines no hole and no fine aperture, so that behind lines its command need not be read.
 pub fn is_quiet(word: Word) -> bool
-    ensures { result ≡ true → spec.IsQuiet (spec.saying (entry_of word.entry)) }
+    ensures value { result ≡ spec.is_quiet_word (entry_of word.entry) }
+    ensures quiet { result ≡ true → spec.IsQuiet (spec.saying (entry_of word.entry)) }
 {
     if word.extended {
         !begins_telling(word.text)

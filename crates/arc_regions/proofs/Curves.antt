@@ -12,7 +12,7 @@ use Rattle.arc_regions.specs.Copper.{HasTurn, InBand, InSweep, IsRight, IsTold, 
 use Rattle.arc_regions.specs.Laws.{AreEven, IsEven, PossiblyIsSurely, SectorOfEach, SurelyIsPossibly}
 use Rattle.arc_regions.specs.declared.Part.{Part}
 use Rattle.arc_regions.specs.declared.Part.TheVariants.{Straight, Curved}
-use Rattle.arc_regions.proofs.Sectors.{spot_is}
+use Rattle.planar.proofs.Spots.{one_spot}
 
 -- ---- surely, possibly
 
@@ -58,7 +58,7 @@ even_told arc even = (inr (inl (omega (arith, linear, unlike_none arc even, whol
         met : swing arc ≡ pos 0 → pos 0 ≤ℤ dot_of arc.centre arc.start arc.end → arc.start ≡ arc.end
         met flat ahead =
             let same = one_way (arc.start.x -ℤ arc.centre.x) (arc.start.y -ℤ arc.centre.y) (arc.end.x -ℤ arc.centre.x) (arc.end.y -ℤ arc.centre.y) even flat ahead in
-            spot_is arc.start arc.end (omega (arith, linear, same.0)) (omega (arith, linear, same.1))
+            one_spot arc.start arc.end (omega (arith, linear, same.0)) (omega (arith, linear, same.1))
 
 band_even : (arc : Arc) (p : Point) → dot_of arc.centre arc.start arc.start ≡ dot_of arc.centre arc.end arc.end → InBand (inmost arc) (outmost arc) arc p → InBand (outmost arc) (inmost arc) arc p
 band_even arc p even (turn, from, to) = (turn, omega (arith, linear, from, same), omega (arith, linear, to, same))

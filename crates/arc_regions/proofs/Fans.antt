@@ -3,14 +3,14 @@ use Rattle.std.proofs.Common.{Bool, true, false, not, ◌&&◌, ◌||◌, List, 
 use Rattle.std.specs.Bool.{⊤}
 use lib.Signed.{lt_z, le_z}
 use Rattle.planar.specs.declared.Spot.{Spot}
-use Rattle.planar.specs.Plane.{InCapsule, IsPlaced, Point, cross_of, square}
+use Rattle.planar.specs.Plane.{InCapsule, IsPlaced, Point, cross_of, square, EachFrom}
 use Rattle.planar.proofs.Ring.{ring, linear, le_or_lt, times_cancel, times-zero, zero-times}
-use Rattle.planar.proofs.EdgeLaw.{xor}
-use Rattle.area_contact.specs.Parity.{side_of, crossed, passes, odd, is_le, not_le, xor-same, xor-chain}
+use Rattle.planar.proofs.EdgeLaw.{xor, not_le, is_le, xor-same}
+use Rattle.area_contact.specs.Parity.{side_of, crossed, passes, odd, xor-chain}
 use Rattle.area_contact.specs.Contour.{edges_from, end_from}
 use Rattle.arcs.specs.Copper.{reach_of, InFrom}
 use Rattle.arcs.specs.Copper.{side_of as side_at}
-use Rattle.arcs.specs.Chains.{EachFrom, IsLink, IsRoom}
+use Rattle.arcs.specs.Chains.{IsLink, IsRoom}
 use Rattle.arc_regions.specs.Taken.{is_past, odd_past}
 use Rattle.arc_regions.proofs.Hits.{Sign, over, under, more, triangle, hit}
 use Rattle.arc_regions.proofs.Shifted.{IsNarrow, crossed_is_hit, from_over, from_under, height_sign, side_sign}

@@ -2,8 +2,8 @@
 use Rattle.std.proofs.Common.{Bool, true, false, ◌&&◌, ◌||◌, ◌≡◌, ℤ, pos, neg_ℤ, ◌+ℤ◌, ◌*ℤ◌, ◌≤ℤ◌, ◌<ℤ◌, arith, refl, sym, ◌∙◌}
 use lib.Signed.{lt_z}
 use Rattle.planar.proofs.Ring.{linear, times_from_zero, over_zero, neg-mul, mul-neg}
-use Rattle.planar.proofs.EdgeLaw.{xor, crosses}
-use Rattle.area_contact.specs.Parity.{is_lt, not_lt, is_le, not_le}
+use Rattle.planar.proofs.EdgeLaw.{xor, crosses, not_lt, not_le, is_lt, is_le}
+use Rattle.area_contact.specs.Parity.{xor-comm}
 
 -- the ray crosses an edge from the height a to the height b, on whose left the place is where t is over 0
 abbrev pub hit : ℤ → ℤ → ℤ → Bool
@@ -93,12 +93,6 @@ turn false true false = refl
 turn false false true = refl
 turn false false false = refl
 
-pub swap : (a b : Bool) → xor a b ≡ xor b a
-swap true true = refl
-swap true false = refl
-swap false true = refl
-swap false false = refl
-
 back : (a : Bool) → xor a false ≡ a
 back true = refl
 back false = refl
@@ -120,10 +114,10 @@ triangle a b c r s t (under ha a1 a2) (over hb b1 b2) (under hc c1 c2) dr ds dt 
     (one_high c a b t r s (omega (arith, linear, hc)) (omega (arith, linear, ha)) hb dt dr ds (omega (arith, linear, e)) (λ ht hr hs. never hr hs ht) ∙ turn (lt_z (pos 0) t) (lt_z (pos 0) r) (lt_z (pos 0) s))
 triangle a b c r s t (over ha a1 a2) (under hb b1 b2) (under hc c1 c2) dr ds dt e never =
     rw (down a b r ha (omega (arith, linear, hb)), low b c s (omega (arith, linear, hb)) (omega (arith, linear, hc)), up c a t (omega (arith, linear, hc)) ha)
-    (swap (lt_z (pos 0) (neg_ℤ r)) (lt_z (pos 0) t) ∙ one_high b c a s t r (omega (arith, linear, hb)) (omega (arith, linear, hc)) ha ds dt dr (omega (arith, linear, e)) (λ hs ht hr. never hr hs ht) ∙ sym (turn (lt_z (pos 0) r) (lt_z (pos 0) s) (lt_z (pos 0) t)))
+    (xor-comm (lt_z (pos 0) (neg_ℤ r)) (lt_z (pos 0) t) ∙ one_high b c a s t r (omega (arith, linear, hb)) (omega (arith, linear, hc)) ha ds dt dr (omega (arith, linear, e)) (λ hs ht hr. never hr hs ht) ∙ sym (turn (lt_z (pos 0) r) (lt_z (pos 0) s) (lt_z (pos 0) t)))
 triangle a b c r s t (under ha a1 a2) (over hb b1 b2) (over hc c1 c2) dr ds dt e never =
     rw (up a b r (omega (arith, linear, ha)) hb, high b c s hb hc, down c a t hc (omega (arith, linear, ha)))
-    (swap (lt_z (pos 0) r) (lt_z (pos 0) (neg_ℤ t)) ∙ one_low b c a s t r hb hc (omega (arith, linear, ha)) ds dt dr (omega (arith, linear, e)) (λ hs ht hr. never hr hs ht) ∙ sym (turn (lt_z (pos 0) r) (lt_z (pos 0) s) (lt_z (pos 0) t)))
+    (xor-comm (lt_z (pos 0) r) (lt_z (pos 0) (neg_ℤ t)) ∙ one_low b c a s t r hb hc (omega (arith, linear, ha)) ds dt dr (omega (arith, linear, e)) (λ hs ht hr. never hr hs ht) ∙ sym (turn (lt_z (pos 0) r) (lt_z (pos 0) s) (lt_z (pos 0) t)))
 triangle a b c r s t (over ha a1 a2) (under hb b1 b2) (over hc c1 c2) dr ds dt e never =
     rw (down a b r ha (omega (arith, linear, hb)), up b c s (omega (arith, linear, hb)) hc, high c a t hc ha, back (lt_z (pos 0) s))
     (one_low c a b t r s hc ha (omega (arith, linear, hb)) dt dr ds (omega (arith, linear, e)) (λ ht hr hs. never hr hs ht) ∙ turn (lt_z (pos 0) t) (lt_z (pos 0) r) (lt_z (pos 0) s))

@@ -1,7 +1,7 @@
 -- An area that shares no point with the edges of a contour lies inside it where its first corner does.
 use Rattle.std.proofs.Common.{false, IsTrue, arith, sym, ℤ, pos, List, [], ◌∷◌, ◌*ℤ◌, ◌<ℤ◌, ◌∙◌, ◌≡◌, ◌≤ℤ◌, inl, inr}
 use Rattle.planar.specs.declared.Spot.{Spot}
-use Rattle.planar.specs.Plane.{Point, InCapsule, Share}
+use Rattle.planar.specs.Plane.{Point, Share}
 use Rattle.planar.proofs.Ring.{ring, linear, over_zero, mul_comm, one-times, times-one, le_or_lt}
 use Rattle.area_contact.specs.declared.Edge.{Edge}
 use Rattle.area_contact.specs.Contour.{edges_from, end_from, SomeEdge, OnEdge, InArea}
@@ -9,6 +9,7 @@ use Rattle.area_contact.specs.Parity.{odd, odd_is}
 use Rattle.area_contact.proofs.Ways.{place, some_edge}
 use Rattle.area_contact.proofs.Paths.{walk, capsule-scaled}
 use Rattle.area_contact.proofs.Hits.{Hit, Never, Before, first_hit}
+use Rattle.area_contact.proofs.Areas.{told_anew}
 
 -- a point on an edge of each list
 record Meeting (es fs : List Edge) : Type 0 where
@@ -25,10 +26,6 @@ meeting : (es fs : List Edge) → SomeEdge (λ e. SomeEdge (λ f. Share e.start 
 meeting [] fs h = absurd h
 meeting (e ∷ es) fs (inl h) = let m = meeting_of e fs h in record { point = m.point; first = elim m.first [ inl k ↦ inl k | inr k ↦ absurd k ]; second = m.second }
 meeting (e ∷ es) fs (inr h) = let m = meeting es fs h in record { point = m.point; first = inr m.first; second = m.second }
-
--- a place whose numbers are told in another way
-told_anew : (a b : Spot) (x x' y y' n n' : ℤ) (some : pos 1 ≤ℤ n) (some' : pos 1 ≤ℤ n') → x ≡ x' → y ≡ y' → n ≡ n' → InCapsule a b (pos 0) (place x y n some) → InCapsule a b (pos 0) (place x' y' n' some')
-told_anew a b x x' y y' n n' some some' p q o h = record { i = h.i; m = h.m; from_start = h.from_start; to_end = h.to_end; positive = h.positive; near = rw (← p, ← q, ← o) h.near }
 
 module _ (a : Spot) (rest : List Spot) (b : Spot) (rest' : List Spot) (closed : end_from a rest ≡ a) (closed' : end_from b rest' ≡ b)
     (apart : (p : Point) → SomeEdge (OnEdge p) (edges_from a rest) → InArea (edges_from b rest') p → ⊥) (inside : IsTrue (odd (edges_from a rest) b.x b.y (pos 1))) where

@@ -5,7 +5,7 @@ mod Turning
 mod Slivers
 mod Chords
 pub mod Edges
-mod Fans
+pub mod Fans
 mod Sectors
 mod Segments
 mod Curves

@@ -4,15 +4,15 @@ use Rattle.std.proofs.lemmas.List.{reverse-append}
 use Rattle.std.proofs.lemmas.List.Elements.{All-head, All-tail}
 use Rattle.planar.specs.declared.Spot.{Spot}
 use Rattle.planar.specs.declared.Frame.{Frame}
-use Rattle.planar.specs.Plane.{InCapsule, IsPlaced, Point, at, dot_of, square}
+use Rattle.planar.specs.Plane.{InCapsule, IsPlaced, Point, at, dot_of, square, EachFrom}
 use Rattle.planar.proofs.Ring.{ring, linear, square_from_zero, times_mono}
-use Rattle.planar.proofs.EdgeLaw.{xor}
+use Rattle.planar.proofs.EdgeLaw.{xor, xor-false}
 use Rattle.area_contact.specs.declared.Edge.{Edge}
 use Rattle.area_contact.specs.Parity.{crossed, crossed_is, odd, odd_is, one_is, passes, xor-comm}
 use Rattle.area_contact.specs.Contour.{InArea, OnEdge, SomeEdge, edges_from, edges_of, end_from}
 use Rattle.area_contact.proofs.Hits.{on_turned}
 use Rattle.arcs.specs.Copper.{InChain, InFrom, Possibly, inmost, outmost, reach_of}
-use Rattle.arcs.specs.Chains.{EachFrom, EndsAt, HasRoom, IsRoom}
+use Rattle.arcs.specs.Chains.{EndsAt, HasRoom, IsRoom}
 use Rattle.arcs.specs.Laws.{TakenIsBetween}
 use Rattle.arcs.specs.Taken.{TakenAbove as ChainAbove}
 use Rattle.arcs.specs.declared.Arc.{Arc}
@@ -26,7 +26,7 @@ use Rattle.arc_regions.proofs.Edges.{end_append, some_before, some_behind}
 use Rattle.arc_regions.proofs.Fans.{ArePlaced, or-swap}
 use Rattle.arc_regions.proofs.Inside.{all_inside}
 use Rattle.arc_regions.proofs.Margin.{margin, margin_from, narrow}
-use Rattle.arc_regions.proofs.Sectors.{Told as SectorTold, arc_told, false-back, rotate, xor-assoc}
+use Rattle.arc_regions.proofs.Sectors.{Told as SectorTold, arc_told, rotate, xor-assoc}
 
 -- ---- rows of edges
 
@@ -60,7 +60,7 @@ walked_back a (b ∷ rest) x y n = let w = walked_back b rest x y n in record {
       ∙ ap (λ (z : Spot). xor (odd (edges_from (end_from b rest) w.others) x y n) (odd (edges_from z (a ∷ [])) x y n)) w.ends
       ∙ ap (λ (z : Bool). xor z (odd (edges_from b (a ∷ [])) x y n)) w.same
       ∙ xor-comm (odd (edges_from b rest) x y n) (odd (edges_from b (a ∷ [])) x y n)
-      ∙ ap (λ (z : Bool). xor z (odd (edges_from b rest) x y n)) (false-back (crossed (record { start = b; end = a }) x y n) ∙ or-swap (passes b a x y n) (passes a b x y n));
+      ∙ ap (λ (z : Bool). xor z (odd (edges_from b rest) x y n)) (xor-false (crossed (record { start = b; end = a }) x y n) ∙ or-swap (passes b a x y n) (passes a b x y n));
   on = λ z h. elim (some_of (OnEdge z) (end_from b rest) w.others (a ∷ []) h) [
     | inl k ↦ inr (w.on z k)
     | inr k ↦ inl (on_turned a b (pos 0) z (last z (subst (λ (s : Spot). SomeEdge (OnEdge z) (edges_from s (a ∷ []))) w.ends k)))
@@ -210,7 +210,7 @@ module _ (p : Point) (between : TakenIsBetween) where
     ends = refl;
     over = crossed (record { start = a; end = b }) p.x p.y p.n;
     over_is = crossed_is (record { start = a; end = b }) p;
-    same = inl (false-back (crossed (record { start = a; end = b }) p.x p.y p.n));
+    same = inl (xor-false (crossed (record { start = a; end = b }) p.x p.y p.n));
     border = λ on. inl (inl on);
   }
   part_told a (Curved t) chain r h = curved a t.centre t.end t.counterclockwise chain r h
@@ -309,7 +309,7 @@ module _ (frame : Frame) (points : List Spot) where
   part_clear a (Straight b) chain r q h clear = record {
     edges = λ z inside on. clear.apart (record { point = z; in_first = inside; in_second = only z on });
     links = λ z inside on. on;
-    same = false-back (crossed (record { start = a; end = b }) q.x q.y (pos 1));
+    same = xor-false (crossed (record { start = a; end = b }) q.x q.y (pos 1));
   }
     where
       only : (z : Point) → SomeEdge (OnEdge z) (edges_from a (b ∷ [])) → InCapsule a b (pos 0) z
@@ -326,7 +326,7 @@ module _ (frame : Frame) (points : List Spot) where
     inside : IsTrue (xor o (odd (edges_from a (corners_behind xs)) q.x q.y (pos 1)))
 
   all_clear : (between : TakenIsBetween) (z q : Spot) (o : Bool) (a : Spot) (xs : List Chained) → AreAround frame points z q o a xs → AllClear z q o a xs
-  all_clear between z q o a [] h = record { stretches = h.0; ends = h.0; edges = λ p inside on. on; links = λ p inside on. on; inside = false-back o ∙ h.1 }
+  all_clear between z q o a [] h = record { stretches = h.0; ends = h.0; edges = λ p inside on. on; links = λ p inside on. on; inside = xor-false o ∙ h.1 }
   all_clear between z q o a (x ∷ rest) h =
       join (part_told (at q) between a x.part x.chain x.radius h.0.0) (part_clear a x.part x.chain x.radius q h.0.0 h.0.1) (all_clear between z q (xor o (odd_part q a x.part x.chain)) (end_of x.part) rest h.1)
     where

@@ -2,19 +2,21 @@
 use Rattle.std.proofs.Common.{Bool, true, false, IsTrue, not, ◌&&◌, ◌||◌, List, [], ◌∷◌, ◌≡◌, ◌↔◌, ◌⊎◌, inl, inr, ℤ, pos, ◌-ℤ◌, ◌*ℤ◌, ◌≤ℤ◌, ◌<ℤ◌, arith, refl, sym, ap, ◌∙◌, subst}
 use lib.Signed.{lt_z, le_z}
 use Rattle.planar.specs.declared.Spot.{Spot}
-use Rattle.planar.specs.Plane.{IsPlaced, Point, cross_of, square}
+use Rattle.planar.specs.Plane.{IsPlaced, Point, cross_of, square, EachFrom}
 use Rattle.planar.proofs.Ring.{linear, le_or_lt, mul_comm}
-use Rattle.planar.proofs.EdgeLaw.{xor}
+use Rattle.planar.proofs.Spots.{one_spot}
+use Rattle.planar.proofs.EdgeLaw.{xor, not_lt, not_le, is_lt, is_le, xor-same, xor-false}
 use Rattle.area_contact.specs.Contour.{edges_from, end_from}
-use Rattle.area_contact.specs.Parity.{odd, side_of, is_le, not_le, is_lt, not_lt, xor-same}
+use Rattle.area_contact.specs.Parity.{odd, side_of}
 use Rattle.arcs.specs.Copper.{reach_of, InFrom}
 use Rattle.arcs.specs.Copper.{side_of as side_at}
-use Rattle.arcs.specs.Chains.{EachFrom, IsLink, IsRoom}
+use Rattle.arcs.specs.Chains.{IsLink, IsRoom}
+use Rattle.arcs.proofs.Radii.{lt_false, lt_true}
 use Rattle.arc_regions.specs.Copper.{InSector, InSweep, IsRight}
 use Rattle.arc_regions.specs.Taken.{odd_past}
 use Rattle.arc_regions.proofs.Fans.{ArePlaced, both_ends, chain_crossed, chain_turned, first_two, on_left, over_edge, shifted, shifted_back, side_same, sign_not, sign_of, wedges}
 use Rattle.arc_regions.proofs.Shifted.{IsNarrow, side_over, side_under, level_rising, level_falling, level_flat}
-use Rattle.arc_regions.proofs.Turning.{lt_true, lt_false, turned}
+use Rattle.arc_regions.proofs.Turning.{turned}
 
 -- ---- tests
 
@@ -31,10 +33,6 @@ rotate false false false = refl
 pub none_and : (b : Bool) → (b && not b) ≡ false
 none_and true = refl
 none_and false = refl
-
-pub false-back : (b : Bool) → xor b false ≡ b
-false-back true = refl
-false-back false = refl
 
 -- what is alone with true is no other
 pub turned_true : (w : Bool) → xor w true ≡ false → w ≡ true
@@ -60,9 +58,6 @@ solved o a b d h = back o d ∙ ap (λ (z : Bool). xor z d) h ∙ xor-assoc a b 
 
 -- ---- spots
 
-pub spot_is : (a b : Spot) → a.x ≡ b.x → a.y ≡ b.y → a ≡ b
-spot_is a b h k = let f : ◌≡◌ {A = Spot} (record { x = a.x; y = a.y }) (record { x = b.x; y = b.y }) = rw (h, k) refl in f
-
 equal_or : (z w : ℤ) → (z ≡ w) ⊎ (z ≡ w → ⊥)
 equal_or z w = elim (le_or_lt z w) [
   | inl h ↦ elim (le_or_lt w z) [ inl k ↦ inl (omega (arith, linear, h, k)) | inr k ↦ inr (λ e. omega (arith, linear, e, k)) ]
@@ -71,7 +66,7 @@ equal_or z w = elim (le_or_lt z w) [
 
 pub same_or : (a b : Spot) → (a ≡ b) ⊎ (a.x ≡ b.x → a.y ≡ b.y → ⊥)
 same_or a b = elim (equal_or a.x b.x) [
-  | inl h ↦ elim (equal_or a.y b.y) [ inl k ↦ inl (spot_is a b h k) | inr k ↦ inr (λ e f. k f) ]
+  | inl h ↦ elim (equal_or a.y b.y) [ inl k ↦ inl (one_spot a b h k) | inr k ↦ inr (λ e f. k f) ]
   | inr h ↦ inr (λ e f. h e)
 ]
 
@@ -248,7 +243,7 @@ module _ (m : ℤ) (hm : pos 2 ≤ℤ m) (narrow : (a b : Spot) → IsPlaced a �
     apart_told apart none = told_by (turned (cross_of c s e) (left c s) (left c e)) (turned_is c s e hc hs he first last apart) fills
       where
         fills : wedges (left c) s (b ∷ rest) ≡ turned (cross_of c s e) (left c s) (left c e)
-        fills = sym (false-back (wedges (left c) s (b ∷ rest))) ∙ ap (λ (z : Bool). xor (wedges (left c) s (b ∷ rest)) z) (sym none) ∙ turn_is ∙ ap (λ (z : Bool). xor z (turned (cross_of c s e) (left c s) (left c e))) start_turn
+        fills = sym (xor-false (wedges (left c) s (b ∷ rest))) ∙ ap (λ (z : Bool). xor (wedges (left c) s (b ∷ rest)) z) (sym none) ∙ turn_is ∙ ap (λ (z : Bool). xor z (turned (cross_of c s e) (left c s) (left c e))) start_turn
 
     same_told : s ≡ e → odd_past c s s (b ∷ rest) ≡ true → Told
     same_told same round = told_by true (λ h. inr (inr same), λ h. refl) fills

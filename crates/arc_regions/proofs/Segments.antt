@@ -4,21 +4,22 @@ use lib.Signed.{lt_z, le_z}
 use Rattle.planar.specs.declared.Spot.{Spot}
 use Rattle.planar.specs.Plane.{IsPlaced, Point, RayCrosses, cross_of, dot_of, square}
 use Rattle.planar.proofs.Ring.{ring, linear, le_or_lt, square_over, square_cancel, square-neg, times-zero, zero-times}
-use Rattle.planar.proofs.EdgeLaw.{xor}
+use Rattle.planar.proofs.EdgeLaw.{xor, not_lt, not_le, is_lt, is_le, xor-same}
 use Rattle.area_contact.specs.Contour.{ExactlyOne}
-use Rattle.area_contact.specs.Parity.{crossed_is, one_is, passes, is_le, not_le, is_lt, not_lt, xor-same}
+use Rattle.area_contact.specs.Parity.{crossed_is, one_is, passes, xor-comm}
 use Rattle.arcs.specs.Copper.{reach_of}
 use Rattle.arcs.specs.Copper.{side_of as side_at}
 use Rattle.arcs.proofs.Vectors.{norm, norm_from_zero, norm_none, lagrange}
+use Rattle.arcs.proofs.Radii.{lt_false, lt_true}
 use Rattle.arc_regions.specs.Copper.{InSector, InSweep, IsRight}
 use Rattle.arc_regions.specs.Laws.{SegmentOfEven}
 use Rattle.arc_regions.proofs.Chords.{at_start, under_square, within}
 use Rattle.arc_regions.proofs.Fans.{both_ends, chord_side, edge_back, fan, fan_by, first_two, last_two, left_from, on_left, over_edge, right_from, shifted, shifted_back, shifted_sum, sign_of}
-use Rattle.arc_regions.proofs.Hits.{Sign, over, under, is_over, is_under, swap}
+use Rattle.arc_regions.proofs.Hits.{Sign, over, under, is_over, is_under}
 use Rattle.arc_regions.proofs.Margin.{margin, margin_from, narrow as narrow_placed}
 use Rattle.arc_regions.proofs.Sectors.{both_true, in_disc, left_back, right_of, rotate, same_or, turned_is, xor-assoc}
 use Rattle.arc_regions.proofs.Shifted.{IsNarrow}
-use Rattle.arc_regions.proofs.Turning.{lt_true, lt_false, swept, turned}
+use Rattle.arc_regions.proofs.Turning.{swept, turned}
 
 -- ---- tests
 
@@ -179,7 +180,7 @@ module _ (m : ℤ) (hm : pos 2 ≤ℤ m) (narrow : (a b : Spot) → IsPlaced a �
     by_more : (s.x ≡ e.x → s.y ≡ e.y → ⊥) → cross_of c s e ≤ℤ neg_ℤ (pos 1) → Chorded ⊎ (IsAt s p ⊎ IsAt e p)
     by_more apart turns = elim (less_than_half e s he hs (omega (arith, linear, turns, crossed_back)) re rs) [
       | inl f ↦ inl (rw (lt_true (cross_of c s e) (omega (arith, linear, turns)), not_swept (left c s) (left c e)) (
-          ap (λ (z : Bool). xor z (xor (edge c s) (edge c e))) (edge_back m hm narrow p s e) ∙ ap (λ (z : Bool). xor (edge e s) z) (swap (edge c s) (edge c e)) ∙ f
+          ap (λ (z : Bool). xor z (xor (edge c s) (edge c e))) (edge_back m hm narrow p s e) ∙ ap (λ (z : Bool). xor (edge e s) z) (xor-comm (edge c s) (edge c e)) ∙ f
           ∙ ap (λ (z : Bool). xor (disc && swept (left c e) (left c s)) (disc && not z)) (left_back m hm narrow p s e hs he apart)
           ∙ both_turned disc (swept (left c e) (left c s)) (not (left s e))))
       | inr (inl h) ↦ inr (inr h)

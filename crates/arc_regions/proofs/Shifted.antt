@@ -5,8 +5,8 @@ use lib.Signed.{lt_z, le_z}
 use Rattle.planar.specs.declared.Spot.{Spot}
 use Rattle.planar.specs.Plane.{square}
 use Rattle.planar.proofs.Ring.{ring, linear, le_or_lt, times_from_zero, times_mono, times-one, times-zero, zero-times, neg-mul, mul-neg}
-use Rattle.planar.proofs.EdgeLaw.{crosses}
-use Rattle.area_contact.specs.Parity.{side_of, passes, crossed, is_lt, not_lt, is_le, not_le, same_crosses}
+use Rattle.planar.proofs.EdgeLaw.{crosses, not_lt, not_le, is_lt, is_le}
+use Rattle.area_contact.specs.Parity.{side_of, passes, crossed, same_crosses}
 use Rattle.arc_regions.proofs.Hits.{Sign, is_over, is_under, hit}
 
 -- the differences of two spots are under m

@@ -1,18 +1,11 @@
 -- How the links of a chain turn past a place, round a centre, from a first direction on.
-use Rattle.std.proofs.Common.{Bool, true, false, not, ◌&&◌, ◌||◌, if◌then◌else◌, int_lt, ◌≡◌, inl, inr, ℤ, pos, negsuc, neg_ℤ, ◌+ℤ◌, ◌*ℤ◌, ◌≤ℤ◌, ◌<ℤ◌, arith, refl}
+use Rattle.std.proofs.Common.{Bool, not, ◌&&◌, ◌||◌, if◌then◌else◌, int_lt, ◌≡◌, inl, inr, ℤ, pos, neg_ℤ, ◌+ℤ◌, ◌*ℤ◌, ◌≤ℤ◌, ◌<ℤ◌, arith, refl}
 use Rattle.std.proofs.lemmas.Int.{ints}
 use lib.Signed.{lt_z}
 use Rattle.planar.proofs.Ring.{linear, le_or_lt, over_zero, neg-mul, mul-neg}
 use Rattle.planar.proofs.EdgeLaw.{xor}
 use Rattle.arc_regions.proofs.Hits.{Sign, over, under, more, less, most}
-
-pub lt_true : (z : ℤ) → z <ℤ pos 0 → int_lt z (pos 0) ≡ true
-lt_true (pos n) h = absurd (omega (arith, ints, h))
-lt_true (negsuc n) h = refl
-
-pub lt_false : (z : ℤ) → pos 0 ≤ℤ z → int_lt z (pos 0) ≡ false
-lt_false (pos n) h = grind (arith, ints)
-lt_false (negsuc n) h = absurd (omega (arith, ints, h))
+use Rattle.arcs.proofs.Radii.{lt_false, lt_true}
 
 -- the turn from a first direction to that of a spot, counterclockwise and short of a whole one, goes past the place. x tells how the spot turns from the first direction, s and v whether
 -- the place is on the left of the first and of the spot

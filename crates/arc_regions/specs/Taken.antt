@@ -1,12 +1,11 @@
 -- Exactly which chains the checks take.
 use Rattle.std.specs.Prelude.{ℕ, Bool, not, ◌&&◌, false, IsTrue, if◌then◌else◌, List, [], ◌∷◌, ◌++◌, reverse, map, pos, int_lt, ⊤, ◌≡◌, ◌↔◌, ◌⊎◌}
-use Rattle.planar.specs.Plane.{InCapsule, IsPlaced, Point, cross_of}
+use Rattle.planar.specs.Plane.{InCapsule, IsPlaced, Point, cross_of, EachFrom}
 use Rattle.planar.specs.declared.Frame.{Frame}
 use Rattle.planar.specs.declared.Spot.{Spot}
 use Rattle.planar.proofs.EdgeLaw.{xor}
 use Rattle.area_contact.specs.Contour.{InArea, area_box, edges_of, first_of}
 use Rattle.area_contact.specs.Parity.{crossed, odd}
-use Rattle.arcs.specs.Chains.{EachFrom}
 use Rattle.arcs.specs.Copper.{InChain}
 use Rattle.arcs.specs.Taken.{TakenAbove as ChainAbove}
 use Rattle.contact.specs.Round.{IsCapsuleRadius, box_of}

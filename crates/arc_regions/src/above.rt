@@ -10,14 +10,7 @@ use super::laws::taken_holds;
 use super::links::is_odd_round;
 use super::{Bend, Part, Stretch};
 use arcs::Arc;
-use planar::{Spot, are_placed, cross, dot, is_placed};
-
-/// Whether both spots are one.
-pub fn is_same(a: Spot, b: Spot) -> bool
-    ensures { IsTrue result ↔ (a ≡ b) }
-{
-    a.x == b.x && a.y == b.y
-}
+use planar::{Spot, are_placed, cross, dot, is_placed, is_same};
 
 /// The arc from `start`, as a draw of no width.
 pub fn draw_of(start: Spot, bend: &Bend) -> Arc

@@ -8,12 +8,12 @@ ghost use Rattle.contact.specs.Solid.{IsInside, SharePoint};
 ghost use Rattle.planar.specs.Plane.{InCapsule, IsPlaced, Point};
 ghost use Rattle.std.specs.Prelude.{All, IsTrue, pos, ◌≡◌, ◌↔◌};
 
-use super::above::{end_of, is_same, is_stretch};
+use super::above::{end_of, is_stretch};
 use super::laws::taken_lies;
 use super::{Part, Stretch};
 use area_contact::Area;
 use contact::{Capsule, Closed, MOST_RADIUS, Meets};
-use planar::{Frame, Spot, is_placed, ray_crosses};
+use planar::{Frame, Spot, is_placed, is_same, ray_crosses};
 use std::sync::ledger::Ledger;
 use steps::Steps;
 

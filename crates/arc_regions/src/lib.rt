@@ -15,7 +15,7 @@ mod below;
 pub mod laws;
 mod links;
 
-pub use above::{draw_of, end_of, is_above, is_part, is_same};
+pub use above::{draw_of, end_of, is_above, is_part};
 pub use below::{chain_clear, chain_odd, first_corner, is_below};
 pub use planar::Spot;
 

@@ -2,12 +2,12 @@
 use Rattle.std.proofs.Common.{◌≡◌, ◌⊎◌, inl, inr, ℕ, ℤ, pos, ◌+◌, ◌-◌, ◌≤◌, neg_ℤ, ◌+ℤ◌, ◌-ℤ◌, ◌*ℤ◌, ◌≤ℤ◌, ◌<ℤ◌, List, [], ◌∷◌, arith, subst, sym}
 use Rattle.std.proofs.lemmas.Int.{ints}
 use Rattle.planar.specs.declared.Spot.{Spot}
-use Rattle.planar.specs.Plane.{InCapsule, Point, cross_of, dot_of}
+use Rattle.planar.specs.Plane.{InCapsule, Point, cross_of, dot_of, EachFrom}
 use Rattle.planar.proofs.Ring.{ring, linear, le_or_lt, mul_comm, neg-mul, mul-neg, over_zero, times_cancel, times_from_zero, times-zero, zero-times}
 use Rattle.planar.proofs.SpotWithin.{whole_from_zero}
 use Rattle.arcs.specs.declared.Arc.{Arc}
 use Rattle.arcs.specs.Copper.{InChain, InFrom, InTurn, IsMeant, MayTurn, Surely, inmost, outmost, side_of}
-use Rattle.arcs.specs.Chains.{EachFrom, EndsAt, HasRoom, IsChord, IsInner}
+use Rattle.arcs.specs.Chains.{EndsAt, HasRoom, IsChord, IsInner}
 use Rattle.arcs.proofs.Whole.{InRing, IsNear, IsRim, near_out, ring_out}
 use Rattle.arcs.proofs.Radii.{end_over, end_under, inmost_from, start_over, start_under}
 use Rattle.arcs.proofs.Vectors.{norm, norm_some}

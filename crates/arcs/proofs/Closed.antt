@@ -2,14 +2,14 @@
 use Rattle.std.proofs.Common.{◌≡◌, ◌⊎◌, inl, inr, ℕ, ℤ, pos, ◌+◌, ◌-◌, ◌≤◌, neg_ℤ, ◌+ℤ◌, ◌-ℤ◌, ◌*ℤ◌, ◌≤ℤ◌, ◌<ℤ◌, List, [], ◌∷◌, map, arith, refl, subst, sym}
 use Rattle.std.proofs.lemmas.Int.{ints}
 use Rattle.planar.specs.declared.Spot.{Spot}
-use Rattle.planar.specs.Plane.{InCapsule, Point, square}
+use Rattle.planar.specs.Plane.{InCapsule, Point, square, EachFrom}
 use Rattle.planar.proofs.Near.{Near, before_start, at_start, beside, at_foot, turn}
 use Rattle.planar.proofs.Ends.{same_near}
 use Rattle.planar.proofs.Ring.{ring, linear, le_or_lt, over_zero, square_from_zero, square_mono, times_cancel, times_from_zero, times_mono}
 use Rattle.arcs.specs.declared.Arc.{Arc}
 use Rattle.arcs.specs.Copper.{HasPlace, InChain, InFrom, IsMeant, Possibly, inmost, outmost}
 use Rattle.arcs.specs.Copper.{AreNear as AreNearBy}
-use Rattle.arcs.specs.Chains.{EachFrom, EndsAt, HasRoom, IsChord}
+use Rattle.arcs.specs.Chains.{EndsAt, HasRoom, IsChord}
 use Rattle.arcs.proofs.Vectors.{norm, scaled, sum_within, unscaled}
 use Rattle.arcs.proofs.Whole.{AreNear}
 use Rattle.arcs.proofs.Grown.{grown, grown_point, place_held}

@@ -2,11 +2,11 @@
 use Rattle.std.proofs.Common.{◌≡◌, inl, inr, ℤ, pos, neg_ℤ, ◌+ℤ◌, ◌-ℤ◌, ◌*ℤ◌, ◌≤ℤ◌, ◌<ℤ◌, List, [], ◌∷◌, map, arith, ap}
 use Rattle.std.proofs.lemmas.Int.{ints}
 use Rattle.planar.specs.declared.Spot.{Spot}
-use Rattle.planar.specs.Plane.{Point, cross_of, dot_of, square}
+use Rattle.planar.specs.Plane.{Point, cross_of, dot_of, square, EachFrom}
 use Rattle.planar.proofs.Ring.{ring, linear, over_zero, square_from_zero, times_from_zero, times_mono}
 use Rattle.arcs.specs.Copper.{InFrom, InTurn, MayTurn, reach_of, side_of}
 use Rattle.arcs.specs.Copper.{InRing as InRingBy}
-use Rattle.arcs.specs.Chains.{EachFrom, EndsAt, HasRoom, IsChord, IsRoom}
+use Rattle.arcs.specs.Chains.{EndsAt, HasRoom, IsChord, IsRoom}
 use Rattle.arcs.proofs.Whole.{InRing}
 use Rattle.arcs.proofs.Chain.{walked}
 

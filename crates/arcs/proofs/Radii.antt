@@ -17,14 +17,14 @@ from_either false d h = omega (arith, ints)
 pub spread_from : (a : Arc) → pos 0 ≤ℤ spread a
 spread_from a = from_either (int_lt (swing a) (pos 0)) (unlike a *ℤ pos (times a)) (times_from_zero (unlike a) (pos (times a)) (omega (arith, ints, clamps)) (omega (arith, ints)))
 
-lt_true : (z : ℤ) → z <ℤ pos 0 → int_lt z (pos 0) ≡ true
+pub lt_true : (z : ℤ) → z <ℤ pos 0 → int_lt z (pos 0) ≡ true
 lt_true (pos n) h = absurd (omega (arith, ints, h))
 lt_true (negsuc n) h = refl
 
 pub spread_when : (a : Arc) → swing a <ℤ pos 0 → spread a ≡ unlike a *ℤ pos (times a)
 spread_when a h = ap (λ (b : Bool). if b then unlike a *ℤ pos (times a) else pos 0) (lt_true (swing a) h)
 
-lt_false : (z : ℤ) → pos 0 ≤ℤ z → int_lt z (pos 0) ≡ false
+pub lt_false : (z : ℤ) → pos 0 ≤ℤ z → int_lt z (pos 0) ≡ false
 lt_false (pos n) h = grind (arith, ints)
 lt_false (negsuc n) h = absurd (omega (arith, ints, h))
 

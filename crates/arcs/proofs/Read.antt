@@ -1,14 +1,11 @@
 -- What the code's numbers and answers tell.
-use Rattle.std.proofs.Common.{◌≡◌, ◌↔◌, ◌⊎◌, inl, inr, Bool, IsTrue, sym, Option, Some, None, SomeIff, ◌<◌, ◌^◌, ℕ, negsuc, ℤ, pos, ◌+◌, ◌*◌, ◌≤◌, ◌+ℤ◌, ◌*ℤ◌, ◌≤ℤ◌, ◌<ℤ◌, unsigned_abs, FitsSigned, to_z, of_z, to_z-of_z, arith, ap, ◌∙◌, rules}
+use Rattle.std.proofs.Common.{◌≡◌, ◌↔◌, ◌⊎◌, inl, inr, Bool, IsTrue, sym, Option, Some, None, SomeIff, ◌<◌, ◌^◌, ℕ, ℤ, pos, ◌+◌, ◌*◌, ◌≤◌, ◌+ℤ◌, ◌*ℤ◌, ◌≤ℤ◌, ◌<ℤ◌, unsigned_abs, FitsSigned, to_z, of_z, to_z-of_z, arith, ap, ◌∙◌, rules}
 use Rattle.std.proofs.lemmas.Int.{ints}
 use lib.Signed.{le_z}
 use Rattle.std.specs.Int.{w128}
 use Rattle.planar.specs.Plane.{square}
+use Rattle.planar.proofs.Read.{from_abs}
 use Rattle.arcs.specs.Chains.{HasRoom, IsHeld}
-
-from_abs : (n : ℕ) (z : ℤ) → pos 0 ≤ℤ z → n ≡ unsigned_abs z → z ≡ pos n
-from_abs n (pos m) h e = ap pos (sym e)
-from_abs n (negsuc m) h e = absurd (omega (arith, ints, h))
 
 -- a square of a length, as it is read
 pub abs_is : (n : ℕ) (d z : ℤ) → d ≡ z → pos 0 ≤ℤ d → FitsSigned w128 d → n ≡ unsigned_abs (to_z w128 (of_z w128 d)) → pos n ≡ z
@@ -16,10 +13,6 @@ abs_is n d z same from fits e = sym (from_abs n d from (e ∙ ap unsigned_abs (t
 
 pub within_read : (n far : ℕ) (d z : ℤ) (t : Bool) → d ≡ z → pos 0 ≤ℤ d → FitsSigned w128 d → n ≡ unsigned_abs (to_z w128 (of_z w128 d)) → IsTrue t ↔ (n ≤ far * far) → IsTrue t ↔ (z ≤ℤ square (pos far))
 within_read n far d z t same from fits e told = rw (← abs_is n d z same from fits e) (λ yes. omega (arith, ints, told.0 yes), λ h. told.1 (omega (arith, ints, h)))
-
--- whether a number is from 0 on, or up to 0
-pub from_zero_read : (k z : ℤ) → k ≡ z → FitsSigned w128 k → IsTrue (le_z (pos 0) (to_z w128 (of_z w128 k))) ↔ (pos 0 ≤ℤ z)
-from_zero_read k z same fits = rw (to_z-of_z fits, same) (λ yes. omega (arith, ints, yes), λ h. sym (omega (arith, ints, h)))
 
 pub to_zero_read : (k z : ℤ) → k ≡ z → FitsSigned w128 k → IsTrue (le_z (to_z w128 (of_z w128 k)) (pos 0)) ↔ (z ≤ℤ pos 0)
 to_zero_read k z same fits = rw (to_z-of_z fits, same) (search rules)

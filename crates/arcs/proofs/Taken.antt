@@ -2,11 +2,11 @@
 use Rattle.std.proofs.Common.{◌≡◌, ◌↔◌, ◌∙◌, All, Bool, false, IsTrue, Option, None, Some, refl, sym, subst, ap, length, [], ℕ, ◌+◌, ◌-◌, ◌/◌, ◌≤◌, ℤ, pos, ◌*ℤ◌, ◌≤ℤ◌, List, ◌∷◌, arith}
 use Rattle.std.proofs.lemmas.Int.{ints}
 use Rattle.planar.specs.declared.Spot.{Spot}
-use Rattle.planar.specs.Plane.{IsPlaced, Point, dot_of, square}
+use Rattle.planar.specs.Plane.{IsPlaced, Point, dot_of, square, EachFrom}
 use Rattle.planar.proofs.Ring.{linear, square_mono, times_mono_right}
 use Rattle.planar.proofs.SpotWithin.{whole_from_zero}
 use Rattle.arcs.specs.declared.Arc.{Arc}
-use Rattle.arcs.specs.Chains.{EachFrom, EachIn, HasRoom, IsChord, IsInner, IsLink, IsRing, IsWidest, Leads}
+use Rattle.arcs.specs.Chains.{EachIn, HasRoom, IsChord, IsInner, IsLink, IsRing, IsWidest, Leads}
 use Rattle.arcs.specs.Copper.{InChain, IsMeant, Possibly, Surely, inmost, outmost}
 use Rattle.arcs.specs.Taken.{IsJudged, IsPlacedArc, IsRingFor, TakenAbove, TakenBelow}
 use Rattle.arcs.proofs.Chain.{below_read}

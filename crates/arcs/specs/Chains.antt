@@ -1,6 +1,6 @@
 -- Chords and chains of chords.
-use Rattle.std.specs.Prelude.{ℕ, ◌^◌, Option, Some, None, ℤ, pos, ◌+ℤ◌, ◌*ℤ◌, ◌≤ℤ◌, ◌<ℤ◌, ◌≡◌, ◌⊎◌, ⊤, List, [], ◌∷◌}
-use Rattle.planar.specs.Plane.{cross_of, dot_of, square}
+use Rattle.std.specs.Prelude.{ℕ, ◌^◌, Option, Some, None, ℤ, pos, ◌+ℤ◌, ◌*ℤ◌, ◌≤ℤ◌, ◌<ℤ◌, ◌≡◌, ◌⊎◌, List, [], ◌∷◌}
+use Rattle.planar.specs.Plane.{cross_of, dot_of, square, EachFrom}
 use Rattle.planar.specs.declared.Spot.{Spot}
 
 -- a and b are at most `far` from c, b on the left of a, and the line through both is at least `near` from c
@@ -47,11 +47,6 @@ pub record HasRoom (low high near far k : ℤ) : Type 0 where
   pub least : ℤ
   pub most : ℤ
   pub room : IsRoom low high least most near far k
-
--- what is said of two spots holds of a and the first of the list, and of each and the next
-abbrev pub EachFrom : (Spot → Spot → Type 0) → Spot → List Spot → Type 0
-EachFrom P a [] = ⊤
-EachFrom P a (b ∷ rest) = P a b × EachFrom P b rest
 
 -- the last of a and the list is e
 abbrev pub EndsAt : Spot → Spot → List Spot → Type 0

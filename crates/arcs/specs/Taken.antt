@@ -1,8 +1,8 @@
 -- Exactly which chains the checks take.
 use Rattle.std.specs.Prelude.{ℕ, Option, None, Some, ◌+◌, ◌-◌, ◌/◌, ◌≤◌, ℤ, pos, ◌<ℤ◌, ◌≡◌, List, ◌∷◌, All, ◌^◌}
-use Rattle.planar.specs.Plane.{IsPlaced}
+use Rattle.planar.specs.Plane.{IsPlaced, EachFrom}
 use Rattle.planar.specs.declared.Spot.{Spot}
-use Rattle.arcs.specs.Chains.{EachFrom, EndsAt, HasRoom, IsInner, IsLink, IsWidest}
+use Rattle.arcs.specs.Chains.{EndsAt, HasRoom, IsInner, IsLink, IsWidest}
 use Rattle.arcs.specs.Copper.{IsMeant, inmost, outmost}
 use Rattle.arcs.specs.declared.Arc.{Arc}
 

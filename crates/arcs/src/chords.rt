@@ -1,11 +1,11 @@
 //! Whether a chord lies in a ring, and a chord in a turn.
-ghost use Rattle.arcs.specs.Chains.{EachFrom, EachIn, EndsAt, InTurnBoth, IsInner, IsLink, IsMeasured, Leads};
+ghost use Rattle.arcs.specs.Chains.{EachIn, EndsAt, InTurnBoth, IsInner, IsLink, IsMeasured, Leads};
 ghost use Rattle.arcs.specs.Taken.{IsPlacedArc};
-ghost use Rattle.planar.specs.Plane.{IsPlaced, cross_of, dot_of, square};
+ghost use Rattle.planar.specs.Plane.{EachFrom, IsPlaced, cross_of, dot_of, square};
 ghost use Rattle.std.specs.Prelude.{All, IsTrue, pos, ◌*◌, ◌<◌, ◌^◌, ◌≡◌, ◌⊎◌, ◌↔◌, ◌≤◌, ◌*ℤ◌, ◌≤ℤ◌};
 
 use super::Arc;
-use planar::{Spot, cross, dot};
+use planar::{Spot, cross, dot, is_same};
 
 /// Whether `squared` is at most the square of `far`.
 fn square_within(squared: u128, far: u128) -> bool
@@ -98,13 +98,6 @@ fn are_past(a: Sides, b: Sides) -> bool
     ensures { IsTrue result ↔ ((IsTrue a.left × IsTrue b.left) ⊎ ((IsTrue a.left ⊎ IsTrue a.right) × IsTrue b.right)) }
 {
     a.left && b.left || (a.left || a.right) && b.right
-}
-
-/// Whether the spots are one.
-pub fn is_same(a: Spot, b: Spot) -> bool
-    ensures { IsTrue result ↔ a ≡ b }
-{
-    a.x == b.x && a.y == b.y
 }
 
 /// Whether the chord from `a` to `b` lies in the turn of the arc. Past a half turn it may lie on the left of

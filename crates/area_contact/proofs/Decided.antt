@@ -14,7 +14,7 @@ some_decided : {P : Edge → Type 0} → ((e : Edge) → Decided (P e)) → (es 
 some_decided f [] = inr (λ h. h)
 some_decided f (e ∷ es) = either_decided (f e) (some_decided f es)
 
-odd_decided : (es : List Edge) (p : Point) → Decided (OddCrossed es p)
+pub odd_decided : (es : List Edge) (p : Point) → Decided (OddCrossed es p)
 odd_decided es p = same_decided ((λ h. (odd_is es p).1 h), (λ h. (odd_is es p).0 h)) (test_decided (odd es p.x p.y p.n))
 
 -- where the first is decided, and without it the second decides

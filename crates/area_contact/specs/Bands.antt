@@ -84,7 +84,7 @@ edges_at points numbers = map (edge_at points) numbers
 abbrev pub AreEdges : List Spot → List ℕ → Type 0
 AreEdges points numbers = All (λ i. i + 1 < length points) numbers
 
--- the box is not upside down, and its sides are at most one metre from 0
+-- the lower side of the box is not above the upper one, and both are at most one metre from 0
 abbrev pub IsShallow : Bounds → Type 0
 IsShallow b = IsReached b.low × IsReached b.high × (b.low ≤ℤ b.high)
 

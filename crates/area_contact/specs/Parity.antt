@@ -1,11 +1,10 @@
 -- The rule of the ray with tests. A place is (x/n, y/n).
 use Rattle.std.proofs.Common.{Bool, arith, false, inl, inr, pos, refl, sym, true, ℤ, List, [], ◌∷◌, ◌||◌, ◌*ℤ◌, ◌+ℤ◌, ◌-ℤ◌, ◌<ℤ◌, ◌↔◌, ◌∙◌, ◌≡◌, ◌≤ℤ◌, ◌⊎◌, IsTrue}
-use Rattle.std.proofs.lemmas.Int.{ints}
 use lib.Signed.{lt_z, le_z}
 use Rattle.planar.specs.declared.Spot.{Spot}
 use Rattle.planar.specs.Plane.{Point, square, RayCrosses, PassesRight}
 use Rattle.planar.proofs.Ring.{ring, linear, times_mono, times_cancel, times-zero, square_from_zero, square_zero, le_or_lt}
-use Rattle.planar.proofs.EdgeLaw.{xor, crosses}
+use Rattle.planar.proofs.EdgeLaw.{xor, crosses, not_lt, not_le, is_lt, is_le}
 use Rattle.area_contact.specs.declared.Edge.{Edge}
 use Rattle.area_contact.specs.Contour.{OddCrossed, ExactlyOne}
 
@@ -30,10 +29,6 @@ odd (e ∷ es) x y n = xor (crossed e x y n) (odd es x y n)
 -- ---- Bool
 
 -- laws of exclusive or, and of or
-pub xor-same : (b : Bool) → xor b b ≡ false
-xor-same true = refl
-xor-same false = refl
-
 pub xor-comm : (a b : Bool) → xor a b ≡ xor b a
 xor-comm true true = refl
 xor-comm true false = refl
@@ -84,19 +79,6 @@ xor-equal false true h = cc
 xor-equal false false h = refl
 
 -- ---- tests of places that are told in two ways
-
--- a comparison and its test
-pub is_lt : (a b : ℤ) → a <ℤ b → lt_z a b ≡ true
-is_lt a b h = sym (omega (arith, ints))
-
-pub not_lt : (a b : ℤ) → b ≤ℤ a → lt_z a b ≡ false
-not_lt a b h = sym (omega (arith, ints))
-
-pub is_le : (a b : ℤ) → a ≤ℤ b → le_z a b ≡ true
-is_le a b h = sym (omega (arith, ints))
-
-pub not_le : (a b : ℤ) → b <ℤ a → le_z a b ≡ false
-not_le a b h = sym (omega (arith, ints))
 
 -- comparisons that agree both ways have one test
 pub same_lt : (a b c d : ℤ) → (a <ℤ b → c <ℤ d) → (b ≤ℤ a → d ≤ℤ c) → lt_z a b ≡ lt_z c d

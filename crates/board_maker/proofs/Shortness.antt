@@ -9,6 +9,7 @@ use Rattle.board_maker.specs.declared.files.Part.{Part}
 use Rattle.board_maker.specs.declared.files.Part.TheVariants.{Top, Bottom, Holes, Points}
 use Rattle.board_maker.specs.Laws.{MadeFilesAreShort}
 use Rattle.board_maker.specs.MadeBoard.{bottom_cell, cell_of, cells, column, end_of, flash, head_of, hit, is_bridged, is_broken, manifest_text, name, operation, part_text, place, row, six, tenths, test_record, test_records, top_cell, track, x_of, y_of}
+use Rattle.board_maker.specs.declared.TheConstants.{MOST_CELLS}
 
 -- ---- Numbers
 
@@ -160,7 +161,7 @@ head_short Bottom = omega arith
 head_short Holes = omega arith
 head_short Points = omega arith
 
-part_short : (part : Part) (seed size : ℕ) → size ≤ 10_000 → length (part_text part seed size) ≤ 1_160_100
+part_short : (part : Part) (seed size : ℕ) → size ≤ MOST_CELLS → length (part_text part seed size) ≤ 1_160_100
 part_short part seed size few =
     let middle = cells_short (cell_of part seed size) size (λ i below. cell_short part seed size i (omega (arith, below, few))) in
     let ends = head_short part in

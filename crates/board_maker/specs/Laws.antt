@@ -2,10 +2,11 @@
 use Rattle.std.specs.Prelude.{◌≡◌, ℕ, ◌<◌, ◌≤◌, List, length, Some}
 use Rattle.board_maker.specs.MadeBoard.{test_record}
 use Rattle.board_maker.specs.MadePackage.{made_files}
+use Rattle.board_maker.specs.declared.TheConstants.{MOST_CELLS}
 
 -- each file of a made package has at most 1,160,100 bytes, so none is too long to be read
 abbrev pub MadeFilesAreShort : Type 0
-MadeFilesAreShort = (seed size : ℕ) → size ≤ 10_000 → (file bytes : List ℕ) → made_files seed size file ≡ Some bytes → length bytes ≤ 1_160_100
+MadeFilesAreShort = (seed size : ℕ) → size ≤ MOST_CELLS → (file bytes : List ℕ) → made_files seed size file ≡ Some bytes → length bytes ≤ 1_160_100
 
 -- a test record of a made package fills 57 columns and a line feed
 abbrev pub TestRecordsFillTheirColumns : Type 0

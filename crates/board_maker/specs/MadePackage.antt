@@ -17,7 +17,7 @@ made_files seed size name =
     else (if bytes_eq (codes "n.ipc") name then Some (part_text Points seed size)
     else None))))
 
--- none of its takes is to fail, there were none, and nothing was handed over
+-- none of its takes is to fail; there was none, no fault and no lost name, and nothing was handed over
 pub record IsUntouched (made : MemoryPackage) : Type 0 where
   pub failing : (call : ℕ) → fails made call ≡ false
   pub calls : calls_of made ≡ 0
@@ -25,7 +25,7 @@ pub record IsUntouched (made : MemoryPackage) : Type 0 where
   pub lost : lost_of made ≡ []
   pub handed : made.past.log.notes ≡ []
 
--- a package that holds the five files and is as it was made
+-- a package that holds exactly the five files, and is untouched
 pub record IsMade (seed size : ℕ) (made : MemoryPackage) : Type 0 where
   pub files : files_of made ≡ made_files seed size
   pub untouched : IsUntouched made

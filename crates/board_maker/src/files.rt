@@ -1,4 +1,5 @@
 //! The five files of a made board, written cell by cell.
+ghost use Rattle.board_maker.specs.declared.TheConstants.{MOST_CELLS};
 ghost use Rattle.std.specs.Prelude.{◌≡◌, ◌++◌, ◌<◌, ◌≤◌, length, drop, IfOk, OnOk};
 ghost use Rattle.std.specs.List.{flat_map};
 ghost use Rattle.board_maker.specs.MadeBoard as spec;
@@ -52,7 +53,7 @@ fn push_track(out: &mut Vec<u8>, aperture: &[u8], x: u32, y: u32, to_x: u32) -> 
 }
 
 fn push_top_cell(out: &mut Vec<u8>, seed: u64, i: u32) -> Result<(), NoMemory>
-    requires { i < 10000 }
+    requires { i < MOST_CELLS }
     ensures { OnOk result (out.new.items ≡ out.old.items ++ spec.top_cell seed i) }
 {
     let x = 2_500_000 * column(i);
@@ -66,7 +67,7 @@ fn push_top_cell(out: &mut Vec<u8>, seed: u64, i: u32) -> Result<(), NoMemory>
 }
 
 fn push_bottom_cell(out: &mut Vec<u8>, seed: u64, size: u32, i: u32) -> Result<(), NoMemory>
-    requires { i < 10000 }
+    requires { i < MOST_CELLS }
     ensures { OnOk result (out.new.items ≡ out.old.items ++ spec.bottom_cell seed size i) }
 {
     let x = 2_500_000 * column(i);
@@ -94,7 +95,7 @@ fn push_tenths(out: &mut Vec<u8>, n: u32) -> Result<(), NoMemory>
 }
 
 fn push_hit(out: &mut Vec<u8>, i: u32) -> Result<(), NoMemory>
-    requires { i < 10000 }
+    requires { i < MOST_CELLS }
     ensures { OnOk result (out.new.items ≡ out.old.items ++ spec.hit i) }
 {
     append(out, &[b"X"])?;
@@ -165,7 +166,7 @@ fn push_record(
 }
 
 fn push_records(out: &mut Vec<u8>, i: u32) -> Result<(), NoMemory>
-    requires { i < 10000 }
+    requires { i < MOST_CELLS }
     ensures { OnOk result (out.new.items ≡ out.old.items ++ spec.test_records i) }
 {
     let x = 2_500 * column(i);
@@ -213,7 +214,7 @@ fn end_of(part: Part) -> &'static [u8]
 }
 
 fn push_cell(out: &mut Vec<u8>, part: Part, seed: u64, size: u32, i: u32) -> Result<(), NoMemory>
-    requires { i < 10000 }
+    requires { i < MOST_CELLS }
     ensures { OnOk result (out.new.items ≡ out.old.items ++ spec.cell_of part seed size i) }
 {
     match part {
@@ -227,7 +228,7 @@ fn push_cell(out: &mut Vec<u8>, part: Part, seed: u64, size: u32, i: u32) -> Res
 /// The text of a file.
 #[tactic(auto, using(crate::proofs::Cells::cells_none, crate::proofs::Cells::cells_turn))]
 pub fn text(alloc: Global, part: Part, seed: u64, size: u32) -> Result<Vec<u8>, NoMemory>
-    requires { size ≤ 10000 }
+    requires { size ≤ MOST_CELLS }
     ensures { IfOk result (λ text. text.items ≡ spec.part_text part seed size) }
 {
     let mut out = Vec::new(alloc);

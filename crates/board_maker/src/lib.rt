@@ -10,3 +10,6 @@ pub mod laws;
 mod made;
 
 pub use made::{MakeFault, make};
+
+/// The most cells of a made board.
+pub const MOST_CELLS: u32 = 10_000;

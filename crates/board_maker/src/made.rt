@@ -1,7 +1,9 @@
 //! The package of a made board.
+ghost use Rattle.board_maker.specs.declared.TheConstants.{MOST_CELLS};
 ghost use Rattle.std.specs.Prelude.{◌≡◌, ◌<◌, ◌≤◌, ◌↔◌, IfOk, IsErrOf};
 ghost use Rattle.board_maker.specs.MadePackage.{IsMade};
 
+use crate::MOST_CELLS;
 use crate::files::{Part, text};
 use board_io::MemoryPackage;
 use lengths::rows::NoMemory;
@@ -11,7 +13,7 @@ use thiserror::Error;
 /// Why no board is made.
 #[derive(Clone, Copy, Debug, PartialEq, Eq, Error)]
 pub enum MakeFault {
-    /// The size is over 10,000.
+    /// The size is over `MOST_CELLS`.
     #[error("the size is over 10000")]
     SizeTooLarge = 1,
     #[error("memory is wanted")]
@@ -28,13 +30,11 @@ impl From<NoMemory> for MakeFault {
     }
 }
 
-const MOST_CELLS: u32 = 10_000;
-
 /// The package of the board that the seed makes with so many cells: a manifest `m.json`, two copper files `top.gbr` and
-/// `bot.gbr`, a drill file `pth.drl` and a netlist `n.ipc`. `SizeTooLarge` comes exactly where the size is over 10,000.
+/// `bot.gbr`, a drill file `pth.drl` and a netlist `n.ipc`. `SizeTooLarge` comes exactly where the size is over `MOST_CELLS`.
 pub fn make(alloc: Global, seed: u64, size: u32) -> Result<MemoryPackage, MakeFault>
     ensures ok { IfOk result (IsMade seed size) }
-    ensures too_large { IsErrOf result MakeFault.SizeTooLarge ↔ (10000 < size) }
+    ensures too_large { IsErrOf result MakeFault.SizeTooLarge ↔ (MOST_CELLS < size) }
 {
     if size > MOST_CELLS {
         return Err(MakeFault::SizeTooLarge);
@@ -47,7 +47,7 @@ const MANIFEST: &[u8] =
 
 // The package of the five files.
 fn package(alloc: Global, seed: u64, size: u32) -> Result<MemoryPackage, NoMemory>
-    requires { size ≤ 10000 }
+    requires { size ≤ MOST_CELLS }
     ensures { IfOk result (IsMade seed size) }
 {
     let mut package = MemoryPackage::new(alloc);

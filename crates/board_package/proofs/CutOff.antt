@@ -8,7 +8,7 @@ use Rattle.board_shapes.specs.Plain.{PlainBoard, PlainPiece, with_netlist}
 use Rattle.board_shapes.specs.declared.probe.Probe.{Probe}
 use Rattle.gerber_layer.specs.declared.place.Place.{Place as LayerPlace}
 use Rattle.gerber_layer.specs.Layer as layer_file
-use Rattle.xnc.specs.FaultPlace.{Place as DrillPlace}
+use Rattle.xnc.specs.Places.{Place as DrillPlace}
 use Rattle.xnc.specs.DrillFile as drill_file
 use Rattle.ipc356_records.specs.NetlistFile as netlist_file
 use Rattle.serde_json.specs.Data as json

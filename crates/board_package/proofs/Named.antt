@@ -72,7 +72,7 @@ first_placed : (f : Figure) → IsLawfulFigure f → IsPlaced (first_spot f)
 first_placed (round s) h = h.0
 first_placed (filled points) h = first_of_contour points h.enough h.placed
 
-all_push : {A : Type 0} (P : A → Type 0) (xs : List A) (x : A) → AllByRecursion P xs → P x → AllByRecursion P (xs ++ x ∷ [])
+pub all_push : {A : Type 0} (P : A → Type 0) (xs : List A) (x : A) → AllByRecursion P xs → P x → AllByRecursion P (xs ++ x ∷ [])
 all_push P [] x h p = (p, tt)
 all_push P (y ∷ ys) x h p = (h.0, all_push P ys x h.1 p)
 

@@ -18,6 +18,7 @@ use Rattle.planar.specs.Plane.{at}
 use Rattle.planar.specs.declared.Spot.{Spot}
 use Rattle.x2_nets.specs.declared.label_table.Label.{Label}
 use Rattle.board_package.specs.LabelledBoard.{Named, first_spot, label_of, labelled_board_of, named_by, probe_of, with_label}
+use Rattle.board_package.proofs.Named.{all_push}
 
 -- ---- The first spot lies in its figure
 
@@ -62,10 +63,6 @@ record OnPiece (pieces : List PlainPiece) (probe : Probe) : Type 0 where
   piece : PlainPiece
   is : slice_get pieces (probe.number - 1) ≡ Some piece
   is_under : IsUnder piece probe
-
-all_push : {A : Type 0} (P : A → Type 0) (xs : List A) (x : A) → AllByRecursion P xs → P x → AllByRecursion P (xs ++ x ∷ [])
-all_push P [] x h p = (p, tt)
-all_push P (y ∷ ys) x h p = (h.0, all_push P ys x h.1 p)
 
 all_more : (P Q : Probe → Type 0) (xs : List Probe) → ((x : Probe) → P x → Q x) → AllByRecursion P xs → AllByRecursion Q xs
 all_more P Q [] k h = tt

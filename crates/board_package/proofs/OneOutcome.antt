@@ -68,7 +68,7 @@ long_of o a e h = subst (λ (p : Option (List ℕ)). IsSomeAnd p (λ bytes. MOST
 pub held_not_longer : (files : Files) (name a : List ℕ) → IsHeld files name a → IsSomeAnd (files name) (λ bytes. MOST_BYTES < length bytes) → ⊥
 held_not_longer files name a h long = let l = long_of (files name) a h.held long in let s = h.short in omega arith
 
-absent_not_longer : (o : Option (List ℕ)) → o ≡ None → IsSomeAnd o (λ bytes. MOST_BYTES < length bytes) → ⊥
+pub absent_not_longer : (o : Option (List ℕ)) → o ≡ None → IsSomeAnd o (λ bytes. MOST_BYTES < length bytes) → ⊥
 absent_not_longer o e h = subst (λ (p : Option (List ℕ)). IsSomeAnd p (λ bytes. MOST_BYTES < length bytes)) e h
 
 pub same_name : (name a b : List ℕ) → a ≡ name → b ≡ name → a ≡ b

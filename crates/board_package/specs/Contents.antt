@@ -5,7 +5,7 @@ use Rattle.board_shapes.specs.declared.placed.Room.{Room}
 use Rattle.board_shapes.specs.declared.probe.Probe.{Probe}
 use Rattle.gerber_layer.specs.declared.place.Place.{Place as LayerPlace}
 use Rattle.gerber_layer.specs.Layer as layer_file
-use Rattle.xnc.specs.FaultPlace.{Place as DrillPlace}
+use Rattle.xnc.specs.Places.{Place as DrillPlace}
 use Rattle.xnc.specs.DrillFile as drill_file
 use Rattle.ipc356_records.specs.NetlistFile as netlist_file
 use Rattle.board_package.specs.Parts.{with_pieces, room_left}

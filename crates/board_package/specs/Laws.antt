@@ -9,7 +9,7 @@ use Rattle.gerber_layer.specs.Layer as layer_file
 use Rattle.gerber_layer.specs.declared.place.Place.{Place as LayerPlace}
 use Rattle.ipc356_records.specs.NetlistFile as netlist_file
 use Rattle.xnc.specs.DrillFile as drill_file
-use Rattle.xnc.specs.FaultPlace.{Place as DrillPlace}
+use Rattle.xnc.specs.Places.{Place as DrillPlace}
 use Rattle.board_package.specs.LabelledBoard.{IsFirstLabelledStop, IsLabelledBoardOf, LabelledStop, labelled_board_of, unbuilt}
 use Rattle.texts.specs.Words.{is_word}
 use Rattle.x2_nets.specs.declared.label_table.Label.{Label}

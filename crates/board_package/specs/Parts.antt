@@ -42,7 +42,7 @@ pub record Has {S : Type 0} (p : Parts S) (pieces : List (Placed S)) (probes : L
 abbrev pub StandsOn : {S : Type 0} → ℕ → Placed S → Type 0
 StandsOn layers p = IsSpan layers p.top p.bottom
 
--- 1 to MOST_LAYERS layers, with each piece on them; as many pieces, test points and names as a package may give; each test point with one of the names, on
+-- 1 to MOST_LAYERS layers, with each piece on them; at most as many pieces, test points and names as a package may give; each test point with one of the names, on
 -- one of the layers, within one metre
 pub record IsLawfulParts {S : Type 0} (p : Parts S) : Type 0 where
   pub some_layer : 1 ≤ p.layers

@@ -39,8 +39,8 @@ impl<S: Drop> Parts<S> {
         }
     }
 
-    /// Adds the pieces of a file, for which there is room. `NoMemory` is its only fault, and changes nothing. Those of the first file
-    /// stay where they are.
+    /// Adds the pieces of a file, for which there is room. `NoMemory` is its only fault, changes nothing, and drops the pieces.
+    /// Where there were none yet, these stay where they are.
     pub fn add(&mut self, mut pieces: Vec<Placed<S>>) -> Result<(), BuildFault>
         requires lawful { IsLawfulParts self.old }
         requires few { length self.old.pieces.items + length pieces.items ≤ MOST_PIECES }

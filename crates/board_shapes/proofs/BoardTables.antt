@@ -67,7 +67,7 @@ under_one b k i j u v = record { first = u.piece; second = v.piece; first_is = u
 
 -- ---- What the tables tell
 
-layers_turn : (top bottom top' bottom' : ℕ) → CommonLayer top bottom top' bottom' → CommonLayer top' bottom' top bottom
+pub layers_turn : (top bottom top' bottom' : ℕ) → CommonLayer top bottom top' bottom' → CommonLayer top' bottom' top bottom
 layers_turn top bottom top' bottom' h = omega arith
 
 pub touch_turned : (b : PlainBoard) (i j : ℕ) → TouchAt b i j → TouchAt b j i

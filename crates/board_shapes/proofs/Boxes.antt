@@ -20,13 +20,13 @@ pub record LiesWithin (b c : Bounds) : Type 0 where
   pub right : b.right ≤ℤ c.right
   pub high : b.high ≤ℤ c.high
 
-first_joined : (b c : Bounds) → LiesWithin b (joined b c)
+pub first_joined : (b c : Bounds) → LiesWithin b (joined b c)
 first_joined b c = record { left = omega (arith, ints, clamps); low = omega (arith, ints, clamps); right = omega (arith, ints, clamps); high = omega (arith, ints, clamps) }
 
-second_joined : (b c : Bounds) → LiesWithin c (joined b c)
+pub second_joined : (b c : Bounds) → LiesWithin c (joined b c)
 second_joined b c = record { left = omega (arith, ints, clamps); low = omega (arith, ints, clamps); right = omega (arith, ints, clamps); high = omega (arith, ints, clamps) }
 
-onward : (b c d : Bounds) → LiesWithin b c → LiesWithin c d → LiesWithin b d
+pub onward : (b c d : Bounds) → LiesWithin b c → LiesWithin c d → LiesWithin b d
 onward b c d h k = record { left = omega (arith, ints, h.left, k.left); low = omega (arith, ints, h.low, k.low); right = omega (arith, ints, h.right, k.right); high = omega (arith, ints, h.high, k.high) }
 
 grows : (b : Bounds) (pieces : List PlainPiece) → LiesWithin b (box_around b pieces)

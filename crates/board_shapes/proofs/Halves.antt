@@ -11,7 +11,7 @@ half_reached n h = (omega (arith, ints), omega (arith, ints))
 difference : (a b : ℤ) → IsReached a → IsReached b → to_z w64 (of_z w64 (to_z w64 (of_z w64 a) -ℤ to_z w64 (of_z w64 b))) ≡ a -ℤ b
 difference a b h k = omega (arith, ints)
 
-sum : (a b : ℤ) → IsReached a → IsReached b → to_z w64 (of_z w64 (to_z w64 (of_z w64 a) +ℤ to_z w64 (of_z w64 b))) ≡ a +ℤ b
+pub sum : (a b : ℤ) → IsReached a → IsReached b → to_z w64 (of_z w64 (to_z w64 (of_z w64 a) +ℤ to_z w64 (of_z w64 b))) ≡ a +ℤ b
 sum a b h k = omega (arith, ints)
 
 pub less_half : (a u : ℤ) (n : ℕ) → IsReached a → n ≤ METRE → u ≡ halved n → to_z w64 (of_z w64 (to_z w64 (of_z w64 a) -ℤ to_z w64 (of_z w64 u))) ≡ a -ℤ halved n

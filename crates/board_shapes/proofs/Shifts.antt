@@ -12,7 +12,7 @@ use Rattle.board_shapes.specs.Moved.{shifted, IsShift, IsMoveFault}
 use Rattle.board_shapes.specs.declared.moved.MoveFault.{MoveFault}
 use Rattle.board_shapes.specs.declared.moved.MoveFault.TheVariants.{OutOfRange}
 
-sum_read : (a b : ℤ) → IsReached a → IsWithin TWO_METRES b → to_z w64 (of_z w64 (to_z w64 (of_z w64 a) +ℤ to_z w64 (of_z w64 b))) ≡ a +ℤ b
+pub sum_read : (a b : ℤ) → IsReached a → IsWithin TWO_METRES b → to_z w64 (of_z w64 (to_z w64 (of_z w64 a) +ℤ to_z w64 (of_z w64 b))) ≡ a +ℤ b
 sum_read a b h k = omega (arith, ints)
 
 pub shift_read : (p : Spot) (dx dy : ℤ) → IsPlaced p → IsShift dx → IsShift dy →

@@ -1,8 +1,6 @@
 -- Rectangles along the axes, by spots in them.
 use Rattle.std.specs.Prelude.{ℕ, ◌/◌, List, [], ◌∷◌, ℤ, pos, ◌+ℤ◌, ◌-ℤ◌}
-use Rattle.planar.specs.Plane.{IsWithin}
 use Rattle.planar.specs.declared.Spot.{Spot}
-use Rattle.planar.specs.declared.TheConstants.{TWO_METRES}
 
 -- half a size, rounded down
 abbrev pub halved : ℕ → ℤ
@@ -18,7 +16,3 @@ upper p w h = record { x = p.x +ℤ halved w; y = p.y +ℤ halved h }
 -- the contour between two corners: lower left, lower right, upper right, upper left, and lower left again
 abbrev pub rectangle : Spot → Spot → List Spot
 rectangle low high = low ∷ record { x = high.x; y = low.y } ∷ high ∷ record { x = low.x; y = high.y } ∷ low ∷ []
-
--- at most two metres from 0
-abbrev pub IsReachable : Spot → Type 0
-IsReachable p = IsWithin TWO_METRES p.x × IsWithin TWO_METRES p.y

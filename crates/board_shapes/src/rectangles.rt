@@ -1,8 +1,7 @@
 //! Rectangles along the axes.
 ghost use Rattle.area_contact.specs.Contour.{IsClosed};
 ghost use Rattle.board_shapes.specs.Rectangles as spec;
-ghost use Rattle.board_shapes.specs.Rectangles.{IsReachable};
-ghost use Rattle.planar.specs.Plane.{IsPlaced};
+ghost use Rattle.planar.specs.Plane.{IsPlaced, IsReachable};
 ghost use Rattle.planar.specs.declared.TheConstants.{METRE};
 ghost use Rattle.std.specs.Prelude.{length, ◌≡◌, ◌≤◌};
 

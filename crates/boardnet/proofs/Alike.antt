@@ -1,7 +1,8 @@
 -- What is the same in two outcomes: of right verdicts of one board, of refusals, of lists of gaps.
-use Rattle.std.proofs.Common.{◌≡◌, ◌*◌, ◌<◌, inl, inr, ℕ, pos, List, length, Option, Some, None, IsSomeAnd, codes, ap, refl, subst, sym, ◌∙◌, arith}
+use Rattle.std.proofs.Common.{◌≡◌, ◌*◌, inl, inr, ℕ, pos, List, length, Some, codes, ap, refl, subst, sym, ◌∙◌, arith}
 use Rattle.board_io.specs.Package.{Files}
 use Rattle.board_package.specs.PackageBoard.{Stop, absent, longer, StopsTaking}
+use Rattle.board_package.proofs.OneOutcome.{absent_not_longer}
 use Rattle.board_shapes.proofs.BoardTables.{tables_are_consistent, tables_are_one}
 use Rattle.board_shapes.specs.Plain.{PlainBoard}
 use Rattle.boardnet.proofs.Sound.{Laws}
@@ -16,7 +17,6 @@ use Rattle.contact.specs.declared.Bounds.{Bounds}
 use Rattle.gaps.specs.Gaps.{AreGaps, CloseAt}
 use Rattle.gaps.specs.GrownBox.{grown_common}
 use Rattle.tables.specs.Tables.{Tables}
-use Rattle.texts.specs.declared.TheConstants.{MOST_BYTES}
 use Rattle.verdict.specs.Right.{IsRight}
 use Rattle.verdict.specs.declared.verdict.Verdict.{Verdict}
 use Rattle.witness_check.specs.Laws.{DifferInWitnessesOnly}
@@ -53,9 +53,6 @@ same_reports law b d one other text said s t l k e x y = same_status x.verdict y
 
 -- ---- Refusals
 
-held_not_long : (o : Option (List ℕ)) → o ≡ None → IsSomeAnd o (λ bytes. MOST_BYTES < length bytes) → ⊥
-held_not_long o e h = subst (λ (p : Option (List ℕ)). IsSomeAnd p (λ bytes. MOST_BYTES < length bytes)) e h
-
 same_line : (subject : List ℕ) (stop : Stop) (l k : List ℕ) → IsLineOf subject stop l → IsLineOf subject stop k → l ≡ k
 same_line subject (absent name) l k p q = absurd p
 same_line subject stop l k p q = p ∙ sym q
@@ -66,8 +63,8 @@ line_of_one subject stop other l k e p q = same_line subject other l k (subst (�
 -- a file that is not there to be read has one stop
 pub one_taking : (f : Files) (name : List ℕ) (stop other : Stop) → StopsTaking f name stop → StopsTaking f name other → stop ≡ other
 one_taking f name (absent a) (absent b) s t = ap absent (s.0 ∙ sym t.0)
-one_taking f name (absent a) (longer b) s t = absurd (held_not_long (f name) s.1 t.1)
-one_taking f name (longer a) (absent b) s t = absurd (held_not_long (f name) t.1 s.1)
+one_taking f name (absent a) (longer b) s t = absurd (absent_not_longer (f name) s.1 t.1)
+one_taking f name (longer a) (absent b) s t = absurd (absent_not_longer (f name) t.1 s.1)
 one_taking f name (longer a) (longer b) s t = ap longer (s.0 ∙ sym t.0)
 one_taking f name (absent a) other s t = absurd t
 one_taking f name (longer a) other s t = absurd t

@@ -30,6 +30,7 @@ use Rattle.verdict.specs.declared.verdict.Twig.{Twig}
 use Rattle.verdict.specs.declared.verdict.Verdict.{Verdict}
 use Rattle.witness_check.specs.BoardLaws.{HasName as IsNamedOn, IsRightFor, NetNumbersJoinProbes, OpensCoverNamesOf, ShortsHavePathsOn}
 use Rattle.witness_check.specs.Laws.{HasOther, IsSeated}
+use Rattle.witness_check.proofs.Bare.{opened_none}
 
 -- ---- Lines of test points
 
@@ -40,9 +41,6 @@ line_of nets (u ∷ beneath) (p ∷ points) [] k point all here = absurd all
 line_of nets (u ∷ beneath) (p ∷ points) (l ∷ lines) zero point (first, rest) here = let same : p ≡ point = cc here in (l, refl, first.name ∙ ap (λ (x : TestPoint). x.name) same)
 line_of nets (u ∷ beneath) (p ∷ points) (l ∷ lines) (suc k) point (first, rest) here = line_of nets beneath points lines k point rest here
 
-bare_first : (n : ℕ) (line : PointLine) (rest : List PointLine) → line.net ≡ None → bare_from n (line ∷ rest) ≡ n ∷ bare_from (n + 1) rest
-bare_first n line rest none = rw none refl
-
 bare_later : (n : ℕ) (line : PointLine) (rest : List PointLine) (k : ℕ) → Contains (bare_from (n + 1) rest) k → Contains (bare_from n (line ∷ rest)) k
 bare_later n line rest k inside = Contains-append_right _ (bare_from (n + 1) rest) k inside
 
@@ -52,7 +50,7 @@ in_bare n [] k line here none = absurd cc
 in_bare n (l ∷ lines) zero line here none =
     let same : l ≡ line = cc here in
     let at : n + 0 ≡ n = omega arith in
-    subst (λ (xs : List ℕ). Contains xs (n + 0)) (sym (bare_first n l lines (ap (λ (x : PointLine). x.net) same ∙ none))) (0, omega arith, sym at)
+    subst (λ (xs : List ℕ). Contains xs (n + 0)) (sym (opened_none n l lines (ap (λ (x : PointLine). x.net) same ∙ none))) (0, omega arith, sym at)
 in_bare n (l ∷ lines) (suc k) line here none =
     let at : n + 1 + k ≡ n + suc k = omega arith in
     bare_later n l lines (n + suc k) (subst (λ (j : ℕ). Contains (bare_from (n + 1) lines) j) at (in_bare (n + 1) lines k line here none))

@@ -1,6 +1,7 @@
 -- The causes of a made package.
 use Rattle.std.proofs.Common.{◌≤◌, ℕ, List, Some, Result, Ok, Err, IfErr, IfOk, MatchResult, subst, sym}
 use Rattle.board_maker.specs.MadePackage.{made_files}
+use Rattle.board_maker.specs.declared.TheConstants.{MOST_CELLS}
 use Rattle.board_package.specs.Causes.{HasCause}
 use Rattle.board_package.specs.PackageBoard.{Comes, IsFirstStop}
 use Rattle.board_package.specs.declared.fault.BuildFault.{BuildFault}
@@ -19,7 +20,7 @@ abbrev pub HasTrialCause : ℕ → ℕ → Source → ℕ → ℕ → List ℕ �
 HasTrialCause seed size source before now lost why = HasHandedReason source (Trial seed size) before now lost (Stopped why)
 
 -- a fault of reading becomes want of memory, and every other keeps its cause
-pub unlost_cause : (seed size : ℕ) (count count' : ℕ) (missed : List ℕ) (why given : BuildFault) → size ≤ 10000
+pub unlost_cause : (seed size : ℕ) (count count' : ℕ) (missed : List ℕ) (why given : BuildFault) → size ≤ MOST_CELLS
     → HasCause (Some (made_files seed size)) (λ files stop. IsFirstStop files made_manifest stop) (λ files name. Comes files made_manifest name) count count' missed why → IsUnlost why given
     → (source : Source) (before now : ℕ) (lost : List ℕ) → HasTrialCause seed size source before now lost given
 unlost_cause seed size count count' missed (fault.CannotRead name) given small h e source before now lost = subst (λ (z : BuildFault). HasTrialCause seed size source before now lost z) (sym e) tt

@@ -63,7 +63,7 @@ IsUnboundBy real lower upper bytes (Netlist side) = HasCounts bytes × HasOtherN
 IsUnboundBy real lower upper bytes (Counts side) = AreNotTaken real lower upper bytes (fault.Counts side)
 IsUnboundBy real lower upper bytes (Piece side origin) = (n : ℕ) × AreNotTaken real lower upper bytes (fault.Piece side n) × ComesFrom real n origin
 
--- ---- Their lines
+-- ---- What is said where they bound nothing
 
 -- where a real piece comes from, and what is said of it
 abbrev pub piece_line : List ℕ → List ℕ → Origin → List ℕ

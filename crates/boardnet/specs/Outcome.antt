@@ -28,7 +28,7 @@ use Rattle.boardnet.specs.Bounded.{unbound_line}
 use Rattle.boardnet.specs.Common.{arc_line}
 use Rattle.reports.specs.Lines.{plain_line, file_line, frame_line, label_line, manifest_frame_line}
 use Rattle.boardnet.specs.Task.{Task}
-use Rattle.boardnet.specs.Words.{Command, Check, Audit, Trial, Version, task_of}
+use Rattle.boardnet.specs.Words.{Command, Check, Audit, Version, task_of}
 use Rattle.boardnet.specs.declared.answer.Unanswered.{Unanswered}
 use Rattle.boardnet.specs.declared.answer.Unanswered.TheVariants.{Stopped, NotAReport, SizeTooLarge, GrownTooLarge, Mislabelled, Unflat, Bent, NotJson, NotAManifest, BoundTooLarge, Unbound}
 

@@ -1,5 +1,6 @@
 //! The top call.
 ghost use Rattle.board_io.specs.Handed.{AgreeWith, Grows, IfAgreed};
+ghost use Rattle.board_maker.specs.declared.TheConstants.{MOST_CELLS};
 ghost use Rattle.boardnet.specs.Command.{asked};
 ghost use Rattle.boardnet.specs.Ends.{Ends, HasNames};
 ghost use Rattle.boardnet.specs.HandedOutcome.{EndsHanded};
@@ -31,7 +32,7 @@ use std::alloc::Global;
 /// | 0 | `out` got the command's text in one piece, which finds no fault |
 /// | 1 | so it did, and the text finds one, or that of `between` leaves something undecided |
 /// | 2 | the words are no command; nothing was taken |
-/// | 3 | the first refusal of what the command reads; the line names its kind, file and place |
+/// | 3 | the first refusal of what the command reads; the line says which, with its file, kind and place where it has them |
 /// | 4 | a fault of reading; the line says which file |
 /// | 5 | a fault of writing; `out` got a front of the text |
 /// | 6 | want of memory |
@@ -46,6 +47,9 @@ pub fn run<P: Package, S: Sink, N: Sink>(
     ensures words { (result ≡ 2) ↔ (IsUnderstood words.now → ⊥) }
     ensures untouched { (result ≡ 2) ⊎ ((seed size : ℕ) × IsTrial words.now seed size) → «package».new ≡ «package».old }
 
+    // A clause with `IfSome (P.held ..)` or `OfFilesRead` speaks of a package that tells its files, and of a trial, of those that
+    // it makes; what `out` and `notes` got is said of sinks that tell it.
+
     // 0 and 1 on `check`: the package fits, and `out` got the text of a right verdict on its board.
     ensures right { result ≤ 1 → IfSome (P.held «package».old) (λ files. (version : Version) (name : List ℕ) → IsCheck words.now version name
         → (text line : List ℕ) × IsReport (Held files) version name text result line
@@ -53,9 +57,10 @@ pub fn run<P: Package, S: Sink, N: Sink>(
 
     // Of whatever package and sinks, also those that tell nothing: what is said of 0, 1, 3, 4 and 5 of the files that the
     // package tells is said of what it handed over in this call, entry by entry, so that a name that was taken twice is no hole. 0 and 1:
-    // the files of the command's order were handed over, one by one, and nothing else; `out` was handed exactly one text, in one
-    // piece, and it is the command's text for these very bytes. 3: the refusal is the first of these very bytes. 4: the file
-    // comes next behind them.
+    // the files of the command's order were handed over, one by one, and nothing else (of a trial, which takes none, `untouched`
+    // says it); `out` was handed exactly one text, in one piece, and it is the command's text for these very bytes. 3: the refusal
+    // is the first of these very bytes. 4: the file comes next behind them. 5: `out` was handed such a text in one piece, and got a
+    // front of it.
     ensures handed { (command : Asked) → Asks words.now command → EndsHanded (HandedOver (P.handed «package».old) (P.handed «package».new)) command (P.lost «package».new) S.handed S.got N.got N.faults out.old out.new notes.old notes.new result }
 
     // The same at 0 and 1, command by command: the text is what the command answers of these very bytes.
@@ -94,7 +99,7 @@ pub fn run<P: Package, S: Sink, N: Sink>(
     ensures grows { Grows (P.handed «package».old) (P.handed «package».new) }
     ensures consistent { IfSome (P.held «package».old) (λ files. AgreeWith files (P.handed «package».old) (P.handed «package».new)) }
 
-    // 0 and 1: the output had no fault.
+    // 0 and 1: the output's count of faults is what it was.
     ensures delivered { result ≤ 1 → S.faults out.new ≡ S.faults out.old }
 
     // 0 and 1 on `audit`: the package fits, and `out` got the ruling on the verdict whose text the report is.
@@ -122,13 +127,15 @@ pub fn run<P: Package, S: Sink, N: Sink>(
         → (text line : List ℕ) × IsLabelledReport (Held files) name text result line
         × Gains (S.got out.old) text (S.got out.new) × Says N.got N.faults notes.old notes.new line) }
 
-    // 0 and 1 on `flatten`, which is 0: `out` got the text of the file's image, which every layer reads as the same copper.
+    // 0 and 1 on `flatten`, which is 0: `out` got the text of the file's image, which each layer to `MOST_LAYERS`, in
+    // a room of `MOST_PIECES` pieces and `MOST_FLAT_EDGES` edges, reads as the same copper.
     ensures flattened { result ≤ 1 → IfSome (P.held «package».old) (λ files. (name : List ℕ) → IsFlatten words.now name
         → (text line : List ℕ) × IsFlatText (Held files) name text result line
         × Gains (S.got out.old) text (S.got out.new) × Says N.got N.faults notes.old notes.new line) }
 
-    // 0 and 1 on `between`: LOWER and UPPER fit, REAL and COUNTS are read, their boards bound that of REAL, and `out` got what right
-    // verdicts on both decide. Under 0 each board with the pieces of REAL, whatever copper they have of those that its files allow, agrees with
+    // 0 and 1 on `between`: LOWER and UPPER fit, REAL and COUNTS are read, the boards of LOWER and UPPER bound that of REAL, and `out` got what right
+    // verdicts on both decide. Under 0 each board with the pieces, test points,
+    // names and layers of REAL, whatever copper they have of those that its files allow, agrees with
     // its names, and under both what the verdicts say of nets is certain of each: by `laws::bounded_boards_are_decided`, which
     // takes this `IsDecided`, of whatever copper its caller picks.
     ensures between { result ≤ 1 → IfSome (P.held «package».old) (λ files. (names : BoundNames) → IsBetween words.now names
@@ -153,8 +160,8 @@ pub fn run<P: Package, S: Sink, N: Sink>(
     ensures front { result ≡ 5 → (command : Asked) → Asks words.now command → OfFilesRead command (P.held «package».old) (λ files.
         (text line : List ℕ) × (status : ℕ) × OutcomeOf (Held files) command (Told text status line) × GainsFrontOf (S.got out.old) text (S.got out.new)) }
 
-    // What is left: the package holds what it held, no count of faults falls, and nothing was asked that failed but under
-    // 4 and 6.
+    // What is left: the package holds what it held, no count of faults falls, and but under 4 and 6 the package's count and its
+    // lost name are as they were.
     ensures kept { Keeps P.held P.faults P.lost «package».old «package».new result }
     ensures later { (S.faults out.old ≤ S.faults out.new) × (N.faults notes.old ≤ N.faults notes.new) }
 
@@ -180,7 +187,7 @@ pub fn run<P: Package, S: Sink, N: Sink>(
     ensures named { IfSome (P.held «package».old) (λ files. (name : List ℕ) → IsX2 words.now name → (board : PlainBoard) → IsLabelledBoardOf files name board
         → (Rose (P.faults «package».old) (P.faults «package».new) → ⊥) → (Rose (S.faults out.old) (S.faults out.new) → ⊥) → (result ≤ 1) ⊎ (result ≡ 6)) }
 
-    // A copper file that has an image is flattened, unless reading or writing fails or memory is wanted.
+    // A copper file that is held, has at most `MOST_BYTES` bytes and has an image is flattened, unless reading or writing fails or memory is wanted.
     ensures rewritten { IfSome (P.held «package».old) (λ files. (name : List ℕ) → IsFlatten words.now name → (bytes : List ℕ) → IsHeld files name bytes → (pieces : List PlainPiece) → IsReadWithMacros bytes pieces
         → (Rose (P.faults «package».old) (P.faults «package».new) → ⊥) → (Rose (S.faults out.old) (S.faults out.new) → ⊥) → (result ≤ 1) ⊎ (result ≡ 6)) }
 
@@ -188,12 +195,12 @@ pub fn run<P: Package, S: Sink, N: Sink>(
     ensures bounded { IfSome (P.held «package».old) (λ files. (names : BoundNames) → IsBetween words.now names → AreBounded (Held files) names
         → (Rose (P.faults «package».old) (P.faults «package».new) → ⊥) → (Rose (S.faults out.old) (S.faults out.new) → ⊥) → (result ≤ 1) ⊎ (result ≡ 6)) }
 
-    // A trial of at most 10,000 cells has its summary, unless writing fails or memory is wanted: every made package fits.
-    ensures summarized { (seed size : ℕ) → IsTrial words.now seed size → size ≤ 10000
+    // A trial of at most `MOST_CELLS` cells has its summary, unless writing fails or memory is wanted: every made package fits.
+    ensures summarized { (seed size : ℕ) → IsTrial words.now seed size → size ≤ MOST_CELLS
         → (Rose (S.faults out.old) (S.faults out.new) → ⊥) → (result ≤ 1) ⊎ (result ≡ 6) }
 
-    // Where the package fits and the report is the text of a verdict, its ruling follows, unless reading or writing fails or
-    // memory is wanted.
+    // Where the package fits and the report is held, has at most `MOST_BYTES` bytes and is the text of a verdict, its ruling follows,
+    // unless reading or writing fails or memory is wanted.
     ensures answered { IfSome (P.held «package».old) (λ files. (manifest report : List ℕ) → IsAudit words.now manifest report
         → (board : PlainBoard) (bytes : List ℕ) (verdict : Verdict) → IsBoardOf files manifest board → IsHeld files report bytes → IsTextOf bytes verdict
         → (Rose (P.faults «package».old) (P.faults «package».new) → ⊥) → (Rose (S.faults out.old) (S.faults out.new) → ⊥)

@@ -41,8 +41,8 @@ under_is {A = A} holds items spot layer p a is there told = (
 
 -- ---- Boxes
 
-le_holds : (a b : ℤ) → a ≤ℤ b → int_le a b ≡ true
-le_holds a b h = grind (arith, ints)
+pub int_le_holds : (a b : ℤ) → a ≤ℤ b → int_le a b ≡ true
+int_le_holds a b h = grind (arith, ints)
 
 side : (n low high low' high' x : ℤ) → pos 1 ≤ℤ n → (n *ℤ low) ≤ℤ x → x ≤ℤ (n *ℤ high) → (n *ℤ low') ≤ℤ x → x ≤ℤ (n *ℤ high') → (int_max low low') ≤ℤ (int_min high high')
 side n low high low' high' x some a b c d =
@@ -57,8 +57,8 @@ shared_meet b c s =
     let p = s.point in
     let f = s.in_first in
     let g = s.in_second in
-    let across = le_holds (int_max b.left c.left) (int_min b.right c.right) (side p.n b.left b.right c.left c.right p.x p.positive f.not_left f.not_right g.not_left g.not_right) in
-    let up = le_holds (int_max b.low c.low) (int_min b.high c.high) (side p.n b.low b.high c.low c.high p.y p.positive f.not_below f.not_above g.not_below g.not_above) in
+    let across = int_le_holds (int_max b.left c.left) (int_min b.right c.right) (side p.n b.left b.right c.left c.right p.x p.positive f.not_left f.not_right g.not_left g.not_right) in
+    let up = int_le_holds (int_max b.low c.low) (int_min b.high c.high) (side p.n b.low b.high c.low c.high p.y p.positive f.not_below f.not_above g.not_below g.not_above) in
     rw (across, up) refl
 
 pub le_or_lt : (m n : ℕ) → (m ≤ n) ⊎ (n < m)

@@ -10,12 +10,10 @@ use Rattle.std.proofs.lemmas.Int.{ints, clamps}
 use Rattle.std.specs.Int.{int_max, int_min}
 use Rattle.cell_index.specs.Cells.{meets_side}
 use Rattle.cell_index.specs.declared.patch.TheConstants.{CELL}
+use Rattle.cell_index.proofs.Pairs.{int_le_holds}
 
 pub int_le_told : (a b : ℤ) → int_le a b ≡ true → a ≤ℤ b
 int_le_told a b h = grind (arith, ints)
-
-pub int_le_holds : (a b : ℤ) → a ≤ℤ b → int_le a b ≡ true
-int_le_holds a b h = grind (arith, ints)
 
 -- the sides of a cell
 pub edge : (k : ℕ) → pos CELL *ℤ pos k ≡ pos (CELL * k)

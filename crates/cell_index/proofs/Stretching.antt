@@ -21,8 +21,8 @@ use Rattle.cell_index.specs.declared.plate.Plate.{Plate}
 use Rattle.cell_index.specs.declared.stretch.Side.{Side}
 use Rattle.cell_index.specs.declared.stretch.Stretch.{Stretch}
 use Rattle.cell_index.proofs.Found.{halves}
-use Rattle.cell_index.proofs.Sides.{int_le_holds}
 use Rattle.cell_index.proofs.Whole.{ext_at}
+use Rattle.cell_index.proofs.Pairs.{int_le_holds}
 
 from_zero : (z : ℤ) → pos 0 ≤ℤ int_max (pos 0) z
 from_zero z = omega (arith, ints, clamps)

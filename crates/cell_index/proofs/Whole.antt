@@ -26,8 +26,9 @@ use Rattle.cell_index.specs.declared.patch.Patch.{Patch}
 use Rattle.cell_index.specs.declared.patch.TheConstants.{CELL}
 use Rattle.cell_index.proofs.Found.{halves, passing_has}
 use Rattle.cell_index.proofs.Rows.{le_holds}
-use Rattle.cell_index.proofs.Sides.{edge, int_le_holds, int_le_told}
+use Rattle.cell_index.proofs.Sides.{edge, int_le_told}
 use Rattle.cell_index.proofs.Standing.{all_at}
+use Rattle.cell_index.proofs.Pairs.{int_le_holds}
 
 -- the cell k of a side has the place z
 pub record HasPlace (from z : ℤ) (k : ℕ) : Type 0 where

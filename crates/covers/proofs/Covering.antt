@@ -1,14 +1,15 @@
 -- A board that covers another keeps its joins.
-use Rattle.std.proofs.Common.{◌≡◌, ℕ, ◌<◌, List, [], ◌∷◌, ◌++◌, length, max, slice_get, Contains, refl, sym, ap, ◌∙◌, subst, arith}
+use Rattle.std.proofs.Common.{◌≡◌, ℕ, ◌<◌, List, [], ◌∷◌, length, max, slice_get, Contains, refl, sym, ap, ◌∙◌, subst, arith}
 use Rattle.std.proofs.lemmas.Option.{slice_get_within}
 use Rattle.planar.specs.Plane.{Point, at}
-use Rattle.tables.specs.Chains.{AreJoined, IsChain}
+use Rattle.tables.specs.Chains.{IsChain}
 use Rattle.board_shapes.specs.Spans.{CommonLayer, InSpan}
 use Rattle.board_shapes.specs.declared.probe.Probe.{Probe}
 use Rattle.covers.specs.Agreeing.{AgreesWithNames, HasName, NoneMissing, NoneOpen, NoneShort}
 use Rattle.covers.specs.Boards.{HasCopper, Joined, Layout, PointsJoined, TouchAt, UnderAt}
 use Rattle.covers.specs.Covering.{Covers}
 use Rattle.covers.specs.Laws.{KeepsJoins}
+use Rattle.verdict.proofs.Chains.{AreJoined-trans}
 
 -- ---- Layers and chains
 
@@ -20,13 +21,6 @@ common_second a b c d h = (omega arith, omega arith)
 
 common_layer : (a b c d layer : ℕ) → InSpan a b layer → InSpan c d layer → CommonLayer a b c d
 common_layer a b c d layer h k = let l = h.0 in let m = h.1 in let n = k.0 in let o = k.1 in omega arith
-
-onward : (near : ℕ → ℕ → Type 0) (p q r : ℕ) (c d : List ℕ) → IsChain near p c q → IsChain near q d r → IsChain near p (c ++ d) r
-onward near p q r [] d same rest = subst (λ (x : ℕ). IsChain near x d r) (sym same) rest
-onward near p q r (next ∷ c) d (touches, more) rest = (touches, onward near next q r c d more rest)
-
-joined_on : (near : ℕ → ℕ → Type 0) (p q r : ℕ) → AreJoined near p q → AreJoined near q r → AreJoined near p r
-joined_on near p q r (c, h) (d, k) = (c ++ d, onward near p q r c d h k)
 
 -- ---- One board covers another
 
@@ -75,7 +69,7 @@ module _ (holds : ℕ → Point → Type 0) (b : Layout) (holds' : ℕ → Point
   chain (next ∷ rest) i j (touches, more) p q here there =
       let t = touch i next touches in
       let near : ℕ → ℕ → Type 0 = TouchAt holds' c in
-      joined_on near p t.0 q ((over.pieces i).joined p t.0 here t.2) (joined_on near t.0 t.1 q (t.1 ∷ [], (t.4, refl)) (chain rest next j more t.1 q t.3 there))
+      AreJoined-trans near p t.0 q ((over.pieces i).joined p t.0 here t.2) (AreJoined-trans near t.0 t.1 q (t.1 ∷ [], (t.4, refl)) (chain rest next j more t.1 q t.3 there))
 
   pub joined : (k l : ℕ) → PointsJoined holds b k l → PointsJoined holds' c k l
   joined k l both =

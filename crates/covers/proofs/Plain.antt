@@ -1,13 +1,13 @@
 -- The boards that the program reads, as boards with any copper.
-use Rattle.std.proofs.Common.{◌≡◌, ℕ, List, [], ◌∷◌, Some, slice_get, sym, ap, ◌∙◌, subst}
+use Rattle.std.proofs.Common.{◌≡◌, ℕ, Some, slice_get, sym, ap, ◌∙◌, subst}
 use Rattle.std.proofs.lemmas.Option.{same_Some, slice_get-map}
 use Rattle.std.specs.Option.{option_map}
-use Rattle.tables.specs.Chains.{IsChain}
 use Rattle.board_shapes.specs.Plain.{PlainBoard, PlainPiece}
 use Rattle.board_shapes.specs.Spans.{CommonLayer, InSpan}
 use Rattle.board_shapes.specs.Touching.{ProbesJoined, TouchAt, UnderAt}
 use Rattle.covers.specs.Boards.{PointsJoined, Span, TouchAt as Touches, UnderAt as Under}
 use Rattle.covers.specs.Plain.{InPiece, layout_of, span_of}
+use Rattle.witness_check.proofs.Boards.{chain_along}
 
 span_at : (b : PlainBoard) (i : ℕ) (piece : PlainPiece) → slice_get b.pieces i ≡ Some piece → slice_get (layout_of b).spans i ≡ Some (span_of piece)
 span_at b i piece is = slice_get-map span_of b.pieces i ∙ ap (option_map span_of) is
@@ -30,10 +30,6 @@ touch_as b i j t = record {
   layer = t.touch.0;
   share = record { point = t.touch.1.point; in_first = record { piece = t.first; piece_is = t.first_is; inside = t.touch.1.in_first }; in_second = record { piece = t.second; piece_is = t.second_is; inside = t.touch.1.in_second } };
 }
-
-chain_along : (near more : ℕ → ℕ → Type 0) → ((p q : ℕ) → near p q → more p q) → (chain : List ℕ) (p q : ℕ) → IsChain near p chain q → IsChain more p chain q
-chain_along near more along [] p q leads = leads
-chain_along near more along (next ∷ rest) p q (here, leads) = (along p next here, chain_along near more along rest next q leads)
 
 pub joined_as : (b : PlainBoard) (k l : ℕ) → ProbesJoined b k l → PointsJoined (InPiece b) (layout_of b) k l
 joined_as b k l p = record {

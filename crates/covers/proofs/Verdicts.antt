@@ -14,6 +14,7 @@ use Rattle.verdict.specs.declared.verdict.Verdict.{Verdict}
 use Rattle.verdict.specs.declared.verdict.Twig.{Twig}
 use Rattle.witness_check.specs.BoardLaws.{HasName as IsNamed, NetNumbersJoinProbes, OpensCoverNamesOf, ShortsHavePathsOn}
 use Rattle.witness_check.specs.Laws.{IsSeated}
+use Rattle.witness_check.proofs.Bare.{opened_some, opened_none}
 use Rattle.covers.specs.Agreeing.{HasName, NoneMissing, NoneOpen, NoneShort}
 use Rattle.covers.specs.Boards.{PointsJoined}
 use Rattle.covers.specs.Laws.{Decides, KeepsJoins}
@@ -32,12 +33,6 @@ line_of nets [] (p ∷ points) lines k point all here = absurd all
 line_of nets (u ∷ beneath) (p ∷ points) [] k point all here = absurd all
 line_of nets (u ∷ beneath) (p ∷ points) (l ∷ lines) zero point (first, rest) here = (l, refl, first.name ∙ ap (λ (x : TestPoint). x.name) (same_Some p point here))
 line_of nets (u ∷ beneath) (p ∷ points) (l ∷ lines) (suc k) point (first, rest) here = line_of nets beneath points lines k point rest here
-
-opened_none : (n : ℕ) (line : PointLine) (rest : List PointLine) → line.net ≡ None → bare_from n (line ∷ rest) ≡ n ∷ bare_from (n + 1) rest
-opened_none n line rest none = rw none refl
-
-opened_some : (n net : ℕ) (line : PointLine) (rest : List PointLine) → line.net ≡ Some net → bare_from n (line ∷ rest) ≡ bare_from (n + 1) rest
-opened_some n net line rest some = rw some refl
 
 on_net : (net : Option ℕ) → (net ≡ None → ⊥) → (n : ℕ) × (net ≡ Some n)
 on_net None never = absurd (never refl)

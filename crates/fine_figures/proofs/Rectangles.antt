@@ -3,10 +3,11 @@ use Rattle.std.proofs.Common.{◌≡◌, inl, inr, ℤ, pos, ◌+ℤ◌, ◌-ℤ
 use Rattle.planar.specs.declared.Spot.{Spot}
 use Rattle.planar.specs.Plane.{Point}
 use Rattle.planar.proofs.Ring.{ring, linear, over_zero, times_cancel, times_from_zero, times_mono}
+use Rattle.planar.proofs.EdgeLaw.{not_lt, not_le, is_lt, is_le}
 use Rattle.contact.specs.Solid.{InBox}
 use Rattle.contact.specs.declared.Bounds.{Bounds}
 use Rattle.area_contact.specs.Contour.{edges_of, InArea}
-use Rattle.area_contact.specs.Parity.{is_le, is_lt, not_le, not_lt, side_of}
+use Rattle.area_contact.specs.Parity.{side_of}
 use Rattle.board_shapes.specs.Figures.{Figure, InFigure, figure_box}
 use Rattle.board_shapes.specs.Rectangles.{rectangle}
 use Rattle.board_shapes.specs.Shapes.{boxed_figure}

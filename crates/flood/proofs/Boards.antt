@@ -1,5 +1,5 @@
 -- A list of placed shapes and the plain pieces of a board: what touches and what is under is the same.
-use Rattle.std.proofs.Common.{◌≡◌, ℕ, List, [], ◌∷◌, ◌++◌, length, Option, Some, None, slice_get, slice_index_or, option_map, refl, sym, ap, subst, ◌∙◌}
+use Rattle.std.proofs.Common.{◌≡◌, ℕ, List, length, Option, Some, None, slice_get, slice_index_or, option_map, refl, sym, ap, subst, ◌∙◌}
 use Rattle.std.proofs.lemmas.List.{length-map}
 use Rattle.std.proofs.lemmas.List.Elements.{All-weaker}
 use Rattle.std.proofs.lemmas.Option.{slice_get-map, slice_get_within}
@@ -14,18 +14,11 @@ use Rattle.cell_index.specs.Field.{IsNear}
 use Rattle.cell_index.specs.Homes.{UnderProbe}
 use Rattle.flood.proofs.Points.{least_along}
 use Rattle.flood.specs.Laws.{HomesAreOfTheBoard, NetsAreOfTheBoard}
-use Rattle.verdict.specs.Forest.{Hang, IsForest, IsTree}
+use Rattle.verdict.specs.Forest.{IsForest, IsTree}
 use Rattle.verdict.specs.declared.verdict.Twig.{Twig}
+use Rattle.verdict.proofs.Trees.{tree_along}
 
 -- ---- Forests along a relation that says the same
-
-hang_along : (near more : ℕ → ℕ → Type 0) → ((p q : ℕ) → near p q → more p q) → (earlier : List ℕ) (rest : List Twig) → Hang near earlier rest → Hang more earlier rest
-hang_along near more along earlier [] hang = tt
-hang_along near more along earlier (t ∷ rest) (here, hang) = (record { parent = here.parent; named = here.named; stands = here.stands; touches = along here.parent t.piece here.touches }, hang_along near more along (earlier ++ t.piece ∷ []) rest hang)
-
-tree_along : (near more : ℕ → ℕ → Type 0) → ((p q : ℕ) → near p q → more p q) → (net : List Twig) → IsTree near net → IsTree more net
-tree_along near more along [] tree = absurd tree
-tree_along near more along (t ∷ rest) (root, least, hang) = (root, least, hang_along near more along (t.piece ∷ []) rest hang)
 
 forest_along : (count : ℕ) (near more : ℕ → ℕ → Type 0) (nets : List (List Twig)) → ((p q : ℕ) → near p q → more p q) → ((p q : ℕ) → more p q → near p q) → IsForest count near nets → IsForest count more nets
 forest_along count near more nets there back f = record {

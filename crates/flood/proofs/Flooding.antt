@@ -1,33 +1,26 @@
 -- Whole nets one after another.
 use Rattle.std.proofs.Common.{◌≡◌, ◌≢◌, ◌⊎◌, inl, inr, ℕ, ◌+◌, ◌*◌, ◌<◌, ◌≤◌, Bool, false, List, [], ◌∷◌, ◌++◌, length, get_or, replicate, Contains, All, AllPairs, refl, sym, ap, subst, ◌∙◌, arith, length-append}
-use Rattle.std.proofs.lemmas.List.{get_or_append_left, get_or_at, get_or_past, get_or-replicate, length-replicate}
+use Rattle.std.proofs.lemmas.List.{get_or_append_left, get_or_at, get_or-replicate, length-replicate}
 use Rattle.std.proofs.lemmas.List.Elements.{All-push, All-get_or, All-weaker}
 use Rattle.std.proofs.lemmas.List.Quantifiers.{all_pairs_push}
 use Rattle.std.proofs.lemmas.Bool.{cases_eq}
 use Rattle.verdict.specs.declared.verdict.Twig.{Twig}
 use Rattle.verdict.specs.Forest.{IsTree, IsForest, Holds, pieces_of, first_piece}
+use Rattle.verdict.proofs.Holding.{none_inside, held_within}
+use Rattle.verdict.proofs.Trees.{first_inside}
 use Rattle.cell_index.specs.Field.{sum_below}
 use Rattle.flood.specs.Flood.{IsSeen, IsWhole}
-use Rattle.flood.proofs.Seen.{le_or_lt, seen_within}
-
-none_inside : (p : ℕ) → Contains [] p → ⊥
-none_inside p (k, below, same) = omega arith
-
-pub holds_within : (nets : List (List Twig)) (i p : ℕ) → Holds nets i p → i < length nets
-holds_within nets i p inside = elim (le_or_lt (length nets) i) [
-  | inl past ↦ absurd (none_inside p (subst (λ (net : List Twig). Contains (pieces_of net) p) (get_or_past nets i [] past) inside))
-  | inr within ↦ within
-]
+use Rattle.flood.proofs.Seen.{seen_within}
 
 pub hold_old : (nets : List (List Twig)) (net : List Twig) (i p : ℕ) → Holds nets i p → Holds (nets ++ net ∷ []) i p
-hold_old nets net i p inside = subst (λ (n : List Twig). Contains (pieces_of n) p) (sym (get_or_append_left nets (net ∷ []) [] i (holds_within nets i p inside))) inside
+hold_old nets net i p inside = subst (λ (n : List Twig). Contains (pieces_of n) p) (sym (get_or_append_left nets (net ∷ []) [] i (held_within nets i p inside))) inside
 
 pub hold_new : (nets : List (List Twig)) (net : List Twig) (p : ℕ) → Contains (pieces_of net) p → Holds (nets ++ net ∷ []) (length nets) p
 hold_new nets net p inside = subst (λ (n : List Twig). Contains (pieces_of n) p) (sym (get_or_at nets net [] [] (length nets) refl)) inside
 
 pub hold_cases : (nets : List (List Twig)) (net : List Twig) (i p : ℕ) → Holds (nets ++ net ∷ []) i p → Holds nets i p ⊎ ((i ≡ length nets) × Contains (pieces_of net) p)
 hold_cases nets net i p inside =
-    let within = holds_within (nets ++ net ∷ []) i p inside in
+    let within = held_within (nets ++ net ∷ []) i p inside in
     let long = length-append nets (net ∷ []) in
     elim (cases_eq i (length nets)) [
       | inl last ↦ inr (last, subst (λ (n : List Twig). Contains (pieces_of n) p) (ap (λ (k : ℕ). get_or (nets ++ net ∷ []) k []) last ∙ get_or_at nets net [] [] (length nets) refl) inside)
@@ -67,10 +60,6 @@ flooded_start count near = record {
   one_place = λ k d h. absurd (omega arith);
   closed = λ i p q h. absurd (none_inside p h);
 }
-
-first_inside : (near : ℕ → ℕ → Type 0) (net : List Twig) → IsTree near net → Contains (pieces_of net) (first_piece net)
-first_inside near [] tree = absurd tree
-first_inside near (t ∷ rest) tree = (0, omega arith, refl)
 
 -- The first piece was seen.
 pub flooded_on : (count : ℕ) (near : ℕ → ℕ → Type 0) (nets : List (List Twig)) (seen : List Bool) (first : ℕ) → IsFlooded count near nets seen first → IsSeen seen first → IsFlooded count near nets seen (first + 1)

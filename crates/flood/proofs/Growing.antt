@@ -4,8 +4,9 @@ use Rattle.std.proofs.lemmas.List.{length-set}
 use Rattle.std.proofs.lemmas.Bool.{cases_eq}
 use Rattle.verdict.specs.declared.verdict.Twig.{Twig}
 use Rattle.verdict.specs.Forest.{pieces_of}
+use Rattle.verdict.proofs.Holding.{le_or_lt}
 use Rattle.flood.specs.Flood.{IsSeen, unseen, weight, IsGrown}
-use Rattle.flood.proofs.Seen.{le_or_lt, seen_now, seen_still, seen_cases, unseen-set, weight-push}
+use Rattle.flood.proofs.Seen.{seen_now, seen_still, seen_cases, unseen-set, weight-push}
 use Rattle.flood.proofs.Trees.{holds_still, holds_new, holds_cases, once_more, tree_more, first_stays}
 
 -- One piece more, which is near a piece of the net and was not seen.

@@ -1,13 +1,10 @@
 -- A tree with one twig more.
 use Rattle.std.proofs.Common.{◌≡◌, ◌≢◌, ◌⊎◌, ℕ, ◌≤◌, List, [], ◌∷◌, ◌++◌, Contains, AllPairs, Some, None, refl, sym, subst, append_assoc, append-nil, arith}
-use Rattle.std.proofs.lemmas.List.{map-append}
 use Rattle.std.proofs.lemmas.List.Elements.{All-push, Contains-push, Contains-push_cases, Contains-append_left, Contains-get_or}
 use Rattle.std.proofs.lemmas.List.Quantifiers.{all_pairs_push}
 use Rattle.verdict.specs.declared.verdict.Twig.{Twig}
-use Rattle.verdict.specs.Forest.{IsTree, Hang, pieces_of, piece_of, first_piece}
-
-pub pieces-push : (net : List Twig) (t : Twig) → pieces_of (net ++ t ∷ []) ≡ pieces_of net ++ t.piece ∷ []
-pieces-push net t = map-append piece_of net (t ∷ [])
+use Rattle.verdict.specs.Forest.{IsTree, Hang, pieces_of, first_piece}
+use Rattle.verdict.proofs.Trees.{pieces-push}
 
 pub holds_still : (net : List Twig) (t : Twig) (p : ℕ) → Contains (pieces_of net) p → Contains (pieces_of (net ++ t ∷ [])) p
 holds_still net t p inside = subst (λ (xs : List ℕ). Contains xs p) (sym (pieces-push net t)) (Contains-append_left (pieces_of net) (t.piece ∷ []) p inside)

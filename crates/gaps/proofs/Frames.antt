@@ -1,22 +1,13 @@
 -- The common box of grown pieces has each grown piece's box in it.
 use Rattle.std.proofs.Common.{ℤ, List, [], ◌∷◌, All, Some, None, arith}
-use Rattle.std.proofs.lemmas.Int.{ints, clamps}
+use Rattle.std.proofs.lemmas.Int.{ints}
 use Rattle.std.proofs.lemmas.List.Elements.{All-nil, All-cons, All-weaker}
 use Rattle.contact.specs.declared.Bounds.{Bounds}
 use Rattle.contact.specs.Solid.{IsInside, joined}
 use Rattle.board_shapes.specs.CommonBox.{Fits, FitsFrame, frame_over}
 use Rattle.board_shapes.specs.Pieces.{PlainPiece}
-use Rattle.board_shapes.proofs.Boxes.{LiesWithin}
+use Rattle.board_shapes.proofs.Boxes.{LiesWithin, onward, first_joined, second_joined}
 use Rattle.gaps.specs.GrownBox.{grown_around, grown_box, grown_common}
-
-first_joined : (b c : Bounds) → LiesWithin b (joined b c)
-first_joined b c = record { left = omega (arith, ints, clamps); low = omega (arith, ints, clamps); right = omega (arith, ints, clamps); high = omega (arith, ints, clamps) }
-
-second_joined : (b c : Bounds) → LiesWithin c (joined b c)
-second_joined b c = record { left = omega (arith, ints, clamps); low = omega (arith, ints, clamps); right = omega (arith, ints, clamps); high = omega (arith, ints, clamps) }
-
-onward : (b c d : Bounds) → LiesWithin b c → LiesWithin c d → LiesWithin b d
-onward b c d h k = record { left = omega (arith, ints, h.left, k.left); low = omega (arith, ints, h.low, k.low); right = omega (arith, ints, h.right, k.right); high = omega (arith, ints, h.high, k.high) }
 
 grows : (g : ℤ) (b : Bounds) (pieces : List PlainPiece) → LiesWithin b (grown_around g b pieces)
 grows g b [] = record { left = omega (arith, ints); low = omega (arith, ints); right = omega (arith, ints); high = omega (arith, ints) }

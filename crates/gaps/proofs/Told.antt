@@ -1,5 +1,5 @@
 -- What the calls read.
-use Rattle.std.proofs.Common.{Bool, false, IsTrue, FitsSigned, to_z, of_z, to_z-of_z, w64, ◌≡◌, ◌↔◌, ℕ, ℤ, pos, ◌+ℤ◌, ◌-ℤ◌, ◌≤ℤ◌, suc, List, [], ◌∷◌, All, arith, ap, sym, subst, ◌∙◌}
+use Rattle.std.proofs.Common.{Bool, false, IsTrue, FitsSigned, to_z, of_z, to_z-of_z, w64, ◌≡◌, ◌↔◌, ℕ, ℤ, pos, ◌+ℤ◌, ◌-ℤ◌, ◌≤ℤ◌, suc, List, [], ◌∷◌, All, arith, sym, subst}
 use Rattle.std.proofs.lemmas.Int.{ints, clamps}
 use Rattle.std.specs.Int.{int_min, int_max}
 use Rattle.planar.specs.declared.Frame.{Frame}
@@ -7,6 +7,7 @@ use Rattle.planar.specs.declared.Spot.{Spot}
 use Rattle.planar.specs.declared.TheConstants.{METRE, TWO_METRES}
 use Rattle.planar.specs.Plane.{Point, at, InCapsule, IsInFrame, IsPlaced, IsWithin, Share, dot_of, square}
 use Rattle.planar.proofs.Ring.{linear, ring}
+use Rattle.planar.proofs.Spots.{one_spot}
 use Rattle.planar.proofs.SpotWithin.{spot_before}
 use Rattle.contact.specs.declared.Bounds.{Bounds}
 use Rattle.contact.specs.declared.Capsule.{Capsule}
@@ -41,14 +42,11 @@ spots_share p q r h =
     let two : InCapsule p p r (at q) ↔ ((dot_of p q q) ≤ℤ square r) = spot_before p p r q back in
     (λ k. two.0 (one.0 k), λ k. one.1 (two.1 k))
 
-same_spot : (a b : Spot) → (a.x ≡ b.x) × (a.y ≡ b.y) → a ≡ b
-same_spot a b e = ap (λ (z : ℤ). let p : Spot = record { x = z; y = a.y } in p) e.0 ∙ ap (λ (z : ℤ). let p : Spot = record { x = b.x; y = z } in p) e.1
-
 -- segments that have no length
 pub spots_read : (a b c d : Spot) (r : ℤ) (t : Bool) → ((a.x ≡ b.x) × (a.y ≡ b.y)) × ((c.x ≡ d.x) × (c.y ≡ d.y)) → pos 0 ≤ℤ r → IsTrue t ↔ ((dot_of a c c) ≤ℤ square r) → IsTrue t ↔ Share a b (pos 0) c d r
 spots_read a b c d r t e h k =
     let l : IsTrue t ↔ Share a a (pos 0) c c r = follow k (spots_share a c r h) in
-    subst (λ (z : Spot). IsTrue t ↔ Share a b (pos 0) c z r) (same_spot c d e.1) (subst (λ (z : Spot). IsTrue t ↔ Share a z (pos 0) c c r) (same_spot a b e.0) l)
+    subst (λ (z : Spot). IsTrue t ↔ Share a b (pos 0) c z r) (one_spot c d e.1.0 e.1.1) (subst (λ (z : Spot). IsTrue t ↔ Share a z (pos 0) c c r) (one_spot a b e.0.0 e.0.1) l)
 
 -- ---- the box
 

@@ -41,6 +41,9 @@ pub use gap::Gap;
 pub use listing::{GapFault, gaps};
 pub use text::write_gaps;
 
+/// The widest distance of gaps, in nanometres: 10 mm.
+pub const MOST_NANOMETRES: u32 = 10_000_000;
+
 /// A shape, grown by a distance: the points that are at most `grow` from some point of the shape. `grow` is in u, from 0 to 5 mm.
 #[derive(Clone, Copy)]
 pub struct Fat<'a> {

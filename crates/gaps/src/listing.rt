@@ -10,6 +10,7 @@ ghost use Rattle.gaps.specs.Gaps.{AreGaps, CloseAt};
 ghost use Rattle.gaps.specs.Grown.{Grown, wider_box};
 ghost use Rattle.gaps.specs.GrownBox.{IsGapFault, grown_box, grown_common};
 ghost use Rattle.gaps.specs.Meetings.{IsFieldLine};
+ghost use Rattle.gaps.specs.declared.TheConstants.{MOST_NANOMETRES};
 ghost use Rattle.std.specs.Prelude.{All, IfErr, IfOk, length, pos, ◌*◌, ◌+ℤ◌, ◌<◌, ◌^◌, ◌≡◌, ◌≤◌};
 ghost use Rattle.verdict.specs.Forest.{IsForest};
 
@@ -62,7 +63,7 @@ pub fn gaps(
     nanometres: u32,
 ) -> Result<Rows<Gap>, GapFault>
     requires trees { IsForest (length (plain_board board.now).pieces) (IsNear (plain_board board.now)) nets.now }
-    requires most { nanometres ≤ 10_000_000 }
+    requires most { nanometres ≤ MOST_NANOMETRES }
     ensures list { IfOk result (AreGaps (CloseAt (plain_board board.now) (pos (10 * nanometres))) nets.now) }
     ensures fits { IfOk result (λ list. Fits (grown_common (pos (5 * nanometres)) (plain_board board.now).pieces)) }
     ensures fault { IfErr result (IsGapFault (grown_common (pos (5 * nanometres)) (plain_board board.now).pieces)) }

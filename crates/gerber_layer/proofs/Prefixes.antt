@@ -9,6 +9,7 @@ use Rattle.gerber_words.specs.Items.{items_with, stop_item, word_item}
 use Rattle.gerber_words.specs.Laws.{HasFirstWords, HasOneReadingAhead, IsCutShort, star_of}
 use Rattle.gerber_words.specs.declared.fault.WordFault.{WordFault}
 use Rattle.gerber_words.specs.declared.fault.WordFault.TheVariants.{LineBreakInWord, NotEnded, PercentAmiss}
+use Rattle.gerber_words.proofs.OneCut.{heads}
 use Rattle.gerber_layer.specs.Command.{Command, breaks, ends, finishes}
 use Rattle.gerber_layer.specs.CommandEffects.{Place, Known, Effect, Profile, stays, effect, is_finish, kind_of_word, row}
 use Rattle.gerber_layer.specs.Settings.{has_ended, is_end}
@@ -94,9 +95,6 @@ first_end read (w ∷ words) h = by (is_end (read w)) refl (first_end read words
         record { front = w ∷ r.front; last = r.last; back = r.back; split = ap (λ (ws : List Entry). w ∷ ws) r.split; ends_file = r.ends_file; first = (e, r.first) }
 
 -- ---- The words that a prefix has
-
-heads : {A : Type 0} {x y : A} {xs ys : List A} → x ∷ xs ≡ y ∷ ys → (x ≡ y) × (xs ≡ ys)
-heads e = (cc, cc)
 
 -- words whose stars stand before that of the end word come before it
 none_in_front : (read : Entry → Command) (n : ℕ) (front back before after : List Entry) (last : Entry) → front ++ back ≡ before ++ last ∷ after → AllByRecursion (λ w. star_of w < n) front → n ≤ star_of last → AllByRecursion (λ w. is_end (read w) ≡ false) before → AllByRecursion (λ w. is_end (read w) ≡ false) front

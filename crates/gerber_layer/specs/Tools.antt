@@ -13,6 +13,7 @@ pub use Rattle.apertures.specs.Definition.{name_text, number_digits}
 use Rattle.apertures.specs.Definition.{is_comma, is_x, name_of}
 use Rattle.apertures.specs.Real.{real_aperture_at}
 use Rattle.aperture_macros.specs.BodyWord.{PlainPrimitive}
+use Rattle.gerber_layer.specs.declared.TheConstants.{MOST_PRIMITIVES}
 
 -- An aperture: a standard one, or the macro of a name with its parameters and their unit.
 pub data Tool : Type 0 where
@@ -43,10 +44,10 @@ latest_or (Some m) other name = if is_word m.name name then Some m.body else oth
 abbrev pub macro_named : Macros → List ℕ → Option (List PlainPrimitive)
 macro_named m name = latest_or m.latest (m.others name) name
 
--- a macro has at most 256 primitives
+-- a macro has at most MOST_PRIMITIVES primitives
 abbrev pub has_room : Option Macro → Bool
 has_room None = false
-has_room (Some m) = nat_lt (length m.body) 256
+has_room (Some m) = nat_lt (length m.body) MOST_PRIMITIVES
 
 -- a macro of this name is begun, and the one that was last is among the others
 abbrev pub begun : Macros → List ℕ → Macros

@@ -14,7 +14,7 @@ pub enum FlattenKind {
     /// As of a file without macros, with the same number and name.
     Gerber(GerberKind),
     /// A macro with no name or that of a standard aperture, a word of a body that is no primitive
-    /// that is taken, over 256 primitives, a parameter that is no decimal, or an outline that does
+    /// that is taken, over `MOST_PRIMITIVES` primitives, a parameter that is no decimal, or an outline that does
     /// not end where it begins (4.5).
     BadMacro,
     /// A macro of a name that has one.

@@ -1,5 +1,4 @@
 pub mod KindNumbers
-mod Front
 mod NumberLemmas
 mod WordLemmas
 mod NameLemmas
@@ -9,3 +8,4 @@ pub mod OneAnswer
 mod Ending
 mod ReadSoFar
 pub mod Fits
+pub mod Written

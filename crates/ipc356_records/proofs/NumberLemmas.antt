@@ -4,7 +4,7 @@ use Rattle.std.specs.Prelude.{replicate}
 use Rattle.std.specs.List.{list_all}
 use Rattle.texts.specs.Digits.{is_decimal_digit}
 use Rattle.texts.specs.Blanks.{is_blank, without_front}
-use Rattle.ipc356_records.proofs.Front.{front-blank, front-other}
+use Rattle.texts.proofs.Blanks.{front-blank, front-other}
 use Rattle.ipc356_records.specs.Columns.{filled}
 use Rattle.ipc356_records.specs.RecordLines.{digits_in, number_of}
 

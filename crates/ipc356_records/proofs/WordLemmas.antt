@@ -3,7 +3,7 @@ use Rattle.std.proofs.Common.{◌≡◌, ℕ, ◌+◌, ◌≤◌, suc, Bool, tru
 use Rattle.std.specs.List.{slice_split, position_or_len}
 use Rattle.texts.specs.Blanks.{is_blank, without_front}
 use Rattle.ipc356_records.specs.Columns.{is_empty, words}
-use Rattle.ipc356_records.proofs.Front.{front-blank, front-other}
+use Rattle.texts.proofs.Blanks.{front-blank, front-other}
 
 abbrev kept : List (List ℕ) → List (List ℕ)
 kept parts = filter (λ w. not (is_empty w)) parts

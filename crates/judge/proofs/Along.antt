@@ -5,13 +5,10 @@ use Rattle.verdict.specs.declared.verdict.Twig.{Twig}
 use Rattle.verdict.specs.declared.verdict.Branch.{Branch}
 use Rattle.verdict.specs.declared.verdict.PointLine.{PointLine}
 use Rattle.verdict.specs.Forest.{IsTree, Hang, pieces_of, piece_of}
-use Rattle.verdict.specs.Right.{AreBranches, BeginsAt}
+use Rattle.verdict.specs.Right.{AreBranches}
 use Rattle.judge.specs.Judged.{HangAbove}
 use Rattle.verdict.specs.Places.{twig_at}
-
-begins_along : (a b : ℕ → Type 0) → ((p : ℕ) → a p → b p) → (pieces : List ℕ) → BeginsAt a pieces → BeginsAt b pieces
-begins_along a b along [] h = absurd h
-begins_along a b along (p ∷ rest) h = along p h
+use Rattle.verdict.proofs.Chains.{begins_along}
 
 pub branches_along : (net : List Twig) (starts more : ℕ → ℕ → Type 0) → ((probe p : ℕ) → starts probe p → more probe p) → (lines : List PointLine) (number : ℕ) (ends : List ℕ) (branches : List Branch) → AreBranches net starts lines number ends branches → AreBranches net more lines number ends branches
 branches_along net starts more along lines number ends [] all = tt

@@ -12,6 +12,7 @@ use Rattle.board_shapes.specs.declared.probe.Probe.{Probe}
 use Rattle.board_shapes.specs.declared.shape.Shape.{Shape}
 use Rattle.tables.specs.Lists.{AreLeast, IsLeast, Lists}
 use Rattle.tables.specs.Tables.{Stands, Tables, TestPoint, row_at}
+use Rattle.tables.proofs.Listing.{none_listed}
 use Rattle.verdict.specs.declared.verdict.Twig.{Twig}
 use Rattle.verdict.specs.declared.verdict.Short.{Short}
 use Rattle.verdict.specs.declared.verdict.Open.{Open}
@@ -27,10 +28,6 @@ use Rattle.verdict.specs.Seats.{IsFirst}
 use Rattle.verdict.proofs.Trees.{nets_few, tree_along}
 
 -- ---- Points
-
-none_listed : (P : ℕ → Type 0) (row : List ℕ) → Lists P row → ((q : ℕ) → P q → ⊥) → row ≡ []
-none_listed P [] lists none = refl
-none_listed P (x ∷ xs) lists none = absurd (none x (lists.only x (0, omega arith, refl)))
 
 net_right : (size : ℕ) (near : ℕ → ℕ → Type 0) (nets : List (List Twig)) (numbers : List ℕ) → IsForest size near nets → ((i p : ℕ) → Holds nets i p → get_or numbers p 0 ≡ i) → (P : ℕ → Type 0) (row : List ℕ) (home : Option ℕ) → Lists P row → IsLeast P home → IfSome home (λ p. p < size) → MatchOption (net_by numbers home) (row ≡ []) (λ net. (piece : ℕ) × Contains row piece × Holds nets net piece)
 net_right size near nets numbers lawful numbered P row None lists least known = none_listed P row lists least

@@ -20,8 +20,9 @@ use Rattle.gerber_words.specs.Attributes.{attribute_kind}
 use Rattle.gerber_layer.specs.Command.{formats, counts_in, defines}
 use Rattle.gerber_layer.specs.WordCommands.{extended as row, format_word, format_of, command_of}
 use Rattle.macro_flatten.specs.FlatText.{millimetres}
-use Rattle.macro_flatten.proofs.Digits.{runs, wider, none, digit_is_not, written}
+use Rattle.macro_flatten.proofs.Digits.{runs, none, written}
 use Rattle.texts.proofs.LastDigits.{last_are_digits, length-last_digits, last_value}
+use Rattle.texts.proofs.DigitBytes.{wider, digit_is_not}
 use Rattle.macro_flatten.proofs.Operations.{seven}
 use Rattle.contact.specs.declared.TheConstants.{MOST_DIAMETER}
 use Rattle.planar.specs.declared.TheConstants.{METRE}

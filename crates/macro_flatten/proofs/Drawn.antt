@@ -1,14 +1,14 @@
 -- What apertures, contours and copies make can be drawn.
 use Rattle.std.proofs.Common.{◌≡◌, ℕ, zero, suc, ◌-◌, ◌/◌, ◌%◌, ◌≤◌, Bool, true, false, not, ◌&&◌, cond, eqb, nat_le, nat_lt, min, List, [], ◌∷◌, length, map, ℤ, pos, negsuc, Option, Some, None, Result, Ok, Err, refl, ap, ◌∙◌, subst, arith}
-use Rattle.std.proofs.lemmas.Bool.{eqb-true}
 use Rattle.std.proofs.lemmas.Int.{ints}
 use Rattle.std.proofs.lemmas.List.{length-map}
 use Rattle.std.proofs.lemmas.List.Elements.{All-from_recursion}
 use Rattle.std.specs.List.{list_all, AllByRecursion}
 use Rattle.std.specs.Prelude.{unsigned_abs, ◌<ℤ◌, ◌≤ℤ◌}
 use borrow.Author.Tests.{leb-true, ltb-false, ltb-true}
-use Rattle.planar.specs.Plane.{IsPlaced, IsReached, is_placed}
+use Rattle.planar.specs.Plane.{IsPlaced, IsReached, is_placed, same_spot}
 use Rattle.planar.specs.declared.Spot.{Spot}
+use Rattle.planar.proofs.Spots.{spot_is}
 use Rattle.area_contact.specs.Contour.{end_from, IsClosed, IsContour}
 use Rattle.board_shapes.specs.Figures.{Figure, Stroke, round, filled}
 use Rattle.board_shapes.specs.Moved.{shifted, shifted_figure, corners as ends}
@@ -18,7 +18,7 @@ use Rattle.apertures.specs.Flash.{NoFlash, leaves, IsNarrow, IsSize, IsLawful, h
 use Rattle.apertures.specs.Telling.{told_fine, told_frame, told_holed, told_ring}
 use Rattle.apertures.specs.declared.aperture.Aperture.{Aperture}
 use Rattle.apertures.specs.declared.aperture.Aperture.TheVariants.{Circle, Rectangle, Obround, Ring, Frame, FineRectangle, FineObround, FineCircle, Holed}
-use Rattle.regions.specs.Contours.{stays_open, too_short, close_of, same_number, same_spot}
+use Rattle.regions.specs.Contours.{stays_open, too_short, close_of}
 use Rattle.macro_flatten.specs.Laws.{IsDrawn}
 use Rattle.area_contact.specs.declared.TheConstants.{MOST_CONTOUR_POINTS}
 use Rattle.contact.specs.declared.TheConstants.{MOST_DIAMETER, MOST_RADIUS}
@@ -121,17 +121,6 @@ flash_drawn (FineCircle d) to f h k e = area_drawn (told_fine true (unsigned_abs
 flash_drawn (Holed form) to f h k e = holed_drawn form.round (unsigned_abs form.x) (unsigned_abs form.y) (unsigned_abs form.hole) to f e
 
 -- ---- Contours
-
-number_is : (z w : ℤ) → same_number z w ≡ true → z ≡ w
-number_is (pos m) (pos n) h = ap pos (eqb-true m n h)
-number_is (negsuc m) (negsuc n) h = ap negsuc (eqb-true m n h)
-number_is (pos m) (negsuc n) h = cc
-number_is (negsuc m) (pos n) h = cc
-
-spot_is : (a b : Spot) → same_spot a b ≡ true → a ≡ b
-spot_is a b h =
-    let s = both (same_number a.x b.x) (same_number a.y b.y) h in
-    ap (λ (z : ℤ). record { x = z; y = a.y }) (number_is a.x b.x s.0) ∙ ap (λ (z : ℤ). record { x = b.x; y = z }) (number_is a.y b.y s.1)
 
 -- what a contour of few spots bounds
 pub contour_drawn : (contour points : List Spot) → AllByRecursion IsPlaced contour → length contour ≤ MOST_CONTOUR_POINTS → close_of contour ≡ Ok (Some points) → IsDrawn (filled points)

@@ -1,18 +1,19 @@
 -- What the commands of a flattened text do.
-use Rattle.std.proofs.Common.{◌≡◌, ℕ, ◌+◌, ◌*◌, ◌/◌, ◌<◌, ◌≤◌, nat_lt, Bool, true, false, cond, eqb, List, [], ◌∷◌, length, ℤ, pos, negsuc, Some, None, Ok, refl, ◌∙◌, arith, eq-eqb}
+use Rattle.std.proofs.Common.{◌≡◌, ℕ, ◌+◌, ◌*◌, ◌/◌, ◌<◌, ◌≤◌, nat_lt, Bool, true, false, cond, eqb, List, [], ◌∷◌, length, pos, Some, None, Ok, refl, ◌∙◌, arith}
 use Rattle.std.proofs.lemmas.Bool.{eqb-true}
 use Rattle.std.specs.Fmt.{signed_decimal}
 use Rattle.std.proofs.lemmas.Bool.{lt-leb}
 use borrow.Author.Tests.{le-ltb}
 use Rattle.planar.specs.Plane.{IsPlaced}
 use Rattle.planar.specs.declared.Spot.{Spot}
+use Rattle.planar.proofs.Spots.{spot_same}
 use Rattle.area_contact.specs.Contour.{end_from, IsContour}
 use Rattle.board_shapes.specs.Figures.{round, filled}
 use Rattle.lengths.specs.declared.decimal.Unit.TheVariants.{Mm}
 use Rattle.apertures.specs.Definition.{aperture_at}
 use Rattle.apertures.specs.declared.aperture.Aperture.{Aperture}
 use Rattle.apertures.specs.declared.aperture.Aperture.TheVariants.{Circle}
-use Rattle.regions.specs.Contours.{close_of, same_number, same_spot}
+use Rattle.regions.specs.Contours.{close_of}
 use Rattle.gerber_layer.specs.Command.{Command, formats, counts_in, defines, selects, operates, opens_region, closes_region, ends, finishes}
 use Rattle.gerber_layer.specs.declared.command.Code.{Code}
 use Rattle.gerber_layer.specs.declared.command.Code.TheVariants.{Draw, Move}
@@ -78,13 +79,6 @@ pub extends_to : (k : Known) (to : Spot) → IsSet k → IsPlaced to → k.setti
 unfolding perform_in_region extend
 extends_to k to s h inside few room = operated k to Draw s h ∙ rw (inside, lt-leb _ _ few, le-ltb _ _ room) refl
 
-same_number_itself : (z : ℤ) → same_number z z ≡ true
-same_number_itself (pos n) = eq-eqb n n refl
-same_number_itself (negsuc n) = eq-eqb n n refl
-
-same_itself : (a b : Spot) → a ≡ b → same_spot a b ≡ true
-same_itself a b e = rw e (rw (same_number_itself b.x, same_number_itself b.y) refl)
-
 contour_closes : (points : List Spot) → IsContour points → close_of points ≡ Ok (Some points)
 unfolding close_of
 contour_closes [] c = let few = c.enough in absurd (omega (arith, few))
@@ -93,7 +87,7 @@ contour_closes (a ∷ b ∷ rest) c =
     let few = c.enough in
     let closed : end_from b rest ≡ a = c.closed in
     let long : nat_lt (length rest) 2 ≡ false = le-ltb _ _ (omega (arith, few)) in
-    rw (same_itself (end_from b rest) a closed, long) refl
+    rw (spot_same (end_from b rest) a closed, long) refl
 
 pub leaves_one : (k : Known) (points : List Spot) → IsSet k → k.settings.region ≡ true → k.contour ≡ points → IsContour points → length k.pieces < k.place.room.pieces → effect k closes_region ≡ Ok (leaves (Some (filled points)))
 unfolding effect row leave closing room_for

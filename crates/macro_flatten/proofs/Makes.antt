@@ -9,7 +9,7 @@ use Rattle.std.proofs.lemmas.Int.{ints}
 use Rattle.contact.specs.declared.TheConstants.{MOST_DIAMETER}
 use Rattle.lengths.specs.Decimal.{Fraction}
 use Rattle.lengths.specs.declared.decimal.Unit.{Unit as Measure}
-use Rattle.planar.specs.Plane.{IsPlaced}
+use Rattle.planar.specs.Plane.{IsPlaced, same_spot}
 use Rattle.planar.specs.declared.Spot.{Spot}
 use Rattle.area_contact.specs.Contour.{end_from}
 use Rattle.board_shapes.specs.Figures.{Figure, round, figure_edges}
@@ -22,7 +22,7 @@ use Rattle.aperture_macros.specs.BodyWord.{PlainPrimitive}
 use Rattle.aperture_macros.specs.Flashes.{figure_at}
 use Rattle.aperture_macros.specs.Sized.{IsSized}
 use Rattle.aperture_macros.specs.declared.fault.MacroFault.{MacroFault}
-use Rattle.regions.specs.Contours.{Flaw, stays_open, too_short, close_of, same_spot}
+use Rattle.regions.specs.Contours.{Flaw, stays_open, too_short, close_of}
 use Rattle.step_repeat.specs.Copies.{Refusal, copies_at}
 use Rattle.step_repeat.specs.declared.repeat.Repeat.{Repeat}
 use Rattle.gerber_layer.specs.declared.kind.GerberKind.{GerberKind}

@@ -12,6 +12,7 @@ use Rattle.board_shapes.specs.Figures.{Figure, round, filled}
 use Rattle.board_shapes.specs.Rectangles.{halved, rectangle}
 use Rattle.lengths.specs.Decimal.{Fraction}
 use Rattle.lengths.specs.declared.decimal.Unit.{Unit as Measure}
+use Rattle.aperture_macros.specs.declared.TheConstants.{MOST_OUTLINE_EDGES}
 use Rattle.aperture_macros.specs.declared.fault.MacroFault.{MacroFault}
 use Rattle.aperture_macros.specs.declared.fault.MacroFault.TheVariants.{OffGrid, OutOfRange}
 use Rattle.aperture_macros.specs.declared.images.Sketch.{Sketch}
@@ -188,7 +189,7 @@ sketched_drawn rotation at r f pen h =
     let s = then_ok r (sketch_at rotation at) (Some f) h in
     sketch_drawn rotation at s.0 f (pen s.0 s.1) s.2
 
-outline_drawn : (n : ℕ) (rotation : Rotation) (text : List ℕ) (given : List Fraction) (unit : Measure) (at : Spot) (f : Figure) → 3 ≤ n → n ≤ 5000 → outlined rotation at (outline_at n text given unit) ≡ Ok (Some f) → IsDrawn f
+outline_drawn : (n : ℕ) (rotation : Rotation) (text : List ℕ) (given : List Fraction) (unit : Measure) (at : Spot) (f : Figure) → 3 ≤ n → n ≤ MOST_OUTLINE_EDGES → outlined rotation at (outline_at n text given unit) ≡ Ok (Some f) → IsDrawn f
 outline_drawn n rotation text given unit at f low high h =
     let o = then_ok (outline_at n text given unit) (λ ps. area_at (map (set_down rotation at) ps)) (Some f) h in
     by o.0 o.1 o.2 (moved_from (set_down rotation at) [] (n + 1) text given unit) refl

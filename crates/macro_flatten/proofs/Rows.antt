@@ -1,16 +1,15 @@
 -- What both tables of commands say: that of the standard apertures, and that of files with macros.
-use Rattle.std.proofs.Common.{◌≡◌, ◌≤◌, Bool, true, false, cond, length, Result, Ok, Err, refl, sym, ap, ◌∙◌, subst}
+use Rattle.std.proofs.Common.{◌≡◌, ◌≤◌, Bool, true, false, cond, length, Ok, Err, refl, sym, ap, ◌∙◌, subst}
 use Rattle.std.proofs.lemmas.Bool.{ltb-false}
 use Rattle.std.specs.Prelude.{nat_lt}
 use Rattle.gerber_layer.specs.Command.{Command, repeats, opens_region, closes_region, operates, ends}
-use Rattle.gerber_layer.specs.declared.kind.GerberKind.{GerberKind}
 use Rattle.gerber_layer.specs.declared.kind.GerberKind.TheVariants as kind
 use Rattle.gerber_layer.specs.declared.macro_kind.FlattenKind.TheVariants.{Gerber, TooManyRadii}
 use Rattle.gerber_layer.specs.Radii.{radii_of}
 use Rattle.gerber_layer.specs.CommandEffects.{Known, Effect, Profile, ◌>>=◌, concludes, row, effect}
 use Rattle.gerber_layer.specs.MacroTable.{effect_with_macros, few_radii, gerber, macro_row, row_with_macros}
 use Rattle.gerber_layer.proofs.Outcome.{Outcome, bind_ok, outcome, past_test}
-use Rattle.gerber_layer.proofs.MacroOutcome.{outcome_with_macros}
+use Rattle.gerber_layer.proofs.MacroOutcome.{outcome_with_macros, gerber_ok}
 use Rattle.gerber_layer.specs.declared.TheConstants.{MOST_APERTURES}
 
 -- the commands that make pieces or change the contour: both tables have one row for each
@@ -42,10 +41,6 @@ pub standard_rows : HasRows effect
 standard_rows = record { says = outcome; shares = shared }
 
 -- ---- Files with macros
-
-gerber_ok : {A : Type 0} (r : Result A GerberKind) (x : A) → gerber r ≡ Ok x → r ≡ Ok x
-gerber_ok (Ok y) x h = let e : y ≡ x = cc in ap Ok e
-gerber_ok (Err why) x h = cc
 
 -- an end has few radii
 abbrev pub HasFewRadii : Effect → Type 0

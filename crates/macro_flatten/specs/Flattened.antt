@@ -12,7 +12,7 @@ pub record IsFlattened (file text : List ℕ) : Type 0 where
   pub image : IsReadWithMacros file pieces
   pub text_is : text ≡ flat_text_of (figures_in pieces)
 
--- Every layer reads the text as the figures of the file's image, in order, and without a refusal.
+-- Each layer to MOST_LAYERS, in a room of MOST_PIECES pieces and MOST_FLAT_EDGES edges, reads the text as the figures of the file's image, in order, and without a refusal.
 pub record IsReadBack (file text : List ℕ) : Type 0 where
   pub pieces : List PlainPiece
   pub image : IsReadWithMacros file pieces

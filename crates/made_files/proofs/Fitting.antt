@@ -6,6 +6,7 @@ use Rattle.board_maker.specs.MadeBoard.{manifest_text, part_text}
 use Rattle.board_maker.specs.MadePackage.{made_files}
 use Rattle.board_maker.specs.declared.files.Part.{Part}
 use Rattle.board_maker.specs.declared.files.Part.TheVariants.{Top, Bottom, Holes, Points}
+use Rattle.board_maker.specs.declared.TheConstants.{MOST_CELLS}
 use Rattle.board_package.specs.Contents.{drill_place, layer_place}
 use Rattle.board_package.specs.Manifest.{IsManifest, manifest_of}
 use Rattle.board_package.specs.PackageBoard.{IsHeld}
@@ -18,7 +19,7 @@ use Rattle.board_shapes.specs.Pieces.{PlainPiece, edges_in}
 use Rattle.board_shapes.specs.Plain.{PlainBoard, with_netlist}
 use Rattle.serde_json.proofs.OnLiterals.{serde_json_on_literals}
 use Rattle.serde_json.specs.Data.{Data, array, item, member, no_items, no_members, number, object, string, unsigned}
-use Rattle.xnc.specs.FaultPlace.{Place as DrillPlace}
+use Rattle.xnc.specs.Places.{Place as DrillPlace}
 use Rattle.made_files.proofs.Frame.{AreNear, near_bores, near_both, near_copper, near_fits}
 use Rattle.made_files.proofs.MadeCopper.{edges_are, edges_in as copper_edges, few_so_far, made_copper_is_read}
 use Rattle.made_files.proofs.MadeHoles.{made_holes_are_read}
@@ -70,12 +71,12 @@ small part seed size pieces are =
     record { many = omega (arith, most, long, same); edges = omega (arith, edges, sum, total) }
 
 -- the next copper file has room behind these pieces
-layer_room : (size layer file : ℕ) (b : PlainBoard) → size ≤ 10_000 → length b.pieces ≤ 3 * size → edges_in b.pieces ≤ 4 * size → HasRoom size (layer_place layer file b)
+layer_room : (size layer file : ℕ) (b : PlainBoard) → size ≤ MOST_CELLS → length b.pieces ≤ 3 * size → edges_in b.pieces ≤ 4 * size → HasRoom size (layer_place layer file b)
 layer_room size layer file b few many edges = record { pieces = omega (arith, few, many); edges = omega (arith, few, edges) }
 
 -- ---- The files
 
-held_at : MadeFilesAreShort → (seed size : ℕ) (name bytes : List ℕ) → size ≤ 10_000 → made_files seed size name ≡ Some bytes → IsHeld (made_files seed size) name bytes
+held_at : MadeFilesAreShort → (seed size : ℕ) (name bytes : List ℕ) → size ≤ MOST_CELLS → made_files seed size name ≡ Some bytes → IsHeld (made_files seed size) name bytes
 held_at short seed size name bytes few held = let low = short seed size few name bytes held in record { held = held; short = omega (arith, low) }
 
 bores_are : (p : DrillPlace) (n : ℕ) → map (λ (q : PlainPiece). q.figure) (holes p n) ≡ bores n

@@ -1,5 +1,4 @@
 pub mod Tenths
-pub mod LineTexts
 pub mod MadeHoles
 pub mod MadePoints
 pub mod MadeCopper

@@ -1,5 +1,5 @@
 -- The copper files of a made board are read.
-use Rattle.std.proofs.Common.{◌≡◌, ℕ, zero, suc, ◌+◌, ◌*◌, ◌^◌, ◌<◌, ◌≤◌, Bool, true, false, ◌||◌, if◌then◌else◌, eqb, nat_le, nat_lt, List, [], ◌∷◌, ◌++◌, length, map, reverse, ℤ, pos, Option, Some, None, Ok, codes, refl, sym, ap, ◌∙◌, subst, arith, append_assoc, append-nil, length-append}
+use Rattle.std.proofs.Common.{◌≡◌, ℕ, zero, suc, ◌+◌, ◌*◌, ◌^◌, ◌<◌, ◌≤◌, Bool, true, false, if◌then◌else◌, nat_le, nat_lt, List, [], ◌∷◌, ◌++◌, length, map, reverse, ℤ, pos, Option, Some, None, Ok, codes, refl, sym, ap, ◌∙◌, subst, arith, append_assoc, append-nil, length-append}
 use Rattle.std.proofs.lemmas.Bool.{agree_below_at, le-leb, le-ltb, lt-leb}
 use Rattle.std.proofs.lemmas.Fmt.{length-decimal-le}
 use Rattle.std.proofs.lemmas.List.{length-map, map-append, reverse-append, reverse-reverse}
@@ -15,6 +15,7 @@ use Rattle.apertures.specs.declared.aperture.Aperture.TheVariants.{Circle, Recta
 use Rattle.board_maker.specs.MadeBoard.{cell_of, cells, column, end_of, flash as made_flash, head_of, is_bridged, is_broken, operation as made_operation, part_text, row, track as made_track}
 use Rattle.board_maker.specs.declared.files.Part.{Part}
 use Rattle.board_maker.specs.declared.files.Part.TheVariants.{Top, Bottom, Holes, Points}
+use Rattle.board_maker.specs.declared.TheConstants.{MOST_CELLS}
 use Rattle.board_shapes.specs.Figures.{Figure, figure_edges}
 use Rattle.board_shapes.specs.Pieces.{PlainPiece}
 use Rattle.board_shapes.specs.Rectangles.{halved}
@@ -25,7 +26,7 @@ use Rattle.gerber_layer.specs.declared.place.Place.{Place}
 use Rattle.gerber_layer.specs.Image.{effect_before, image_by, known_before, made, pieces_of}
 use Rattle.gerber_layer.specs.Settings.{block_open, defined_before, format_before, has_ended, point_before, region_open, unit_before, x_before, y_before}
 use Rattle.gerber_layer.specs.Tools.{Tool, standard}
-use Rattle.gerber_layer.specs.WordCommands.{code_in, coded, command_of, extended as extended_row, format_of, format_word, from_i, from_x, is_number, is_numeric, operation, operation_of, plain}
+use Rattle.gerber_layer.specs.WordCommands.{code_in, coded, command_of, extended as extended_row, format_of, format_word, from_i, is_number, is_numeric, operation_of, plain}
 use Rattle.gerber_layer.specs.declared.command.Code.{Code}
 use Rattle.gerber_layer.specs.declared.command.Code.TheVariants.{Draw, Move, Flash}
 use Rattle.gerber_layer.specs.declared.command.Format.{Format}
@@ -38,13 +39,17 @@ use Rattle.gerber_words.specs.Words.{ended, is_plain}
 use Rattle.gerber_words.specs.Items.{items_with, stop_item, word_item}
 use Rattle.gerber_layer.specs.Layer.{stop_command}
 use Rattle.macro_flatten.proofs.Cut.{AreWords, IsWord, entries_of, lines_words}
-use Rattle.macro_flatten.proofs.Digits.{digit_is_not, no_minus, runs, unsigned_digits, wider, written}
+use Rattle.macro_flatten.proofs.Digits.{no_minus, unsigned_digits, written}
 use Rattle.macro_flatten.proofs.History.{as_read, behind, behind-append, clean_then, figure_in, pieces_then, told}
 use Rattle.macro_flatten.specs.FlatText.{Line, extended, spelled, word}
+use Rattle.macro_flatten.proofs.Operations.{digit_numeric, plain_operation, two_numbers}
+use Rattle.macro_flatten.proofs.LineWords.{are_words-append}
+use Rattle.macro_flatten.proofs.Effects.{finishes_all}
 use Rattle.planar.specs.declared.Spot.{Spot}
 use Rattle.planar.specs.declared.TheConstants.{METRE}
 use Rattle.made_files.specs.MadeFiles.{MadeCopperIsRead, HasRoom, IsReadAs, beside, cell_at, copper, copper_of, next_to, round_pad, square_pad, track_between}
 use Rattle.texts.specs.Digits.{is_decimal_digit}
+use Rattle.texts.proofs.DigitBytes.{wider, digit_is_not}
 
 -- ---- Coordinates
 
@@ -57,14 +62,6 @@ record IsCoordinate (n : ℕ) : Type 0 where
   numeric : list_all is_numeric (decimal n) ≡ true
   number : is_number (decimal n) ≡ true
   value : (here : ℤ) → coordinate six Mm here (Some (decimal n)) ≡ Ok (pos (10 * n))
-
-digit_numeric : (c : ℕ) → is_decimal_digit c ≡ true → is_numeric c ≡ true
-digit_numeric c h = rw h (either (eqb c 43) (eqb c 45))
-  where
-    either : (a b : Bool) → (a || (b || true)) ≡ true
-    either true b = refl
-    either false true = refl
-    either false false = refl
 
 coordinate_is : (n : ℕ) → n ≤ 300_000_000 → IsCoordinate n
 unfolding coordinate
@@ -88,13 +85,6 @@ coordinate_is n low =
 abbrev operation_text : ℕ → ℕ → List ℕ → List ℕ
 operation_text x y code = 88 ∷ (decimal x ++ 89 ∷ (decimal y ++ code))
 
-two_numbers : (x y more : List ℕ) → list_all is_numeric x ≡ true → list_all is_numeric y ≡ true → from_x (88 ∷ (x ++ 89 ∷ (y ++ 68 ∷ more))) ≡ from_i (Some x) (Some y) (68 ∷ more)
-unfolding from_x
-two_numbers x y more nx ny =
-    let a = runs is_numeric x 89 (y ++ 68 ∷ more) nx refl in
-    let b = runs is_numeric y 68 more ny refl in
-    rw (a.front, a.behind, b.front, b.behind) refl
-
 draw_of : (x y : List ℕ) → is_number x ≡ true → is_number y ≡ true → from_i (Some x) (Some y) (codes "D01") ≡ operates (Some x) (Some y) (Some Draw)
 unfolding from_i operation_of code_in
 draw_of x y h k = rw (h, k) refl
@@ -106,10 +96,6 @@ move_of x y h k = rw (h, k) refl
 flash_code : (x y : List ℕ) → is_number x ≡ true → is_number y ≡ true → from_i (Some x) (Some y) (codes "D03") ≡ operates (Some x) (Some y) (Some Flash)
 unfolding from_i operation_of code_in
 flash_code x y h k = rw (h, k) refl
-
-plain_operation : (rest : List ℕ) → plain (88 ∷ rest) ≡ from_x (88 ∷ rest)
-unfolding plain coded operation
-plain_operation rest = refl
 
 abbrev at_place : ℕ → ℕ → Code → Command
 at_place x y code = operates (Some (decimal x)) (Some (decimal y)) (Some code)
@@ -192,10 +178,6 @@ selects_one k n a s d = rw (s.ended, d) refl
 ends_all : (k : Known) → IsSet k → effect k ends ≡ Ok (concludes k.pieces)
 unfolding effect row_of ended_block
 ends_all k s = rw (s.ended, s.outside, s.block) refl
-
-finishes_all : (k : Known) → k.settings.ended ≡ true → effect k finishes ≡ Ok stays
-unfolding effect
-finishes_all k over = rw over refl
 
 -- corners of the square pad lie within 1 m
 abbrev within : ℤ → Bool
@@ -308,7 +290,7 @@ edges_left p square figures h n s room =
 
 -- ---- The copper of a cell
 
-spot_is : (x x' y y' : ℕ) → x ≡ x' → y ≡ y' → ◌≡◌ {A = Spot} (record { x = pos x; y = pos y }) (record { x = pos x'; y = pos y' })
+pub spot_is : (x x' y y' : ℕ) → x ≡ x' → y ≡ y' → ◌≡◌ {A = Spot} (record { x = pos x; y = pos y }) (record { x = pos x'; y = pos y' })
 spot_is x x' y y' e f = rw (e, f) refl
 
 -- the coordinates of a place
@@ -484,10 +466,6 @@ operation_word x y code left low h =
     let whole : list_all is_plain (decimal x ++ 89 ∷ (decimal y ++ code)) ≡ true = list_all-append is_plain (decimal x) (89 ∷ (decimal y ++ code)) ∙ rw (number_plain x left, tail) refl in
     (refl, whole)
 
-words_both : (xs ys : List Line) → AreWords xs → AreWords ys → AreWords (xs ++ ys)
-words_both [] ys h k = k
-words_both (x ∷ xs) ys h k = (h.0, words_both xs ys h.1 k)
-
 words_either : (b : Bool) (xs ys : List Line) → AreWords xs → AreWords ys → AreWords (if b then xs else ys)
 words_either true xs ys h k = h
 words_either false xs ys h k = k
@@ -503,13 +481,13 @@ cell_words Top is seed size i low =
     let x : ℕ = 2_500_000 * column i in
     let y : ℕ = 2_500_000 * row i in
     let track : List Line = if is_broken seed i then [] else track_lines x y (x + 1_200_000) in
-    words_both (pad_at (codes "D10") i) (pad_lines (codes "D11") (x + 1_200_000) y ++ track) (pad_words (codes "D10") x y (refl, refl) (omega arith) (omega (arith, low)))
-    (words_both (pad_lines (codes "D11") (x + 1_200_000) y) track (pad_words (codes "D11") (x + 1_200_000) y (refl, refl) (omega arith) (omega (arith, low)))
+    are_words-append (pad_at (codes "D10") i) (pad_lines (codes "D11") (x + 1_200_000) y ++ track) (pad_words (codes "D10") x y (refl, refl) (omega arith) (omega (arith, low)))
+    (are_words-append (pad_lines (codes "D11") (x + 1_200_000) y) track (pad_words (codes "D11") (x + 1_200_000) y (refl, refl) (omega arith) (omega (arith, low)))
     (words_either (is_broken seed i) [] (track_lines x y (x + 1_200_000)) tt (track_words x y (x + 1_200_000) (omega arith) (omega (arith, low)) (omega arith))))
 cell_words Bottom is seed size i low =
     let x : ℕ = 2_500_000 * column i in
     let y : ℕ = 2_500_000 * row i in
-    words_both (pad_at (codes "D10") i) (if is_bridged seed size i then track_lines x y (x + 2_500_000) else []) (pad_words (codes "D10") x y (refl, refl) (omega arith) (omega (arith, low)))
+    are_words-append (pad_at (codes "D10") i) (if is_bridged seed size i then track_lines x y (x + 2_500_000) else []) (pad_words (codes "D10") x y (refl, refl) (omega arith) (omega (arith, low)))
     (words_either (is_bridged seed size i) (track_lines x y (x + 2_500_000)) [] (track_words x y (x + 2_500_000) (omega arith) (omega (arith, low)) (omega arith)) tt)
 cell_words Holes is seed size i low = absurd is
 cell_words Points is seed size i low = absurd is
@@ -522,7 +500,7 @@ head_words Points is = absurd is
 
 lines_words_to : (part : Part) → IsCopper part → (seed size n : ℕ) → n ≤ 10_000 → AreWords (lines_to part seed size n)
 lines_words_to part is seed size zero few = head_words part is
-lines_words_to part is seed size (suc i) few = words_both (lines_to part seed size i) (cell_lines part seed size i) (lines_words_to part is seed size i (omega (arith, few))) (cell_words part is seed size i (omega (arith, few)))
+lines_words_to part is seed size (suc i) few = are_words-append (lines_to part seed size i) (cell_lines part seed size i) (lines_words_to part is seed size i (omega (arith, few))) (cell_words part is seed size i (omega (arith, few)))
 
 -- ---- How much copper there is
 
@@ -636,7 +614,7 @@ cell_then Bottom is p seed size i figures h low room edges s =
 cell_then Holes is p seed size i figures h low room edges s = absurd is
 cell_then Points is p seed size i figures h low room edges s = absurd is
 
-standing : (part : Part) → IsCopper part → (p : Place) (seed size n : ℕ) → n ≤ size → size ≤ 10_000 → HasRoom size p → Stands p (square_in part) (copper part seed size n) (behind [] (lines_to part seed size n))
+standing : (part : Part) → IsCopper part → (p : Place) (seed size n : ℕ) → n ≤ size → size ≤ MOST_CELLS → HasRoom size p → Stands p (square_in part) (copper part seed size n) (behind [] (lines_to part seed size n))
 standing part is p seed size zero below few room = head_told part is p
 standing part is p seed size (suc i) below few room =
     let so_far = few_so_far part seed size i in
@@ -703,10 +681,10 @@ lines_read p square figures lines words s =
       are = s.are;
     }
 
-copper_read : (part : Part) → IsCopper part → (seed size : ℕ) (p : Place) → size ≤ 10_000 → HasRoom size p → IsReadAs (part_text part seed size) p (copper part seed size size)
+copper_read : (part : Part) → IsCopper part → (seed size : ℕ) (p : Place) → size ≤ MOST_CELLS → HasRoom size p → IsReadAs (part_text part seed size) p (copper part seed size size)
 copper_read part is seed size p few room =
     let lines : List Line = lines_to part seed size size in
-    let words = words_both lines (word (codes "M02") ∷ []) (lines_words_to part is seed size size few) ((refl, refl), tt) in
+    let words = are_words-append lines (word (codes "M02") ∷ []) (lines_words_to part is seed size size few) ((refl, refl), tt) in
     subst (λ (t : List ℕ). IsReadAs t p (copper part seed size size)) (sym (text_spelled part is seed size)) (lines_read p (square_in part) (copper part seed size size) lines words (standing part is p seed size size (omega arith) few room))
 
 pub made_copper_is_read : MadeCopperIsRead

@@ -17,15 +17,16 @@ use Rattle.lengths.specs.Grid.{position_of, size_of}
 use Rattle.lengths.specs.declared.decimal.Unit.TheVariants.{Mm}
 use Rattle.planar.specs.declared.TheConstants.{METRE}
 use Rattle.std.specs.Prelude.{◌/◌, ◌%◌, nat_lt}
-use Rattle.made_files.proofs.LineTexts.{IsPlain, each_of, is_plain, spelled, text_cut, texts}
+use Rattle.texts.proofs.LineTexts.{IsPlain, each_of, is_plain, spelled, text_cut, texts}
 use Rattle.made_files.proofs.Tenths.{IsTenths, is_mark, tenths_read}
 use Rattle.made_files.specs.MadeFiles.{MadeHolesAreRead, cell_at, hole_of, holes}
 use Rattle.texts.specs.Blanks.{is_blank, trimmed, without_back, without_front}
 use Rattle.texts.specs.Lines.{PlainLine, lines_of}
+use Rattle.texts.proofs.DigitBytes.{wider}
 use Rattle.xnc.specs.DrillEffects.{Effect, Known, stays, drills, barrel, body, define, diameter, diameter_of, effect, header, hit as hit_effect, staged, target, value_of}
 use Rattle.xnc.specs.DrillFile.{item_of, items}
 use Rattle.xnc.specs.DrillLines.{behind_x, body_line, both, command, coordinates_of, form_of, line_with, is_g, is_y, place_line, tool_line, tool_number, within_blanks}
-use Rattle.xnc.specs.FaultPlace.{Place}
+use Rattle.xnc.specs.Places.{Place}
 use Rattle.xnc.specs.Settings.{barrels_at, defined_at, down_at, effect_at, known_at, mode_in, piece_of, stage_at, tool_at, unit_at}
 use Rattle.xnc.specs.declared.kind.DrillKind.{DrillKind}
 use Rattle.xnc.specs.declared.line.Coordinates.{Coordinates}
@@ -42,14 +43,6 @@ is_dark b = nat_le 33 b
 
 abbrev IsDark : List ℕ → Type 0
 IsDark text = list_all is_dark text ≡ true
-
-pub wider : (p q : ℕ → Bool) → ((x : ℕ) → p x ≡ true → q x ≡ true) → (xs : List ℕ) → list_all p xs ≡ true → list_all q xs ≡ true
-wider p q more [] h = refl
-wider p q more (x ∷ xs) h = by (p x) refl h (wider p q more xs)
-  where
-    by : (b : Bool) → p x ≡ b → (b && list_all p xs) ≡ true → (list_all p xs ≡ true → list_all q xs ≡ true) → (q x && list_all q xs) ≡ true
-    by true e k rest = rw (more x e, rest k) refl
-    by false e k rest = cc
 
 mark_is_not : (n c : ℕ) → is_mark n ≡ false → is_mark c ≡ true → eqb c n ≡ false
 mark_is_not n c other mark = by (eqb c n) refl

@@ -1,6 +1,6 @@
 -- The netlist of a made board is read.
 use Rattle.std.proofs.Common.{◌≡◌, ℕ, zero, suc, ◌+◌, ◌*◌, ◌<◌, ◌≤◌, Bool, true, false, ◌&&◌, ◌||◌, ◌==◌, eqb, nat_le, List, [], ◌∷◌, ◌++◌, length, map, drop, get_or, reverse, pos, Option, Some, Result, Ok, IsOk, codes, refl, sym, ap, ◌∙◌, subst, arith, append_assoc, append-nil}
-use Rattle.std.proofs.lemmas.Bool.{agree_below_at, and_parts, cond-false, cond-true, eq-eqb, false_from_ne_true, false≢true, le-ltb, eqb-true, le-leb, lt-leb, lt-ltb, ltb-true}
+use Rattle.std.proofs.lemmas.Bool.{agree_below_at, and_parts, cond-false, cond-true, eq-eqb, false_from_ne_true, false≢true, le-ltb, eqb-true, le-leb, lt-leb}
 use Rattle.std.proofs.lemmas.Fmt.{decimal_injective, decimal_is_IsNumeral, length-decimal-le}
 use Rattle.std.specs.Fmt.{digits}
 use Rattle.std.specs.List.{AllByRecursion, flat_map, list_all, list_any, position_or_len}
@@ -8,17 +8,16 @@ use Rattle.std.proofs.lemmas.List.{length-append, map-append, reverse-append, re
 use Rattle.std.proofs.lemmas.List.Concat.{flat_map-append}
 use Rattle.std.proofs.lemmas.List.Folds.{list_all-append, list_any-append}
 use Rattle.std.specs.Prelude.{decimal, nat_lt}
-use Rattle.std.specs.Str.Parse.{AllDigits, digits_value}
+use Rattle.std.specs.Str.Parse.{digits_value}
 use Rattle.board_maker.specs.MadeBoard.{cells, column, name, part_text, row, six, test_record, test_records}
-use Rattle.made_files.proofs.LineTexts.{IsPlain, each_of, is_plain, spelled, text_cut, texts}
-use Rattle.made_files.proofs.MadeHoles.{all_with, first_place, wider}
+use Rattle.texts.proofs.LineTexts.{IsPlain, each_of, is_plain, spelled, text_cut, texts}
+use Rattle.made_files.proofs.MadeHoles.{all_with, first_place}
 use Rattle.made_files.specs.MadeFiles.{MadePointsAreRead, beside, cell_at, cell_name, names, point, points}
-use Rattle.std.proofs.lemmas.Str.Parse.{digit_from_value}
+use Rattle.made_files.proofs.MadeCopper.{spot_is}
 use Rattle.ipc356_records.specs.declared.line.Coordinate.{Coordinate}
 use Rattle.board_maker.specs.declared.files.Part.TheVariants.{Points}
 use Rattle.board_shapes.specs.declared.probe.Probe.{Probe}
 use Rattle.file_reading.specs.Reading.{Clean, Item, said}
-use Rattle.ipc356_records.specs.Columns.{words}
 use Rattle.ipc356_records.specs.Line.{RecordLine, TestFields, units, ends, tests, finishes}
 use Rattle.ipc356_records.specs.Names.{index_of, is_name, with_name}
 use Rattle.ipc356_records.specs.NetlistFile.{Netlist, effect_at, item_of, items, probes_in, probes_of}
@@ -30,9 +29,11 @@ use Rattle.lengths.specs.declared.decimal.Unit.TheVariants.{Mm}
 use Rattle.planar.specs.declared.Spot.{Spot}
 use Rattle.planar.specs.declared.TheConstants.{METRE}
 use Rattle.texts.specs.Lines.{PlainLine, lines_of}
-use Rattle.ipc356_records.specs.RecordLines.{access_in, coded, coordinate_in, digits_in, fields_in, form_of, is_graphic, name_of, number_of, parameter, signed_number, unit_of}
-use Rattle.texts.specs.Blanks.{is_blank, trimmed, without_front}
+use Rattle.ipc356_records.specs.RecordLines.{access_in, coordinate_in, digits_in, fields_in, form_of, name_of, number_of, signed_number}
+use Rattle.ipc356_records.proofs.Written.{digit_graphic, through, on_one, reads_units, reads_end, finishes_all}
+use Rattle.texts.specs.Blanks.{trimmed, without_front}
 use Rattle.texts.specs.Digits.{is_decimal_digit}
+use Rattle.texts.proofs.DigitBytes.{wider, digit_no_blank, digit_plain, all_digits}
 
 -- ---- Six digits
 
@@ -109,23 +110,6 @@ fields_are code access d xs ys some few six also =
 
 -- ---- Digits
 
-digit_is_not : (n c : ℕ) → is_decimal_digit n ≡ false → is_decimal_digit c ≡ true → eqb c n ≡ false
-digit_is_not n c other digit = by (eqb c n) refl
-  where
-    by : (b : Bool) → eqb c n ≡ b → eqb c n ≡ false
-    by true e = let same : c ≡ n = eqb-true c n e in let k : is_decimal_digit c ≡ false = rw same other in cc
-    by false e = e
-
-no_blank : (c : ℕ) → is_decimal_digit c ≡ true → is_blank c ≡ false
-no_blank c h = rw (digit_is_not 9 c refl h, digit_is_not 32 c refl h) refl
-
-graphic : (c : ℕ) → is_decimal_digit c ≡ true → is_graphic c ≡ true
-graphic c h =
-    let r = digit_from_value c (ltb-true _ _ h) in
-    let low = r.0 in
-    let high = r.1 in
-    rw (le-leb 33 c (omega (arith, low)), le-leb c 126 (omega (arith, high))) refl
-
 digit_at : (d : List ℕ) → list_all is_decimal_digit d ≡ true → (i : ℕ) → i < length d → is_decimal_digit (get_or d i 0) ≡ true
 digit_at d all i below = each_of is_decimal_digit d all i 0 below
 
@@ -135,10 +119,10 @@ NameIsBack d = list_all is_decimal_digit d ≡ true → name_of (trimmed (padded
 name_back : (d : List ℕ) → 1 ≤ length d → length d ≤ 4 → NameIsBack d
 unfolding name_of
 name_back d some few = as_few NameIsBack
-    (λ a all. let i = digit_at (a ∷ []) all 0 (omega arith) in rw (no_blank a i, graphic a i) refl)
-    (λ a b all. let i = digit_at (a ∷ b ∷ []) all 0 (omega arith) in let j = digit_at (a ∷ b ∷ []) all 1 (omega arith) in rw (no_blank b j, graphic a i, graphic b j) refl)
-    (λ a b c all. let i = digit_at (a ∷ b ∷ c ∷ []) all 0 (omega arith) in let j = digit_at (a ∷ b ∷ c ∷ []) all 1 (omega arith) in let k = digit_at (a ∷ b ∷ c ∷ []) all 2 (omega arith) in rw (no_blank c k, graphic a i, graphic b j, graphic c k) refl)
-    (λ a b c e all. let i = digit_at (a ∷ b ∷ c ∷ e ∷ []) all 0 (omega arith) in let j = digit_at (a ∷ b ∷ c ∷ e ∷ []) all 1 (omega arith) in let k = digit_at (a ∷ b ∷ c ∷ e ∷ []) all 2 (omega arith) in let l = digit_at (a ∷ b ∷ c ∷ e ∷ []) all 3 (omega arith) in rw (no_blank e l, graphic a i, graphic b j, graphic c k, graphic e l) refl)
+    (λ a all. let i = digit_at (a ∷ []) all 0 (omega arith) in rw (digit_no_blank a i, digit_graphic a i) refl)
+    (λ a b all. let i = digit_at (a ∷ b ∷ []) all 0 (omega arith) in let j = digit_at (a ∷ b ∷ []) all 1 (omega arith) in rw (digit_no_blank b j, digit_graphic a i, digit_graphic b j) refl)
+    (λ a b c all. let i = digit_at (a ∷ b ∷ c ∷ []) all 0 (omega arith) in let j = digit_at (a ∷ b ∷ c ∷ []) all 1 (omega arith) in let k = digit_at (a ∷ b ∷ c ∷ []) all 2 (omega arith) in rw (digit_no_blank c k, digit_graphic a i, digit_graphic b j, digit_graphic c k) refl)
+    (λ a b c e all. let i = digit_at (a ∷ b ∷ c ∷ e ∷ []) all 0 (omega arith) in let j = digit_at (a ∷ b ∷ c ∷ e ∷ []) all 1 (omega arith) in let k = digit_at (a ∷ b ∷ c ∷ e ∷ []) all 2 (omega arith) in let l = digit_at (a ∷ b ∷ c ∷ e ∷ []) all 3 (omega arith) in rw (digit_no_blank e l, digit_graphic a i, digit_graphic b j, digit_graphic c k, digit_graphic e l) refl)
     d some few
 
 number_is : (ds : List ℕ) → 1 ≤ length ds → list_all is_decimal_digit ds ≡ true → number_of ds ≡ Some (digits_value 10 ds)
@@ -146,7 +130,7 @@ unfolding digits_in
 number_is [] some all = absurd (omega (arith, some))
 number_is (d ∷ ds) some all =
     let here : is_decimal_digit d ≡ true = digit_at (d ∷ ds) all 0 (omega arith) in
-    let whole : without_front (d ∷ ds) ≡ d ∷ ds = rw (no_blank d here) refl in
+    let whole : without_front (d ∷ ds) ≡ d ∷ ds = rw (digit_no_blank d here) refl in
     ap digits_in whole ∙ rw all refl
 
 abbrev steps : ℕ → Coordinate
@@ -161,10 +145,6 @@ record HasFewDigits (d : List ℕ) : Type 0 where
   some : 1 ≤ length d
   few : length d ≤ 4
   all : list_all is_decimal_digit d ≡ true
-
-all_digits : (cs : List ℕ) → AllDigits 10 cs → list_all is_decimal_digit cs ≡ true
-all_digits [] h = refl
-all_digits (c ∷ cs) h = rw (lt-ltb _ _ h.0, all_digits cs h.1) refl
 
 cell_digits : (i : ℕ) → i < 10_000 → HasFewDigits (decimal i)
 cell_digits i low =
@@ -184,14 +164,6 @@ record_fields code digit access i x y xs ys low number h k =
     ∙ (ap (λ (o : Option ℕ). fields (Some (cell_name i)) o (signed_number 43 (number_of xs)) (signed_number 43 (number_of ys))) number
     ∙ (ap (λ (o : Option Coordinate). fields (Some (cell_name i)) (Some access) o (signed_number 43 (number_of ys))) (six_back x xs h)
     ∙ ap (λ (o : Option Coordinate). fields (Some (cell_name i)) (Some access) (Some (steps x)) o) (six_back y ys k))))
-
-through : (rest : List ℕ) → form_of (51 ∷ 49 ∷ 55 ∷ rest) ≡ tests (fields_in (51 ∷ 49 ∷ 55 ∷ rest))
-unfolding form_of coded
-through rest = refl
-
-on_one : (rest : List ℕ) → form_of (51 ∷ 50 ∷ 55 ∷ rest) ≡ tests (fields_in (51 ∷ 50 ∷ 55 ∷ rest))
-unfolding form_of coded
-on_one rest = refl
 
 -- the two lines of a cell
 abbrev hole_line : ℕ → List ℕ
@@ -244,9 +216,6 @@ cells_spelled (suc i) =
 
 text_spelled : (seed n : ℕ) → part_text Points seed n ≡ flat_map spelled (lines_to n ++ codes "999" ∷ [])
 text_spelled seed n = ap (λ (t : List ℕ). t ++ codes "999\n") (cells_spelled n) ∙ sym (flat_map-append spelled (lines_to n) (codes "999" ∷ []))
-
-digit_plain : (c : ℕ) → is_decimal_digit c ≡ true → is_plain c ≡ true
-digit_plain c h = let r = digit_from_value c (ltb-true _ _ h) in let low = r.0 in le-leb 32 c (omega (arith, low))
 
 plain_digits : (xs : List ℕ) → list_all is_decimal_digit xs ≡ true → IsPlain xs
 plain_digits xs h = wider is_decimal_digit is_plain digit_plain xs h
@@ -344,10 +313,6 @@ closes_all : (k : Known) → k.ended ≡ false → effect k ends ≡ Ok closes
 unfolding effect row_of
 closes_all k ongoing = rw ongoing refl
 
-finishes_all : (k : Known) → k.ended ≡ true → effect k finishes ≡ Ok stays
-unfolding effect
-finishes_all k over = rw over refl
-
 -- ---- The history
 
 abbrev hole_says : ℕ → RecordLine
@@ -400,9 +365,6 @@ point_then count ns ps h i access x y s low reach left up =
           ∙ ap (λ (names : List (List ℕ)). ps ++ map (probe_at (count + 1) (index_of (cell_name i) names) at) (layers_of 2 access)) s.named_so));
     }
 
-spot_is : (x x' y y' : ℕ) → x ≡ x' → y ≡ y' → ◌≡◌ {A = Spot} (record { x = pos x; y = pos y }) (record { x = pos x'; y = pos y' })
-spot_is x x' y y' e f = rw (e, f) refl
-
 number_is_next : (i : ℕ) → 2 * i + 1 + 1 ≡ 2 * i + 2
 number_is_next i = omega arith
 
@@ -433,14 +395,6 @@ standing (suc i) few =
     (subst (λ (ps : List Probe). Stands (2 * i + 1 + 1) (with_name (cell_name i) (names (suc i))) ((points i ++ (point (2 * i + 1) i (cell_at i) 1 ∷ point (2 * i + 1) i (cell_at i) 2 ∷ [])) ++ ps) (behind (suc i))) second two)))
 
 -- ---- The whole
-
-reads_units : form_of (codes "P  UNITS CUST 1") ≡ units (Some Mm)
-unfolding form_of parameter unit_of words
-reads_units = refl
-
-reads_end : form_of (codes "999") ≡ ends
-unfolding form_of coded
-reads_end = refl
 
 forms_back : (n : ℕ) → n ≤ 10_000 → reverse (map form_of (lines_to n)) ≡ behind n
 forms_back zero few = ap (λ (f : RecordLine). f ∷ []) reads_units

@@ -3,6 +3,7 @@ use Rattle.std.specs.Prelude.{◌≡◌, ℕ, zero, suc, ◌+◌, ◌*◌, ◌�
 use Rattle.board_maker.specs.MadeBoard.{column, is_bridged, is_broken, part_text, row}
 use Rattle.board_maker.specs.declared.files.Part.{Part}
 use Rattle.board_maker.specs.declared.files.Part.TheVariants.{Top, Bottom, Holes, Points}
+use Rattle.board_maker.specs.declared.TheConstants.{MOST_CELLS}
 use Rattle.board_shapes.specs.Figures.{Figure, filled, round}
 use Rattle.board_shapes.specs.Pieces.{PlainPiece}
 use Rattle.board_shapes.specs.Rectangles.{lower, rectangle, upper}
@@ -12,7 +13,7 @@ use Rattle.gerber_layer.specs.Layer as layer_file
 use Rattle.ipc356_records.specs.NetlistFile as netlist_file
 use Rattle.planar.specs.declared.Spot.{Spot}
 use Rattle.xnc.specs.DrillFile as drill_file
-use Rattle.xnc.specs.FaultPlace.{Place}
+use Rattle.xnc.specs.Places.{Place}
 
 -- the place of a cell, in u
 abbrev pub cell_at : ℕ → Spot
@@ -38,7 +39,7 @@ bores (suc i) = bores i ++ bore i ∷ []
 
 -- The drill file of a made board is read where there is room, as a hole in each cell.
 abbrev pub MadeHolesAreRead : Type 0
-MadeHolesAreRead = (seed size : ℕ) (p : Place) → size ≤ 10_000 → size ≤ p.room → drill_file.IsRead (part_text Holes seed size) p (holes p size)
+MadeHolesAreRead = (seed size : ℕ) (p : Place) → size ≤ MOST_CELLS → size ≤ p.room → drill_file.IsRead (part_text Holes seed size) p (holes p size)
 
 -- the place beside it, of the square pad
 abbrev pub beside : ℕ → Spot
@@ -66,7 +67,7 @@ names (suc i) = names i ++ cell_name i ∷ []
 
 -- The netlist of a made board is read, as the points and the name of each cell.
 abbrev pub MadePointsAreRead : Type 0
-MadePointsAreRead = (seed size : ℕ) → size ≤ 10_000 → netlist_file.IsRead (part_text Points seed size) 2 (points size) (names size)
+MadePointsAreRead = (seed size : ℕ) → size ≤ MOST_CELLS → netlist_file.IsRead (part_text Points seed size) 2 (points size) (names size)
 
 -- ---- Copper
 
@@ -110,5 +111,5 @@ pub record HasRoom (size : ℕ) (p : LayerPlace) : Type 0 where
 
 -- The copper files of a made board are read, as the copper of each cell.
 pub record MadeCopperIsRead : Type 0 where
-  pub top : (seed size : ℕ) (p : LayerPlace) → size ≤ 10_000 → HasRoom size p → IsReadAs (part_text Top seed size) p (copper Top seed size size)
-  pub bottom : (seed size : ℕ) (p : LayerPlace) → size ≤ 10_000 → HasRoom size p → IsReadAs (part_text Bottom seed size) p (copper Bottom seed size size)
+  pub top : (seed size : ℕ) (p : LayerPlace) → size ≤ MOST_CELLS → HasRoom size p → IsReadAs (part_text Top seed size) p (copper Top seed size size)
+  pub bottom : (seed size : ℕ) (p : LayerPlace) → size ≤ MOST_CELLS → HasRoom size p → IsReadAs (part_text Bottom seed size) p (copper Bottom seed size size)

@@ -2,6 +2,7 @@
 use Rattle.std.specs.Prelude.{◌≡◌, ℕ, ◌≤◌, ◌++◌, map, codes}
 use Rattle.board_maker.specs.MadePackage.{made_files}
 use Rattle.board_maker.specs.declared.files.Part.TheVariants.{Top, Bottom}
+use Rattle.board_maker.specs.declared.TheConstants.{MOST_CELLS}
 use Rattle.board_package.specs.PackageBoard.{IsBoardOf}
 use Rattle.board_shapes.specs.Plain.{PlainBoard}
 use Rattle.made_files.specs.MadeFiles.{bores, copper, names, points}
@@ -17,4 +18,4 @@ pub record HasBoard (seed size : ℕ) : Type 0 where
 
 -- every made package of at most 10,000 cells fits
 abbrev pub MadePackagesFit : Type 0
-MadePackagesFit = (seed size : ℕ) → size ≤ 10_000 → HasBoard seed size
+MadePackagesFit = (seed size : ℕ) → size ≤ MOST_CELLS → HasBoard seed size

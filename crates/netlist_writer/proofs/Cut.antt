@@ -1,63 +1,19 @@
 -- The lines that a text of lines is cut into.
-use Rattle.std.proofs.Common.{◌≡◌, ℕ, zero, suc, ◌+◌, ◌-◌, ◌<◌, Bool, true, false, ◌&&◌, eqb, nat_eq, nat_le, List, [], ◌∷◌, ◌++◌, length, map, drop, get_or, All, refl, sym, ap, ◌∙◌, subst, arith, append_assoc}
-use Rattle.std.proofs.lemmas.Bool.{eqb-true}
-use Rattle.std.proofs.lemmas.List.Elements.{All-from_get_or}
+use Rattle.std.proofs.Common.{◌≡◌, ℕ, ◌+◌, ◌<◌, List, [], ◌∷◌, ◌++◌, length, map, refl, ap, ◌∙◌, arith, append_assoc}
 use Rattle.std.proofs.lemmas.List.Splits.{length-slice_split, slice_split_at}
-use Rattle.std.specs.Cmp.Lexicographic.{pointwise}
-use Rattle.std.specs.List.{flat_map, list_all, slice_split, AllByRecursion}
+use Rattle.std.specs.List.{flat_map, slice_split, AllByRecursion}
 use Rattle.texts.specs.Lines.{is_feed, without_return, lines_in, lines_from, lines_of}
+use Rattle.texts.proofs.LineTexts.{IsPlain, no_feeds, whole_line}
 use Rattle.file_reading.specs.Reading.{Item}
 use Rattle.ipc356_records.specs.Line.{RecordLine}
 use Rattle.ipc356_records.specs.NetlistFile.{item_of}
 use Rattle.ipc356_records.specs.RecordLines.{form_of}
 use Rattle.netlist_writer.specs.WrittenNetlist.{spelled}
-use Rattle.netlist_writer.proofs.TestLines.{each_is}
-
--- bytes from the blank on: no line feed or carriage return
-abbrev pub is_plain : ℕ → Bool
-is_plain b = nat_le 32 b
-
-abbrev pub IsPlain : List ℕ → Type 0
-IsPlain text = list_all is_plain text ≡ true
 
 -- lines by their forms, with their numbers from n on
 abbrev pub items_from : ℕ → List (List ℕ) → List (Item RecordLine)
 items_from n [] = []
 items_from n (l ∷ lines) = record { says = form_of l; at = n } ∷ items_from (n + 1) lines
-
-plain_no_feed : (b : ℕ) → is_plain b ≡ true → is_feed b ≡ false
-plain_no_feed b h = by (is_feed b) refl
-  where
-    by : (v : Bool) → is_feed b ≡ v → is_feed b ≡ false
-    by true e = let same : b ≡ 10 = eqb-true b 10 e in let k : is_plain 10 ≡ true = subst (λ (x : ℕ). is_plain x ≡ true) same h in cc
-    by false e = e
-
-no_feeds : (text : List ℕ) → IsPlain text → All (λ b. is_feed b ≡ false) text
-no_feeds text h = All-from_get_or (λ b. is_feed b ≡ false) text 0 (λ i below. plain_no_feed (get_or text i 0) (each_is is_plain text h i 0 below))
-
-all_behind : (n : ℕ) (text : List ℕ) → IsPlain text → IsPlain (drop n text)
-all_behind n [] h = by n
-  where
-    by : (n : ℕ) → IsPlain (drop n [])
-    by zero = refl
-    by (suc n) = refl
-all_behind zero (b ∷ text) h = h
-all_behind (suc n) (b ∷ text) h = by (is_plain b) h (λ k. all_behind n text k)
-  where
-    by : (v : Bool) → (v && list_all is_plain text) ≡ true → (IsPlain text → IsPlain (drop n text)) → IsPlain (drop n text)
-    by true k more = more k
-    by false k more = cc
-
-no_return_first : (text : List ℕ) → IsPlain text → pointwise nat_eq (13 ∷ []) text ≡ false
-no_return_first [] h = refl
-no_return_first (b ∷ text) h = by (eqb 13 b) refl
-  where
-    by : (v : Bool) → eqb 13 b ≡ v → (v && pointwise nat_eq [] text) ≡ false
-    by true e = let same : 13 ≡ b = eqb-true 13 b e in let k : (is_plain 13 && list_all is_plain text) ≡ true = subst (λ (x : ℕ). (is_plain x && list_all is_plain text) ≡ true) (sym same) h in cc
-    by false e = refl
-
-whole_line : (text : List ℕ) → IsPlain text → without_return text ≡ text
-whole_line text h = rw (no_return_first (drop (length text - 1) text) (all_behind (length text - 1) text h)) refl
 
 -- a part that others follow
 part_then : (n at : ℕ) (part : List ℕ) (parts : List (List ℕ)) → 0 < length parts → map item_of (lines_in n at (part ∷ parts)) ≡ record { says = form_of (without_return part); at = n } ∷ map item_of (lines_in (n + 1) (at + length part + 1) parts)

@@ -9,13 +9,12 @@ use Rattle.lengths.specs.Decimal.{signed}
 use Rattle.lengths.specs.declared.decimal.Unit.TheVariants.{Mm}
 use Rattle.board_shapes.specs.declared.probe.Probe.{Probe}
 use Rattle.ipc356_records.specs.declared.kind.RecordKind.{RecordKind}
-use Rattle.ipc356_records.specs.Columns.{words}
 use Rattle.ipc356_records.specs.Line.{RecordLine, unread, units, ends, tests, finishes}
 use Rattle.ipc356_records.specs.Names.{index_of, with_name}
 use Rattle.file_reading.specs.Reading.{Clean}
 use Rattle.ipc356_records.specs.NetlistFile.{effect_at, probes_in, probes_of}
 use Rattle.ipc356_records.specs.Settings.{has_ended, known_at, names_of, records_before, unit_before}
-use Rattle.ipc356_records.specs.RecordLines.{form_of, coded, parameter, unit_of}
+use Rattle.ipc356_records.specs.RecordLines.{form_of}
 use Rattle.ipc356_records.specs.RecordEffects.{Known, Effect, stays, sets, closes, adds, effect, row, test_record, placed, set_unit, layers_of, probe_at, probes_of_effect}
 use Rattle.netlist_writer.specs.TestLine.{in_steps, net_name, sign_of, steps_of}
 use Rattle.netlist_writer.specs.WrittenNetlist.{TestPlace, netlist_lines, place_line, place_lines}
@@ -23,6 +22,7 @@ use Rattle.netlist_writer.specs.Laws.{names_after, present, probes_after}
 use Rattle.netlist_writer.proofs.TestLines.{IsCode, fields_of, in_record, record_back}
 use Rattle.board_shapes.specs.declared.TheConstants.{MOST_LAYERS}
 use Rattle.ipc356_records.specs.declared.TheConstants.{MOST_RECORDS}
+use Rattle.ipc356_records.proofs.Written.{reads_units, reads_end, finishes_all}
 use Rattle.planar.specs.declared.TheConstants.{METRE}
 
 -- ---- Coordinates
@@ -95,27 +95,15 @@ closes_all : (k : Known) → k.ended ≡ false → effect k ends ≡ Ok closes
 unfolding effect row
 closes_all k ongoing = rw ongoing refl
 
-finishes_all : (k : Known) → k.ended ≡ true → effect k finishes ≡ Ok stays
-unfolding effect
-finishes_all k over = rw over refl
-
 -- ---- Lines by themselves
 
 reads_heading : form_of (codes "C boardnet") ≡ unread
 unfolding form_of
 reads_heading = refl
 
-reads_units : form_of (codes "P  UNITS CUST 1") ≡ units (Some Mm)
-unfolding form_of parameter unit_of words
-reads_units = refl
-
 reads_comment : (p : ℕ) → form_of (codes "C piece " ++ decimal p) ≡ unread
 unfolding form_of
 reads_comment p = refl
-
-reads_end : form_of (codes "999") ≡ ends
-unfolding form_of coded
-reads_end = refl
 
 -- ---- Histories
 

@@ -2,10 +2,7 @@
 use Rattle.std.proofs.Common.{◌≡◌, ℕ, zero, suc, ◌+◌, ◌-◌, ◌^◌, ◌<◌, ◌≤◌, Bool, true, false, ◌||◌, ◌&&◌, eqb, List, [], ◌∷◌, ◌++◌, length, take, drop, get_or, replicate, ℤ, pos, negsuc, Option, Some, refl, sym, ap, ◌∙◌, arith, subst, length-append, append_assoc}
 use Rattle.std.proofs.lemmas.Bool.{eqb-true}
 use Rattle.std.proofs.lemmas.List.{get_or_append_left, get_or-append-add, length-replicate}
-use Rattle.std.proofs.lemmas.List.Folds.{list_all_at}
 use Rattle.std.proofs.lemmas.List.Sums.{suffix_len_is}
-use Rattle.std.proofs.lemmas.Str.Parse.{digit_from_value}
-use borrow.Author.Tests.{ltb-true, le-leb}
 use Rattle.std.proofs.Math.Seq.{take-append_seam, drop-append-add}
 use Rattle.std.specs.List.{list_all, suffix_len}
 use Rattle.std.specs.Prelude.{codes, decimal}
@@ -17,10 +14,13 @@ use Rattle.texts.specs.Blanks.{is_blank, trimmed, without_front, without_back}
 use Rattle.ipc356_records.specs.declared.line.Coordinate.{Coordinate}
 use Rattle.ipc356_records.specs.Columns.{laid, filled, part, column, columns, name_from, name_to, access_at, x_at, y_at}
 use Rattle.ipc356_records.specs.Line.{TestFields, tests}
-use Rattle.ipc356_records.specs.RecordLines.{is_graphic, name_of, digits_in, number_of, access_in, signed_number, coordinate_in, fields_in, coded, form_of}
+use Rattle.ipc356_records.specs.RecordLines.{is_graphic, name_of, digits_in, number_of, access_in, signed_number, coordinate_in, fields_in, form_of}
+use Rattle.ipc356_records.proofs.Written.{digit_graphic, through, on_one}
 use Rattle.netlist_writer.specs.TestLine.{steps_of, sign_of, coordinate, access_text, test_line, net_name}
 use Rattle.netlist_writer.proofs.Digits.{written, few_digits, two_value, six_value}
 use Rattle.texts.proofs.LastDigits.{last_are_digits, length-last_digits}
+use Rattle.texts.proofs.DigitBytes.{wider, digit_no_blank}
+use Rattle.texts.proofs.LineTexts.{each_of}
 
 -- ---- Blanks
 
@@ -77,26 +77,6 @@ line_parts a b c name access at few =
 
 -- ---- Reading back
 
--- what each byte of one kind is, it is of a wider kind
-pub wider : (p q : ℕ → Bool) → ((x : ℕ) → p x ≡ true → q x ≡ true) → (xs : List ℕ) → list_all p xs ≡ true → list_all q xs ≡ true
-wider p q f [] h = refl
-wider p q f (x ∷ xs) h = by (p x) refl h (wider p q f xs)
-  where
-    by : (b : Bool) → p x ≡ b → (b && list_all p xs) ≡ true → (list_all p xs ≡ true → list_all q xs ≡ true) → (q x && list_all q xs) ≡ true
-    by true e k more = rw (f x e, more k) refl
-    by false e k more = cc
-
--- a digit is no other byte
-pub digit_is_not : (n c : ℕ) → is_decimal_digit n ≡ false → is_decimal_digit c ≡ true → eqb c n ≡ false
-digit_is_not n c other digit = by (eqb c n) refl
-  where
-    by : (b : Bool) → eqb c n ≡ b → eqb c n ≡ false
-    by true e = let same : c ≡ n = eqb-true c n e in let k : is_decimal_digit c ≡ false = rw same other in cc
-    by false e = e
-
-digit_no_blank : (c : ℕ) → is_decimal_digit c ≡ true → is_blank c ≡ false
-digit_no_blank c h = rw (digit_is_not 9 c refl h, digit_is_not 32 c refl h) refl
-
 -- a number in columns that it fills
 pub number_is : (ds : List ℕ) → 1 ≤ length ds → list_all is_decimal_digit ds ≡ true → number_of ds ≡ Some (digits_value 10 ds)
 unfolding digits_in
@@ -128,13 +108,6 @@ take_name name rest few =
 
 -- ---- The net name
 
-digit_graphic : (c : ℕ) → is_decimal_digit c ≡ true → is_graphic c ≡ true
-digit_graphic c h =
-    let r = digit_from_value c (ltb-true _ _ h) in
-    let low = r.0 in
-    let high = r.1 in
-    rw (le-leb 33 c (omega (arith, low)), le-leb c 126 (omega (arith, high))) refl
-
 graphic_name : (n : ℕ) → n < 2 ^ 32 → list_all is_graphic (net_name n) ≡ true
 graphic_name n small = wider is_decimal_digit is_graphic digit_graphic (decimal n) (written n (omega (arith, small))).digits
 
@@ -146,20 +119,12 @@ graphic_no_blank c h = by (eqb c 9) (eqb c 32) refl refl
     by false true e f = let same : c ≡ 32 = eqb-true c 32 f in let k : is_graphic 32 ≡ true = subst (λ (x : ℕ). is_graphic x ≡ true) same h in cc
     by false false e f = rw (e, f) refl
 
--- of bytes of one kind, each is
-pub each_is : (p : ℕ → Bool) (xs : List ℕ) → list_all p xs ≡ true → (i d : ℕ) → i < length xs → p (get_or xs i d) ≡ true
-each_is p xs all i d below = by (p (get_or xs i d)) refl
-  where
-    by : (b : Bool) → p (get_or xs i d) ≡ b → p (get_or xs i d) ≡ true
-    by true e = e
-    by false e = let k : list_all p xs ≡ false = list_all_at p xs i d below e in cc
-
 -- the blanks behind a name are cut off
 trimmed_name : (b : ℕ) (name : List ℕ) → length (b ∷ name) ≤ 14 → list_all is_graphic (b ∷ name) ≡ true → trimmed (padded (b ∷ name)) ≡ b ∷ name
 unfolding padded
 trimmed_name b name few all =
     let whole : List ℕ = (b ∷ name) ++ blanks (14 - length (b ∷ name)) in
-    let front : without_front whole ≡ whole = rw (graphic_no_blank b (each_is is_graphic (b ∷ name) all 0 32 (omega arith))) refl in
+    let front : without_front whole ≡ whole = rw (graphic_no_blank b (each_of is_graphic (b ∷ name) all 0 32 (omega arith))) refl in
     let size : length whole ≡ 14 = length-padded (b ∷ name) few in
     let last : suffix_len is_blank whole ≡ length whole - length (b ∷ name) = suffix_len_is is_blank whole (length (b ∷ name)) 32 (omega (arith, size, few)) past_all (λ some. no_last some) in
     let cut : length whole - suffix_len is_blank whole ≡ length (b ∷ name) = omega (arith, last, size, few) in
@@ -175,7 +140,7 @@ trimmed_name b name few all =
     no_last : 0 < length (b ∷ name) → is_blank (get_or ((b ∷ name) ++ blanks (14 - length (b ∷ name))) (length (b ∷ name) - 1) 32) ≡ false
     no_last some =
         let here : length (b ∷ name) - 1 < length (b ∷ name) = omega (arith, some) in
-        ap is_blank (get_or_append_left (b ∷ name) (blanks (14 - length (b ∷ name))) 32 (length (b ∷ name) - 1) here) ∙ graphic_no_blank (get_or (b ∷ name) (length (b ∷ name) - 1) 32) (each_is is_graphic (b ∷ name) all (length (b ∷ name) - 1) 32 here)
+        ap is_blank (get_or_append_left (b ∷ name) (blanks (14 - length (b ∷ name))) 32 (length (b ∷ name) - 1) here) ∙ graphic_no_blank (get_or (b ∷ name) (length (b ∷ name) - 1) 32) (each_of is_graphic (b ∷ name) all (length (b ∷ name) - 1) 32 here)
 
 -- ---- A whole record
 
@@ -246,15 +211,6 @@ fields_back a b c n access at few small left low =
     ∙ (ap (λ (v : Option ℕ). fields (Some (net_name n)) v (coordinate_in 88 x_at line) (coordinate_in 89 y_at line)) two
     ∙ (ap (λ (v : Option Coordinate). fields (Some (net_name n)) (Some access) v (coordinate_in 89 y_at line)) three
     ∙ ap (λ (v : Option Coordinate). fields (Some (net_name n)) (Some access) (Some (in_record at.x)) v) four))
-
--- a record of either code is a test record
-through : (rest : List ℕ) → form_of (51 ∷ 49 ∷ 55 ∷ rest) ≡ tests (fields_in (51 ∷ 49 ∷ 55 ∷ rest))
-unfolding form_of coded
-through rest = refl
-
-on_one : (rest : List ℕ) → form_of (51 ∷ 50 ∷ 55 ∷ rest) ≡ tests (fields_in (51 ∷ 50 ∷ 55 ∷ rest))
-unfolding form_of coded
-on_one rest = refl
 
 pub data IsCode : List ℕ → Type 0 where
   hole : IsCode (codes "317")

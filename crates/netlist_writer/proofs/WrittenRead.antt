@@ -2,10 +2,8 @@
 use Rattle.std.proofs.Common.{◌≡◌, ℕ, zero, suc, ◌+◌, ◌-◌, ◌^◌, ◌<◌, ◌≤◌, true, List, [], ◌∷◌, ◌++◌, length, reverse, ℤ, pos, negsuc, Option, Some, None, refl, sym, ap, ◌∙◌, subst, arith, append_assoc, append-nil}
 use Rattle.std.proofs.lemmas.List.{reverse-append}
 use Rattle.std.proofs.lemmas.List.Folds.{list_all-append}
-use Rattle.std.proofs.lemmas.Str.Parse.{digit_from_value}
 use Rattle.std.specs.List.{flat_map, list_all, AllByRecursion}
 use Rattle.std.specs.Prelude.{decimal}
-use borrow.Author.Tests.{ltb-true, le-leb}
 use Rattle.planar.specs.declared.Spot.{Spot}
 use Rattle.board_shapes.specs.declared.probe.Probe.{Probe}
 use Rattle.texts.specs.Digits.{is_decimal_digit}
@@ -22,16 +20,15 @@ use Rattle.netlist_writer.specs.WrittenNetlist.{TestPlace, netlist_lines, netlis
 use Rattle.netlist_writer.specs.Laws.{ReadsBack, names_after, present, probes_after}
 use Rattle.netlist_writer.proofs.Digits.{written, few_digits}
 use Rattle.texts.proofs.LastDigits.{last_are_digits}
-use Rattle.netlist_writer.proofs.TestLines.{IsCode, hole, pad, blanks, line_parts, padded, tail, wider}
-use Rattle.netlist_writer.proofs.Cut.{IsPlain, is_plain, items_from, text_cut}
+use Rattle.texts.proofs.DigitBytes.{wider, digit_plain}
+use Rattle.texts.proofs.LineTexts.{is_plain, IsPlain}
+use Rattle.netlist_writer.proofs.TestLines.{IsCode, hole, pad, blanks, line_parts, padded, tail}
+use Rattle.netlist_writer.proofs.Cut.{items_from, text_cut}
 use Rattle.netlist_writer.proofs.Histories.{Ended, IsWritableIf, behind, ended-finish, netlist_then}
 use Rattle.board_shapes.specs.declared.TheConstants.{MOST_LAYERS}
 use Rattle.ipc356_records.specs.declared.TheConstants.{MOST_RECORDS}
 
 -- ---- Each line is one
-
-digit_plain : (c : ℕ) → is_decimal_digit c ≡ true → is_plain c ≡ true
-digit_plain c h = let r = digit_from_value c (ltb-true _ _ h) in let low = r.0 in le-leb 32 c (omega (arith, low))
 
 plain-append : (xs ys : List ℕ) → IsPlain xs → IsPlain ys → IsPlain (xs ++ ys)
 plain-append xs ys a b = list_all-append is_plain xs ys ∙ rw (a, b) refl

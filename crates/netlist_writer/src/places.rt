@@ -8,7 +8,7 @@ ghost use Rattle.netlist_writer.specs.WrittenNetlist as spec;
 use crate::record::{push_line, set_record};
 use board_shapes::{Piece, Shape};
 use contact::Capsule;
-use planar::Spot;
+use planar::{Spot, is_same};
 use std::alloc::AllocError;
 use texts::{put, put_number};
 
@@ -18,12 +18,6 @@ fn in_steps(z: i64) -> bool
 {
     let amount = z.unsigned_abs();
     amount % 10_000 == 0 && amount <= 9_999_990_000
-}
-
-fn is_same(a: Spot, b: Spot) -> bool
-    ensures { result ≡ spec.is_same a b }
-{
-    a.x == b.x && a.y == b.y
 }
 
 fn is_written(spot: Spot) -> bool

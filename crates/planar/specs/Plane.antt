@@ -1,5 +1,6 @@
 -- The plane: points with rational coordinates, and what it means to lie in a capsule.
-use Rattle.std.specs.Prelude.{ℕ, ◌*◌, nat_le, Bool, ◌&&◌, ℤ, pos, neg_ℤ, unsigned_abs, ◌+ℤ◌, ◌-ℤ◌, ◌*ℤ◌, ◌≤ℤ◌, ◌<ℤ◌, ◌⊎◌}
+use Rattle.std.specs.Prelude.{ℕ, ◌*◌, nat_le, Bool, ◌&&◌, ℤ, pos, neg_ℤ, unsigned_abs, ◌+ℤ◌, ◌-ℤ◌, ◌*ℤ◌, ◌≤ℤ◌, ◌<ℤ◌, ◌⊎◌, ⊤, List, [], ◌∷◌}
+use Rattle.std.specs.Ordering.{int_eq}
 use Rattle.planar.specs.declared.Frame.{Frame}
 use Rattle.planar.specs.declared.Spot.{Spot}
 use Rattle.planar.specs.declared.TheConstants.{METRE, MOST_REACH, SIDE, TWO_METRES}
@@ -73,6 +74,10 @@ IsPlaced p = IsReached p.x × IsReached p.y
 abbrev pub is_placed : Spot → Bool
 is_placed p = nat_le (unsigned_abs p.x) METRE && nat_le (unsigned_abs p.y) METRE
 
+-- the spots are one, as a test
+abbrev pub same_spot : Spot → Spot → Bool
+same_spot a b = int_eq a.x b.x && int_eq a.y b.y
+
 -- a spot that a way of a metre leads to from one within a metre
 abbrev pub IsReachable : Spot → Type 0
 IsReachable p = IsWithin TWO_METRES p.x × IsWithin TWO_METRES p.y
@@ -80,6 +85,11 @@ IsReachable p = IsWithin TWO_METRES p.x × IsWithin TWO_METRES p.y
 -- a way from there to a spot within a metre
 abbrev pub IsLong : Way → Type 0
 IsLong u = IsWithin (3 * METRE) u.x × IsWithin (3 * METRE) u.y
+
+-- what is said of two spots holds of the start and the end of each edge of the line from a through the spots; where there are none it says nothing
+abbrev pub EachFrom : (Spot → Spot → Type 0) → Spot → List Spot → Type 0
+EachFrom P a [] = ⊤
+EachFrom P a (b ∷ rest) = P a b × EachFrom P b rest
 
 -- z lies from low to low + SIDE
 abbrev pub IsInSide : ℤ → ℤ → Type 0

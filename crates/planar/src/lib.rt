@@ -4,7 +4,7 @@
 //! `places` asks that each coordinate lies between -10^10 and 10^10, one metre to each side of 0 (two, at the first
 //! spot of those of `ways`). Points of segments are rational: no call rounds, takes memory or refuses.
 //!
-//! - `places`: whether spots lie within one metre.
+//! - `places`: whether spots lie within one metre, and whether two are one.
 //! - `ways`: the cross and the scalar product of two ways.
 //! - `sides`: the hand of a line that a spot lies on; whether a ray crosses an edge.
 //! - `meeting`: whether two closed segments share a point.
@@ -21,7 +21,7 @@ mod ways;
 
 pub use distance::segments_within;
 pub use meeting::segments_meet;
-pub use places::{are_placed, is_placed};
+pub use places::{are_placed, is_placed, is_same};
 pub use sides::{ray_crosses, which_side};
 pub use ways::{cross, dot};
 

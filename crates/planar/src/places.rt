@@ -1,9 +1,17 @@
-//! Whether spots lie within one metre.
-ghost use Rattle.planar.specs.Plane.{IsPlaced, is_placed as has_place};
+//! Whether spots lie within one metre, and whether two are one.
+ghost use Rattle.planar.specs.Plane.{IsPlaced, is_placed as has_place, same_spot};
 ghost use Rattle.std.specs.List.{list_all};
 ghost use Rattle.std.specs.Prelude.{All, IsTrue, ◌≡◌, ◌↔◌};
 
 use super::{METRE, Spot};
+
+/// Whether both spots are one.
+pub fn is_same(a: Spot, b: Spot) -> bool
+    ensures value { result ≡ same_spot a b }
+    ensures same { IsTrue result ↔ a ≡ b }
+{
+    a == b
+}
 
 /// Whether the spot is at most one metre from 0 in x and y.
 pub fn is_placed(p: Spot) -> bool

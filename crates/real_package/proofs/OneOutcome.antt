@@ -9,7 +9,7 @@ use Rattle.gerber_layer.specs.declared.place.Place.{Place as LayerPlace}
 use Rattle.ipc356_records.specs.NetlistFile as netlist_file
 use Rattle.ipc356_records.specs.NetlistFile.{Netlist}
 use Rattle.xnc.specs.DrillFile as drill_file
-use Rattle.xnc.specs.FaultPlace.{Place as DrillPlace}
+use Rattle.xnc.specs.Places.{Place as DrillPlace}
 use Rattle.board_package.specs.Contents.{drill_in, layer_in}
 use Rattle.board_package.specs.PackageBoard.{IsHeldWith, Stop, StopsAtManifest, StopsTaking, WalksBy, absent, longer, refused}
 use Rattle.board_package.specs.declared.contents.Refusal.{Refusal}

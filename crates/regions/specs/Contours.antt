@@ -1,5 +1,6 @@
 -- A contour in the making is the list of its points.
-use Rattle.std.specs.Prelude.{Bool, false, ◌&&◌, not, ◌==◌, nat_lt, if◌then◌else◌, List, [], ◌∷◌, ◌++◌, length, ℤ, pos, negsuc, Option, Some, None, Result, Ok, Err, ◌≡◌, ◌<◌}
+use Rattle.std.specs.Prelude.{not, nat_lt, if◌then◌else◌, List, [], ◌∷◌, ◌++◌, length, Option, Some, None, Result, Ok, Err, ◌≡◌, ◌<◌}
+use Rattle.planar.specs.Plane.{same_spot}
 use Rattle.planar.specs.declared.Spot.{Spot}
 use Rattle.area_contact.specs.Contour.{end_from}
 use Rattle.area_contact.specs.declared.Area.{Area}
@@ -13,17 +14,6 @@ use Rattle.regions.specs.declared.contour.CloseFault.TheVariants.{Open, Short, N
 -- where the contour began, and where each of its edges ends
 abbrev pub points_of : Contour → List Spot
 points_of c = c.first ∷ c.ends.items
-
--- the numbers are equal
-abbrev pub same_number : ℤ → ℤ → Bool
-same_number (pos m) (pos n) = m == n
-same_number (negsuc m) (negsuc n) = m == n
-same_number (pos m) (negsuc n) = false
-same_number (negsuc m) (pos n) = false
-
--- the spots are one
-abbrev pub same_spot : Spot → Spot → Bool
-same_spot a b = same_number a.x b.x && same_number a.y b.y
 
 -- why a contour bounds no area: its last point is not its first, or it is closed with one or two edges
 pub data Flaw : Type 0 where

@@ -1,6 +1,7 @@
 //! The list of the gaps of a board.
 ghost use Rattle.board_shapes.specs.Plain.{plain_board};
 ghost use Rattle.gaps.specs.GapsText.{gaps_text};
+ghost use Rattle.gaps.specs.declared.TheConstants.{MOST_NANOMETRES};
 ghost use Rattle.reports.specs.Gapped.{IsGapListOn, IsGapStatus, IsUngapped};
 ghost use Rattle.reports.specs.Notes.{line_of, status_of};
 ghost use Rattle.reports.specs.Right.{IsRightOn};
@@ -17,7 +18,7 @@ use verdict::Verdict;
 /// The gaps of a board at a distance of at most 10,000,000 nm, between the nets of the right verdict on it. `FrameTooLarge`: the box of its
 /// pieces, grown by half the distance, has a side over 1 m.
 pub fn gap_list_on(alloc: Global, board: &Board, nanometres: u32) -> Result<Answer, GapFault>
-    requires { nanometres ≤ 10_000_000 }
+    requires { nanometres ≤ MOST_NANOMETRES }
     ensures ok { IfOk result (λ answer. IsGapListOn (plain_board board.now) nanometres answer.text.items (status_of answer.note) (line_of answer.note)) }
     ensures fault { IfErr result (IsUngapped (plain_board board.now) nanometres) }
 {
@@ -32,7 +33,7 @@ fn list_for(
     verdict: &Verdict,
     nanometres: u32,
 ) -> Result<Answer, GapFault>
-    requires distance { nanometres ≤ 10_000_000 }
+    requires distance { nanometres ≤ MOST_NANOMETRES }
     requires right { IsRightOn (plain_board board.now) verdict.now }
     ensures ok { IfOk result (λ answer. IsGapListOn (plain_board board.now) nanometres answer.text.items (status_of answer.note) (line_of answer.note)) }
     ensures fault { IfErr result (IsUngapped (plain_board board.now) nanometres) }

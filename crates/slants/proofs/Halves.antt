@@ -4,10 +4,10 @@ use lib.Signed.{lt_z}
 use Rattle.planar.specs.declared.Spot.{Spot}
 use Rattle.planar.specs.Plane.{Point}
 use Rattle.planar.proofs.Ring.{ring, linear, le_or_lt, times_from_zero, times_mono, times_cancel, over_zero, mul-neg}
-use Rattle.planar.proofs.EdgeLaw.{xor}
+use Rattle.planar.proofs.EdgeLaw.{xor, not_lt, not_le, is_lt, is_le, xor-same}
 use Rattle.area_contact.specs.declared.Edge.{Edge}
 use Rattle.area_contact.specs.Contour.{InArea, OnEdge, SomeEdge, edges_from, end_from}
-use Rattle.area_contact.specs.Parity.{crossed, is_le, is_lt, none_apart, not_le, not_lt, odd, odd_is, passes, side_of, xor-over, xor-same}
+use Rattle.area_contact.specs.Parity.{crossed, none_apart, odd, odd_is, passes, side_of, xor-over}
 use Rattle.slants.specs.Taken.{Each}
 
 -- the spot is not over h, where u tells how high it is

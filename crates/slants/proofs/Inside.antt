@@ -2,12 +2,13 @@
 use Rattle.std.proofs.Common.{Bool, true, false, not, ◌&&◌, ◌||◌, int_le, int_lt, ◌≡◌, ◌≤◌, ◌⊎◌, inl, inr, ℤ, pos, neg_ℤ, ◌+ℤ◌, ◌-ℤ◌, ◌*ℤ◌, ◌≤ℤ◌, ◌<ℤ◌, List, [], ◌∷◌, arith, refl, subst, sym, ◌∙◌}
 use lib.Signed.{lt_z}
 use Rattle.planar.specs.declared.Spot.{Spot}
-use Rattle.planar.specs.Plane.{InCapsule, Point, cross_of, square}
+use Rattle.planar.specs.Plane.{InCapsule, Point, cross_of, square, EachFrom}
 use Rattle.planar.proofs.Ring.{ring, linear, le_or_lt, times_from_zero, times_mono, times_cancel, over_zero, mul_comm, mul-neg, times-zero, zero-times, one-times, times-one}
+use Rattle.planar.proofs.EdgeLaw.{not_lt, not_le, is_lt, is_le}
 use Rattle.area_contact.specs.Contour.{InArea, OnEdge, SomeEdge, edges_from, edges_of, end_from}
-use Rattle.area_contact.specs.Parity.{crossed, is_le, is_lt, not_le, not_lt, odd, odd_is, passes, side_of}
+use Rattle.area_contact.specs.Parity.{crossed, odd, odd_is, passes, side_of}
 use Rattle.area_contact.proofs.Hits.{on_turned}
-use Rattle.slants.specs.Rounds.{EachFrom, GoesRound, IsFlat, changes, goes_up, on_way}
+use Rattle.slants.specs.Rounds.{GoesRound, IsFlat, changes, goes_up, on_way}
 use Rattle.slants.specs.Taken.{Each}
 use Rattle.slants.proofs.Corners.{each_as}
 use Rattle.slants.proofs.Runs.{fallen, fallen_is, risen, told}

@@ -4,8 +4,9 @@ use Rattle.std.proofs.lemmas.Int.{ints}
 use Rattle.planar.specs.declared.Spot.{Spot}
 use Rattle.planar.specs.Plane.{Point, at, dot_of, square}
 use Rattle.planar.proofs.Ring.{ring, linear, times_from_zero, times_mono, times_cancel, square_cancel, over_zero, square-neg, mul-neg, mul-add_left, mul-add_right, one-times, times-zero}
+use Rattle.planar.proofs.EdgeLaw.{not_lt, not_le, is_lt, is_le}
 use Rattle.board_shapes.specs.Figures.{InFigure, filled}
-use Rattle.area_contact.specs.Parity.{is_le, is_lt, not_le, not_lt, side_of}
+use Rattle.area_contact.specs.Parity.{side_of}
 use Rattle.board_shapes.specs.Rectangles.{rectangle}
 use Rattle.slants.specs.Copper.{InSlant}
 use Rattle.slants.specs.Laws.{LevelIsRectangle, OtherWayIsSame}

@@ -87,6 +87,3 @@ one_more P n before here k below = elim (cases k n below) [
   where
     cases : (j i : ℕ) → j < i + 1 → (j < i) ⊎ (j ≡ i)
     cases j i h = grind arith
-
-pub not_both : (b : Bool) → b ≡ false → b ≡ true → ⊥
-not_both b first second = cc

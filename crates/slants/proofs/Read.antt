@@ -1,12 +1,12 @@
 -- What the code's numbers and answers tell.
 use Rattle.std.proofs.Common.{◌≡◌, ◌↔◌, Bool, IsTrue, sym, FitsSigned, to_z, of_z, to_z-of_z, ℕ, ◌+◌, ◌*◌, ◌≤◌, ℤ, pos, negsuc, unsigned_abs, ◌+ℤ◌, ◌-ℤ◌, ◌*ℤ◌, ◌≤ℤ◌, ◌<ℤ◌, inl, inr, List, suc, arith, ap, subst, refl, ◌∙◌}
 use Rattle.std.proofs.lemmas.Int.{ints}
-use lib.Signed.{le_z}
 use Rattle.std.specs.Int.{w128}
 use Rattle.planar.specs.declared.Spot.{Spot}
 use Rattle.planar.specs.declared.TheConstants.{TWO_METRES}
 use Rattle.planar.specs.Plane.{IsPlaced, IsWithin, at, cross_of, dot_of, square}
 use Rattle.planar.proofs.Ring.{ring, linear, le_or_lt, one-times, times_mono, square_mono, square-neg}
+use Rattle.planar.proofs.Read.{from_abs}
 use Rattle.area_contact.specs.Parity.{side_of}
 use Rattle.slants.specs.Copper.{InSlant, along_of}
 use Rattle.slants.specs.Taken.{HasRoot, Keeps, band, reach}
@@ -18,16 +18,8 @@ use Rattle.slants.proofs.Sums.{dot_within}
 
 -- ---- numbers of 128 bits
 
--- whether a number is from 0 on
-pub from_zero_read : (k z : ℤ) → k ≡ z → FitsSigned w128 k → IsTrue (le_z (pos 0) (to_z w128 (of_z w128 k))) ↔ (pos 0 ≤ℤ z)
-from_zero_read k z same fits = rw (to_z-of_z fits, same) (λ yes. omega (arith, ints, yes), λ h. sym (omega (arith, ints, h)))
-
 abs_read : (off : ℕ) (k : ℤ) → FitsSigned w128 k → off ≡ unsigned_abs (to_z w128 (of_z w128 k)) → off ≡ unsigned_abs k
 abs_read off k f e = e ∙ ap unsigned_abs (to_z-of_z f)
-
-from_abs : (n : ℕ) (z : ℤ) → pos 0 ≤ℤ z → n ≡ unsigned_abs z → z ≡ pos n
-from_abs n (pos m) h e = ap pos (sym e)
-from_abs n (negsuc m) h e = absurd (omega (arith, ints, h))
 
 abs_squared : (z : ℤ) → square (pos 2 *ℤ z) ≡ pos (2 * unsigned_abs z * (2 * unsigned_abs z))
 abs_squared (pos n) = omega (arith, ints)

@@ -1,9 +1,9 @@
 -- How often a contour that rises in one run comes up past a height. A corner is up where it is above that.
 use Rattle.std.proofs.Common.{ℕ, zero, suc, ◌+◌, ◌≤◌, Bool, true, false, not, ◌&&◌, ◌≡◌, ◌⊎◌, inl, inr, List, [], ◌∷◌, arith, refl, ap, sym, ◌∙◌}
 use Rattle.planar.specs.declared.Spot.{Spot}
-use Rattle.planar.proofs.EdgeLaw.{xor}
+use Rattle.planar.proofs.EdgeLaw.{xor, xor-same}
 use Rattle.area_contact.specs.Contour.{end_from}
-use Rattle.area_contact.specs.Parity.{xor-same, xor-chain, xor-equal}
+use Rattle.area_contact.specs.Parity.{xor-chain, xor-equal}
 use Rattle.slants.specs.Rounds.{change, changes, goes_up}
 use Rattle.slants.specs.Taken.{Each}
 

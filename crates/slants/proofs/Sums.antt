@@ -7,7 +7,7 @@ use Rattle.planar.specs.declared.Spot.{Spot}
 use Rattle.planar.specs.declared.TheConstants.{METRE, TWO_METRES}
 use Rattle.planar.specs.Plane.{IsPlaced, IsWithin, cross_of, dot_of}
 use Rattle.planar.proofs.Ring.{linear, le_or_lt, mul-neg, neg-mul, product_within}
-use Rattle.area_contact.specs.Parity.{is_le, not_le}
+use Rattle.planar.proofs.EdgeLaw.{not_le, is_le}
 use Rattle.slants.specs.Turned.{AreReady, IsBounded, IsSmall, back_of, meet_of}
 use Rattle.slants.specs.declared.turns.Heading.{Heading}
 use Rattle.slants.specs.declared.turns.Motions.{Motions}

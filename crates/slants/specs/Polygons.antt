@@ -89,7 +89,7 @@ InHull gs p = (b c : Spot) → HaveCorners gs b c → pos 0 ≤ℤ side_of b c p
 
 -- ---- which contours are taken
 
--- from 3 to 12 corners (4.5.1.7), and the circle through them lies within a metre of 0
+-- from 3 to 12 corners (4.5.1.7), and the circle through them ends less than 1 m from 0 in x and in y
 pub record IsRegular (g : RegularPolygon) : Type 0 where
   pub enough : 3 ≤ g.corners
   pub few : g.corners ≤ 12

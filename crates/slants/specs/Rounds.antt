@@ -1,6 +1,6 @@
 -- Contours that go round once: their edges rise in one run.
-use Rattle.std.specs.Prelude.{ℕ, ◌+◌, ◌≤◌, Bool, true, false, ◌&&◌, ◌||◌, int_le, int_lt, pos, ◌≡◌, ◌⊎◌, ⊤, List, [], ◌∷◌}
-use Rattle.planar.specs.Plane.{cross_of}
+use Rattle.std.specs.Prelude.{ℕ, ◌+◌, ◌≤◌, Bool, true, false, ◌&&◌, ◌||◌, int_le, int_lt, pos, ◌≡◌, ◌⊎◌, List, [], ◌∷◌}
+use Rattle.planar.specs.Plane.{cross_of, EachFrom}
 use Rattle.planar.specs.declared.Spot.{Spot}
 use Rattle.area_contact.specs.Contour.{IsClosed}
 
@@ -19,11 +19,6 @@ change false false = 0
 abbrev pub changes : Bool → Spot → List Spot → ℕ
 changes up a [] = 0
 changes up a (b ∷ rest) = change up (goes_up up a b) + changes (goes_up up a b) b rest
-
--- what is said of two spots holds of the start and the end of each edge of the way from a through the spots
-abbrev pub EachFrom : (Spot → Spot → Type 0) → Spot → List Spot → Type 0
-EachFrom P a [] = ⊤
-EachFrom P a (b ∷ rest) = P a b × EachFrom P b rest
 
 -- b and c are on one line through a
 abbrev pub IsFlat : Spot → Spot → Spot → Type 0

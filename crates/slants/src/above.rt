@@ -1,14 +1,15 @@
 //! Whether a polygon holds a slanted rectangle.
 ghost use Rattle.board_shapes.specs.Figures.{InFigure, filled};
-ghost use Rattle.planar.specs.Plane.{IsPlaced, Point, cross_of};
+ghost use Rattle.planar.specs.Plane.{EachFrom, IsPlaced, Point, cross_of};
 ghost use Rattle.slants.specs.Copper.{InSlant};
-ghost use Rattle.slants.specs.Rounds.{EachEdge, EachFrom, GoesRound, on_way};
+ghost use Rattle.slants.specs.Rounds.{EachEdge, GoesRound, on_way};
 ghost use Rattle.slants.specs.Taken.{HasRoot, IsPlacedSlant, Keeps, TakenAbove, reach};
 ghost use Rattle.std.specs.Prelude.{All, IsTrue, SomeIff, pos, unsigned_abs, ◌*◌, ◌<◌, ◌^◌, ◌≤◌, ◌*ℤ◌, ◌≤ℤ◌, ◌↔◌};
 
 use super::Slant;
-use super::contours::{goes_once, is_closed};
+use super::contours::goes_once;
 use super::measures::{FINE, is_ready, root_of};
+use area_contact::is_closed;
 use planar::{Spot, cross, dot};
 
 /// How far the edge from `b` to `c` goes along the line, times the line's length and the width, in parts of `FINE`; `None` where

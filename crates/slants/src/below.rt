@@ -6,8 +6,8 @@ ghost use Rattle.slants.specs.Taken.{Each, IsPlacedSlant, TakenBelow, band};
 ghost use Rattle.std.specs.Prelude.{All, IsTrue, pos, ◌*◌, ◌≡◌, ◌≤◌, ◌*ℤ◌, ◌≤ℤ◌, ◌↔◌};
 
 use super::Slant;
-use super::contours::is_closed;
 use super::measures::{band_of, is_ready, length_squared};
+use area_contact::is_closed;
 use planar::{Spot, cross, dot};
 
 /// Whether the spot is not behind `o`, on the way from there to `a`.

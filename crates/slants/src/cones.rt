@@ -23,7 +23,7 @@ pub const THIRD: u32 = 1_200_000_000;
 /// Cosines, sines and radians are reckoned in parts of so much.
 pub const ONE: u128 = 1_000_000_000_000_000_000;
 
-/// A half turn in radians, rounded down.
+/// A half turn in radians, in parts of `ONE`, rounded down.
 pub const PI: u128 = 3_141_592_653_589_793_238;
 
 /// How long the ways are, about.

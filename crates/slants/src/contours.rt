@@ -1,25 +1,10 @@
-//! Closed contours, and which go round once.
-ghost use Rattle.area_contact.specs.Contour.{IsClosed};
-ghost use Rattle.planar.specs.Plane.{IsPlaced};
+//! Which closed contours go round once.
+ghost use Rattle.planar.specs.Plane.{EachFrom, IsPlaced};
 ghost use Rattle.slants.specs.Rounds as spec;
-ghost use Rattle.slants.specs.Rounds.{EachFrom, GoesOnce, IsFlat, changes};
+ghost use Rattle.slants.specs.Rounds.{GoesOnce, IsFlat, changes};
 ghost use Rattle.std.specs.Prelude.{All, IsTrue, ◌≡◌, ◌≤◌, ◌↔◌};
 
 use planar::{Spot, cross};
-
-/// Whether the spots are one.
-pub fn is_same(a: Spot, b: Spot) -> bool
-    ensures { IsTrue result ↔ a ≡ b }
-{
-    a.x == b.x && a.y == b.y
-}
-
-/// Whether the points end where they begin.
-pub fn is_closed(points: &[Spot]) -> bool
-    ensures { IsTrue result ↔ IsClosed points.now }
-{
-    points.is_empty() || is_same(points[points.len() - 1], points[0])
-}
 
 /// Whether a way that went up, or not, goes up from `a` to `b`: a level one goes on as before.
 fn goes_up(up: bool, a: Spot, b: Spot) -> bool

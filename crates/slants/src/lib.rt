@@ -6,7 +6,7 @@
 //! - `below`: whether a polygon lies in a slanted rectangle.
 //! - `above`: whether a polygon holds one.
 //! - `cones`: turns by about an angle, and whether polygons bound a figure that is turned by it.
-//! - `contours`: closed contours, and which go round once.
+//! - `contours`: which closed contours go round once.
 //! - `discs`: discs that are turned by degrees, and whether discs bound them.
 //! - `figure`: figures that are turned by degrees.
 //! - `measures`: whole numbers for the length and the width.
@@ -30,8 +30,7 @@ mod turns;
 
 pub use above::is_above;
 pub use below::is_below;
-pub use cones::{RIGHT_ANGLE, is_above_figure, is_below_figure};
-pub use contours::is_closed;
+pub use cones::{ONE, PI, RIGHT_ANGLE, is_above_figure, is_below_figure};
 pub use discs::{TurnedDisc, is_above_disc, is_below_disc};
 pub use figure::TurnedFigure;
 pub use measures::FINE;

@@ -1,17 +1,18 @@
 //! Regular polygons in any direction, and whether polygons with whole corners bound them.
 ghost use Rattle.board_shapes.specs.Figures.{InFigure, filled};
-ghost use Rattle.planar.specs.Plane.{IsPlaced, IsWithin, Point};
+ghost use Rattle.planar.specs.Plane.{EachFrom, IsPlaced, IsWithin, Point};
 ghost use Rattle.planar.specs.declared.TheConstants.{METRE};
 ghost use Rattle.slants.specs.Polygons as spec;
 ghost use Rattle.slants.specs.Polygons.{AllCornersLean, CornersLean, EdgeHolds, InHull, IsRegular, PolygonBelow, PolygonsAbove, SurelyInPolygon, corner_of, direction_of, edge_end, edge_start, inner_of, place_of, reach_of, step_of};
-ghost use Rattle.slants.specs.Rounds.{EachEdge, EachFrom, GoesRound, on_way};
+ghost use Rattle.slants.specs.Rounds.{EachEdge, GoesRound, on_way};
 ghost use Rattle.slants.specs.Turned.{AreReady, Leans};
 ghost use Rattle.std.specs.Prelude.{All, IsTrue, ℕ, unsigned_abs, ◌*◌, ◌+◌, ◌/◌, ◌<◌, ◌≡◌, ◌≤◌, ◌↔◌};
 
 use super::cones::{RADIUS, RIGHT_ANGLE, cosine_of_half, turns};
-use super::contours::{goes_once, is_closed};
+use super::contours::goes_once;
 use super::turned::{all_lean, leans};
 use super::turns::{Motions, back, triangle_of};
+use area_contact::is_closed;
 use planar::{METRE, Spot, are_placed};
 
 /// Half a turn, in 10^-7 degrees.
@@ -156,7 +157,7 @@ fn is_lawful(corners: u32) -> bool
     3 <= corners && corners <= 12
 }
 
-/// Whether what reaches so far from there stays in a metre.
+/// Whether what reaches so far from there ends less than 1 m from 0.
 fn has_room(x: i64, reach: u64) -> bool
     requires { reach ≤ 1_000_000_000_000_000 }
     ensures { IsTrue result ↔ unsigned_abs x + reach < METRE }

@@ -1,13 +1,14 @@
 //! Whether polygons bound a figure that is turned by any turn between two.
 ghost use Rattle.board_shapes.specs.Figures.{InFigure, filled};
-ghost use Rattle.planar.specs.Plane.{IsPlaced, Point, cross_of, dot_of};
-ghost use Rattle.slants.specs.Rounds.{EachEdge, EachFrom, GoesRound, on_way};
+ghost use Rattle.planar.specs.Plane.{EachFrom, IsPlaced, Point, cross_of, dot_of};
+ghost use Rattle.slants.specs.Rounds.{EachEdge, GoesRound, on_way};
 ghost use Rattle.slants.specs.Turned.{AllLean, AreBounded, AreReady, InTurned, IsBetween, IsBounded, IsTriangle, Leans, TurnedAbove, TurnedBelow};
 ghost use Rattle.slants.specs.declared.turns.Turn.{Turn as AnyTurn};
 ghost use Rattle.std.specs.Prelude.{All, IsTrue, pos, ◌≡◌, ◌+ℤ◌, ◌-ℤ◌, ◌*ℤ◌, ◌≤ℤ◌, ◌↔◌};
 
-use super::contours::{goes_once, is_closed};
+use super::contours::goes_once;
 use super::turns::{Heading, Motions, Triangle, are_ready, back, triangle_of};
+use area_contact::is_closed;
 use planar::{Spot, are_placed, cross, dot};
 
 /// How far a spot is on the left of a line, in square u: without a turn, and by the cosine and by the sine of one.

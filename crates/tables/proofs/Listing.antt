@@ -159,3 +159,7 @@ stands_as count R rows r i q (k, below, same) = elim (cases_lt i count) [
 
 pub stands_where : (count : ℕ) (R : ℕ → ℕ → Type 0) (rows : List (List ℕ)) → AreRows count R rows → (i q : ℕ) → i < count → R i q → Contains (get_or rows i []) q
 stands_where count R rows r i q within h = (r.each i within).all q h
+
+pub none_listed : (P : ℕ → Type 0) (row : List ℕ) → Lists P row → ((q : ℕ) → P q → ⊥) → row ≡ []
+none_listed P [] lists none = refl
+none_listed P (x ∷ xs) lists none = absurd (none x (lists.only x (0, omega arith, refl)))

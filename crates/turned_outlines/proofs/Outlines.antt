@@ -1,13 +1,12 @@
 -- Polygons whose corners stand for those of a turned figure bound it, with capsules along them.
 use Rattle.std.proofs.Common.{ℕ, Bool, true, false, IsTrue, ◌≡◌, ◌⊎◌, ◌↔◌, inl, inr, List, [], ◌∷◌, map, ℤ, pos, neg_ℤ, ◌+ℤ◌, ◌-ℤ◌, ◌*ℤ◌, ◌≤ℤ◌, arith, refl, sym, subst, ◌∙◌}
-use Rattle.planar.specs.Plane.{InCapsule, Point, square}
+use Rattle.planar.specs.Plane.{InCapsule, Point, square, EachFrom}
 use Rattle.planar.specs.declared.Frame.{Frame}
 use Rattle.planar.specs.declared.Spot.{Spot}
 use Rattle.planar.proofs.EdgeLaw.{xor}
 use Rattle.planar.proofs.Ring.{ring, linear, over_zero, square_from_zero, times-zero}
 use Rattle.area_contact.specs.Contour.{ExactlyOne, InArea, IsContour, OddCrossed, OnEdge, SomeEdge, edges_from, edges_of, end_from, first_of}
 use Rattle.area_contact.specs.Parity.{crossed, none_apart, odd, odd_is}
-use Rattle.arcs.specs.Chains.{EachFrom}
 use Rattle.arcs.specs.Copper.{InChain, InFrom}
 use Rattle.arcs.proofs.Vectors.{norm}
 use Rattle.arc_regions.specs.Copper.{OddOver, OnEachCurve, SomePart, SurelyIn}

@@ -3,10 +3,10 @@ use Rattle.std.proofs.Common.{Bool, false, not, ◌&&◌, ◌≡◌, inl, inr, L
 use Rattle.std.specs.Prelude.{⊤}
 use lib.Signed.{lt_z}
 use Rattle.planar.specs.declared.Spot.{Spot}
-use Rattle.planar.proofs.EdgeLaw.{xor}
+use Rattle.planar.proofs.EdgeLaw.{xor, xor-same}
 use Rattle.planar.proofs.Ring.{ring, linear, le_or_lt, over_zero, one-times, zero-times, times-zero, times-one}
 use Rattle.area_contact.specs.Contour.{end_from}
-use Rattle.area_contact.specs.Parity.{xor-chain, xor-equal, xor-same}
+use Rattle.area_contact.specs.Parity.{xor-chain, xor-equal}
 use Rattle.turned_outlines.proofs.Rays.{by_two, crossed_over, meets, on_side}
 
 -- how the second vector turns from the first, and how far it is ahead along it

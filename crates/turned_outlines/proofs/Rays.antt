@@ -1,9 +1,10 @@
 -- Rays from 0 and edges between vectors. An edge goes from a to b. A and B tell how a and b turn from the ray's direction, f how b turns from a.
 use Rattle.std.proofs.Common.{Bool, true, false, not, ◌&&◌, ◌||◌, ◌≡◌, inl, inr, ℤ, pos, neg_ℤ, ◌-ℤ◌, ◌*ℤ◌, ◌≤ℤ◌, ◌<ℤ◌, arith, refl, sym, ◌∙◌}
 use lib.Signed.{lt_z}
-use Rattle.planar.proofs.EdgeLaw.{crosses, xor}
+use Rattle.planar.proofs.EdgeLaw.{crosses, xor, not_lt, not_le, is_lt, is_le}
 use Rattle.planar.proofs.Ring.{ring, linear, le_or_lt, times_from_zero, over_zero, mul-neg}
-use Rattle.area_contact.specs.Parity.{is_le, is_lt, not_le, not_lt, or-false, same_lt, xor-chain}
+use Rattle.area_contact.specs.Parity.{or-false, same_lt, xor-chain}
+use Rattle.arc_regions.proofs.Fans.{and-false}
 
 -- the ray meets the edge
 abbrev pub meets : ℤ → ℤ → ℤ → Bool
@@ -73,10 +74,6 @@ alike a g h = elim (le_or_lt a (pos 0)) [
 and-true : (b : Bool) → (b && true) ≡ b
 and-true true = refl
 and-true false = refl
-
-and-false : (b : Bool) → (b && false) ≡ false
-and-false true = refl
-and-false false = refl
 
 pub on_side : (G s t A B f : ℤ) → pos 1 ≤ℤ s → pos 1 ≤ℤ t → G *ℤ f ≡ s *ℤ B -ℤ t *ℤ A → meets A B f ≡ (lt_z (pos 0) G && xor (lt_z (pos 0) A) (lt_z (pos 0) B))
 on_side G s t A B f hs ht e = elim (le_or_lt A (pos 0)) [

@@ -3,8 +3,9 @@ use Rattle.std.specs.Int.{int_div_euclid}
 use Rattle.std.specs.Prelude.{ℕ, if◌then◌else◌, ◌+◌, ◌-◌, ◌*◌, ◌/◌, ℤ, pos, ◌+ℤ◌, ◌-ℤ◌, ◌*ℤ◌, unsigned_abs, max, List, [], ◌∷◌, map}
 use Rattle.planar.specs.Plane.{is_placed}
 use Rattle.planar.specs.declared.Spot.{Spot}
+use Rattle.slants.specs.declared.cones.TheConstants.{ONE, PI}
 use Rattle.turned_outlines.specs.declared.nearest.Direction.{Direction}
-use Rattle.turned_outlines.specs.declared.nearest.TheConstants.{FINE, ONE, PARTS, PI, SCALE}
+use Rattle.turned_outlines.specs.declared.nearest.TheConstants.{FINE, PARTS, SCALE}
 
 -- ---- a direction at about the angle
 

@@ -8,8 +8,9 @@ ghost use Rattle.std.specs.Prelude.{All, IsTrue, pos, ◌≡◌, ◌↔◌, ◌�
 ghost use Rattle.turned_outlines.specs.Taken.{EachOfBoth, OutlineAbove, StandFor, corner_of};
 
 use super::laws::outline_holds;
+use area_contact::is_closed;
 use planar::Spot;
-use slants::{TurnedDisc, TurnedFigure, is_above_disc, is_closed};
+use slants::{TurnedDisc, TurnedFigure, is_above_disc};
 
 /// Whether the corner, turned about the spot by about the angle, stays at most `r` from the other.
 fn is_near(corner: Spot, about: Spot, angle: u32, stand: Spot, r: u64) -> bool

@@ -1,4 +1,4 @@
-//! Spots near the corners of a turned figure.
+//! Spots near the corners of a turned figure. Ways are in parts of `ONE`.
 ghost use Rattle.planar.specs.Plane.{IsPlaced, IsWithin};
 ghost use Rattle.planar.specs.declared.TheConstants.{METRE as FURTHEST};
 ghost use Rattle.std.specs.Prelude.{All, IfOk, max, pos, unsigned_abs, ◌+◌, ◌*◌, ◌-◌, ◌/◌, ◌≡◌, ◌≤◌, ◌+ℤ◌, ◌-ℤ◌, ◌*ℤ◌};
@@ -6,13 +6,8 @@ ghost use Rattle.turned_outlines.specs.Nearest as spec;
 
 use lengths::rows::NoMemory;
 use planar::{METRE, Spot, cross, dot};
+use slants::{ONE, PI};
 use std::alloc::Global;
-
-/// Ways are in parts of so much.
-pub const ONE: u128 = 1_000_000_000_000_000_000;
-
-/// A half turn in radians, in parts of `ONE`, rounded down.
-pub const PI: u128 = 3_141_592_653_589_793_238;
 
 /// So many halves of 10^-7 degrees, halved twenty times, are a half turn.
 pub const PARTS: u128 = 3_600_000_000 * 1_048_576;

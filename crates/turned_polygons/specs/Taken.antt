@@ -1,6 +1,6 @@
 -- Exactly which contours the checks take: those that bound the polygon about each corner of a square, in which its middle stays.
-use Rattle.std.specs.Prelude.{ℕ, Bool, ◌&&◌, ℤ, pos, neg_ℤ, ◌+ℤ◌, if◌then◌else◌, List, [], ◌∷◌, All}
-use Rattle.std.specs.Ordering.{int_eq}
+use Rattle.std.specs.Prelude.{ℕ, Bool, ℤ, pos, neg_ℤ, ◌+ℤ◌, if◌then◌else◌, List, [], ◌∷◌, All}
+use Rattle.planar.specs.Plane.{same_spot}
 use Rattle.planar.specs.declared.Spot.{Spot}
 use Rattle.slants.specs.Discs.{DiscAbove}
 use Rattle.slants.specs.Polygons.{PolygonBelow, PolygonsAbove}
@@ -20,7 +20,7 @@ near_of a = turned_at a.angle a.about a.polygon.centre
 
 -- it is what it is turned about
 abbrev pub is_still : TurnedPolygon → Bool
-is_still a = int_eq a.polygon.centre.x a.about.x && int_eq a.polygon.centre.y a.about.y
+is_still a = same_spot a.polygon.centre a.about
 
 -- how far off it may be
 abbrev pub far_of : TurnedPolygon → ℕ

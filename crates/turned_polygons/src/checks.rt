@@ -10,7 +10,7 @@ ghost use Rattle.turned_polygons.specs.Taken.{StaysNear, TurnedPolygonAbove, Tur
 
 use super::TurnedPolygon;
 use super::laws::turned_polygon_is_between;
-use planar::{Spot, is_placed};
+use planar::{Spot, is_placed, is_same};
 use slants::{RegularPolygon, TurnedDisc, is_above_disc, is_above_polygons, is_below_polygon};
 use turned_outlines::{slack, turned_spot};
 
@@ -31,7 +31,7 @@ fn far(a: &TurnedPolygon) -> u64
     ensures { result ≡ far_of a.now }
 {
     let centre = a.polygon.centre;
-    if centre.x == a.about.x && centre.y == a.about.y {
+    if is_same(centre, a.about) {
         0
     } else {
         slack(&[centre], a.about)

@@ -4,6 +4,7 @@ use Rattle.std.proofs.lemmas.List.Elements.{Contains-append_cases}
 use Rattle.verdict.specs.declared.verdict.Twig.{Twig}
 use Rattle.tables.specs.Chains.{IsChain, AreJoined}
 use Rattle.verdict.specs.Forest.{IsForest, IsTree, Hang, Holds, pieces_of, first_piece}
+use Rattle.verdict.specs.Right.{BeginsAt}
 use Rattle.verdict.proofs.Holding.{one_of}
 
 -- no chain leads out of a net
@@ -14,7 +15,7 @@ stays count near nets lawful table i p q (next ∷ rest) here (touches, onward) 
     let same : i ≡ home.0 = lawful.apart i home.0 p next here home.1 touches in
     stays count near nets lawful table i next q rest (subst (λ (j : ℕ). Holds nets j next) (sym same) home.1) onward
 
-onward : (near : ℕ → ℕ → Type 0) (p q r : ℕ) (c d : List ℕ) → IsChain near p c q → IsChain near q d r → IsChain near p (c ++ d) r
+pub onward : (near : ℕ → ℕ → Type 0) (p q r : ℕ) (c d : List ℕ) → IsChain near p c q → IsChain near q d r → IsChain near p (c ++ d) r
 onward near p q r [] d same rest = subst (λ (x : ℕ). IsChain near x d r) (sym same) rest
 onward near p q r (next ∷ c) d (touches, more) rest = (touches, onward near next q r c d more rest)
 
@@ -47,3 +48,7 @@ from_first near (t ∷ rest) (root, least, hang) p inside =
       | inl new ↦ here p new
       | inr later ↦ down near t.piece (t.piece ∷ []) rest here hang p later
     ]
+
+pub begins_along : (a b : ℕ → Type 0) → ((p : ℕ) → a p → b p) → (pieces : List ℕ) → BeginsAt a pieces → BeginsAt b pieces
+begins_along a b along [] h = absurd h
+begins_along a b along (p ∷ rest) h = along p h

@@ -55,10 +55,10 @@ seen_more seen net m = list_any-append (λ n. n == net) seen (m ∷ []) ∙ ap (
   or_false true = refl
   or_false false = refl
 
-first_other : (net name n : ℕ) (line : PointLine) (lines : List PointLine) → marks net name line ≡ false → first_from net name n (line ∷ lines) ≡ first_from net name (n + 1) lines
+pub first_other : (net name n : ℕ) (line : PointLine) (lines : List PointLine) → marks net name line ≡ false → first_from net name n (line ∷ lines) ≡ first_from net name (n + 1) lines
 first_other net name n line lines e = rw e refl
 
-first_here : (net name n : ℕ) (line : PointLine) (lines : List PointLine) → marks net name line ≡ true → first_from net name n (line ∷ lines) ≡ Some n
+pub first_here : (net name n : ℕ) (line : PointLine) (lines : List PointLine) → marks net name line ≡ true → first_from net name n (line ∷ lines) ≡ Some n
 first_here net name n line lines e = rw e refl
 
 -- what the line at hand does: the marks of the first seats of the rest are known

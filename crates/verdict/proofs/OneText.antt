@@ -24,11 +24,11 @@ use Rattle.verdict.proofs.ReadReport.{is_there, short_parts, section_parts, last
 
 -- ---- What stands in front of equal texts
 
-cancel : (a r s : List ℕ) → a ++ r ≡ a ++ s → r ≡ s
+pub cancel : (a r s : List ℕ) → a ++ r ≡ a ++ s → r ≡ s
 cancel [] r s e = e
 cancel (b ∷ a) r s e = cancel a r s cc
 
-pair_parts : {A B : Type 0} (x y : A × B) → x ≡ y → (x.0 ≡ y.0) × (x.1 ≡ y.1)
+pub pair_parts : {A B : Type 0} (x y : A × B) → x ≡ y → (x.0 ≡ y.0) × (x.1 ≡ y.1)
 pair_parts x y e = (ap (λ (p : _ × _). p.0) e, ap (λ (p : _ × _). p.1) e)
 
 word_one : (m n : ℕ) (r s : List ℕ) → IsNumber m → IsNumber n → starts is_decimal_digit r ≡ false → starts is_decimal_digit s ≡ false → word m ++ r ≡ word n ++ s → (m ≡ n) × (r ≡ s)

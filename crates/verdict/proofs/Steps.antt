@@ -1,14 +1,14 @@
 -- Steps of reading, and the fields of a report: what is read stood in front, and what stands in front is read.
-use Rattle.std.proofs.Common.{◌≡◌, ℕ, zero, suc, ◌+◌, ◌-◌, ◌^◌, ◌<◌, ◌≤◌, Bool, true, false, not, ◌&&◌, ◌||◌, cond, eqb, ltb, leb, List, [], ◌∷◌, ◌++◌, length, take, drop, get_or, Option, Some, None, Result, Ok, Err, refl, sym, ap, subst, ◌∙◌, append_assoc, arith, rules, inl, inr}
+use Rattle.std.proofs.Common.{◌≡◌, ℕ, zero, suc, ◌+◌, ◌-◌, ◌^◌, ◌<◌, ◌≤◌, Bool, true, false, not, ◌&&◌, ◌||◌, cond, eqb, ltb, List, [], ◌∷◌, ◌++◌, length, take, drop, get_or, Option, Some, None, Result, Ok, Err, refl, sym, ap, subst, ◌∙◌, append_assoc, arith, rules, inl, inr}
 use Rattle.std.specs.Prelude.{decimal}
 use Rattle.std.specs.Cmp.Lexicographic.{pointwise}
 use Rattle.std.specs.List.{list_all, list_any, prefix_len, take_while, before_first, after_first, position_or_len, AllByRecursion}
 use Rattle.std.specs.Result.{OkIff, result_ok}
 use Rattle.std.specs.Str.Parse.{digits_value, ParsesUnsigned}
-use Rattle.std.proofs.lemmas.Bool.{cases_lt, ltb-true, lt-ltb, le-ltb, leb-true, le-leb, eq-eqb, eqb-true}
+use Rattle.std.proofs.lemmas.Bool.{cases_lt, ltb-true, lt-ltb, le-ltb, eq-eqb, eqb-true}
 use Rattle.std.proofs.lemmas.Fmt.{decimal_digit, decimal_nonempty, first_decimal, decimal-digits_value, digits_value-decimal, digits_decimal}
 use Rattle.std.proofs.lemmas.List.{take_at, drop_at, take-append-drop, take-take, get_or-take, length-append, length-take, length-take-le}
-use Rattle.std.proofs.lemmas.List.Elements.{All-from_recursion, recursion_from_All}
+use Rattle.std.proofs.lemmas.List.Elements.{recursion_from_All}
 use Rattle.std.proofs.lemmas.List.Sums.{take_while-cons, split_at_first, passes_at_first}
 use Rattle.std.proofs.lemmas.List.Folds.{list_any_at}
 use Rattle.std.proofs.lemmas.Slice.Eq.{bytes_eq-Decides}
@@ -16,10 +16,10 @@ use Rattle.std.proofs.lemmas.Str.Parse.{IsNumeralModel, numerals_by_value, parse
 use Rattle.std.specs.Char.{digit_value}
 use Rattle.std.proofs.lemmas.Str.{digit_value_digit}
 use Rattle.lengths.proofs.Digits.{digit_of}
-use Rattle.lengths.specs.declared.TheConstants.{MOST_NAME_BYTES}
 use Rattle.texts.specs.Digits.{is_decimal_digit}
-use Rattle.lengths.specs.Text.{IsPrintable, IsText}
-use Rattle.verdict.specs.ReportReading.{◌>>=◌, behind, run_of, is_numeral, value_of, wide_at, number_at, word_at, layer_at, count_at, is_feed, is_name, text_at, starts, IsRun}
+use Rattle.lengths.specs.Text.{IsPrintable, IsText, is_text}
+use Rattle.lengths.proofs.Texts.{IsText-from_is_text, is_text-from_IsText}
+use Rattle.verdict.specs.ReportReading.{◌>>=◌, behind, run_of, is_numeral, value_of, wide_at, number_at, word_at, layer_at, count_at, is_feed, text_at, starts, IsRun}
 use Rattle.verdict.specs.ReportText.{word, end}
 
 -- the value of a step that did not fail
@@ -278,37 +278,6 @@ count_again n rest small =
 
 -- ---- Names
 
-abbrev is_printable : ℕ → Bool
-is_printable b = leb 32 b && leb b 126
-
-printable_list : (bs : List ℕ) → AllByRecursion IsPrintable bs → list_all is_printable bs ≡ true
-printable_list [] h = refl
-printable_list (b ∷ bs) h =
-    let low : leb 32 b ≡ true = le-leb 32 b h.0.low in
-    let high : leb b 126 ≡ true = le-leb b 126 h.0.high in
-    rw (low, high, printable_list bs h.1) refl
-
-list_printable : (bs : List ℕ) → list_all is_printable bs ≡ true → AllByRecursion IsPrintable bs
-list_printable [] e = tt
-list_printable (b ∷ bs) e =
-    let p = and_both (is_printable b) (list_all is_printable bs) e in
-    let q = and_both (leb 32 b) (leb b 126) p.0 in
-    (record { low = leb-true _ _ q.0; high = leb-true _ _ q.1 }, list_printable bs p.1)
-
-pub name_takes : (bs : List ℕ) → is_name bs ≡ true → IsText bs
-unfolding is_name
-name_takes bs e =
-    let p = and_both (leb 1 (length bs)) (leb (length bs) MOST_NAME_BYTES && list_all is_printable bs) e in
-    let q = and_both (leb (length bs) MOST_NAME_BYTES) (list_all is_printable bs) p.1 in
-    record { some = leb-true _ _ p.0; short = leb-true _ _ q.0; printable = All-from_recursion IsPrintable bs (list_printable bs q.1) }
-
-pub name_again : (bs : List ℕ) → IsText bs → is_name bs ≡ true
-unfolding is_name
-name_again bs h =
-    let some : leb 1 (length bs) ≡ true = le-leb _ _ h.some in
-    let short : leb (length bs) MOST_NAME_BYTES ≡ true = le-leb _ _ h.short in
-    rw (some, short, printable_list bs (recursion_from_All IsPrintable bs h.printable)) refl
-
 -- where a feed stands, the bytes are cut there
 placed_step : (p : ℕ → Bool) (x : ℕ) (xs : List ℕ) (b : Bool) → p x ≡ b → (b || list_any p xs) ≡ true → (list_any p xs ≡ true → position_or_len p xs < length xs) → position_or_len p (x ∷ xs) < length (x ∷ xs)
 placed_step p x xs true e h more = rw e (omega arith)
@@ -329,9 +298,9 @@ cut_at_feed bytes h =
 pub text_takes : (bytes name rest : List ℕ) → text_at bytes ≡ Some (name, rest) → (bytes ≡ name ++ (end ++ rest)) × IsText name
 unfolding text_at
 text_takes bytes name rest e =
-    let g = guard_some (list_any is_feed bytes && is_name (before_first is_feed bytes)) (Some (before_first is_feed bytes, after_first is_feed bytes)) (name, rest) e in
-    let both = and_both (list_any is_feed bytes) (is_name (before_first is_feed bytes)) g.0 in
-    subst (λ (p : List ℕ × List ℕ). (bytes ≡ p.0 ++ (end ++ p.1)) × IsText p.0) (some_is _ _ g.1) (cut_at_feed bytes both.0, name_takes _ both.1)
+    let g = guard_some (list_any is_feed bytes && is_text (before_first is_feed bytes)) (Some (before_first is_feed bytes, after_first is_feed bytes)) (name, rest) e in
+    let both = and_both (list_any is_feed bytes) (is_text (before_first is_feed bytes)) g.0 in
+    subst (λ (p : List ℕ × List ℕ). (bytes ≡ p.0 ++ (end ++ p.1)) × IsText p.0) (some_is _ _ g.1) (cut_at_feed bytes both.0, IsText-from_is_text _ both.1)
 
 no_feed : (bs : List ℕ) → AllByRecursion IsPrintable bs → list_all (λ b. not (is_feed b)) bs ≡ true
 no_feed [] h = refl
@@ -366,8 +335,8 @@ text_again name rest h =
     let before : before_first is_feed (name ++ (10 ∷ rest)) ≡ name = ap (λ (k : ℕ). take k (name ++ (10 ∷ rest))) len ∙ take_at name (10 ∷ rest) (length name) refl in
     let after : after_first is_feed (name ++ (10 ∷ rest)) ≡ rest = after_feed name rest (no_feed name all) in
     let any : list_any is_feed (name ++ (10 ∷ rest)) ≡ true = any_feed name rest in
-    let lawful : is_name (before_first is_feed (name ++ (10 ∷ rest))) ≡ true = ap is_name before ∙ name_again name h in
-    let test : (list_any is_feed (name ++ (10 ∷ rest)) && is_name (before_first is_feed (name ++ (10 ∷ rest)))) ≡ true = both_true _ _ any lawful in
+    let lawful : is_text (before_first is_feed (name ++ (10 ∷ rest))) ≡ true = ap is_text before ∙ is_text-from_IsText name h in
+    let test : (list_any is_feed (name ++ (10 ∷ rest)) && is_text (before_first is_feed (name ++ (10 ∷ rest)))) ≡ true = both_true _ _ any lawful in
     ap (λ (b : Bool). cond b (Some (before_first is_feed (name ++ (10 ∷ rest)), after_first is_feed (name ++ (10 ∷ rest)))) None) test ∙ ap (λ (p : List ℕ × List ℕ). Some p) (pair_is before after)
   where
     both_true : (a b : Bool) → a ≡ true → b ≡ true → (a && b) ≡ true
@@ -379,15 +348,15 @@ text_again name rest h =
 pub text_read : (bytes name after : List ℕ) → list_any is_feed bytes ≡ true → name ≡ before_first is_feed bytes → IsText name → after ≡ after_first is_feed bytes → text_at bytes ≡ Some (name, after)
 unfolding text_at
 text_read bytes name after any e lawful f =
-    let t : is_name (before_first is_feed bytes) ≡ true = ap is_name (sym e) ∙ name_again name lawful in
+    let t : is_text (before_first is_feed bytes) ≡ true = ap is_text (sym e) ∙ is_text-from_IsText name lawful in
     rw (any, t, e, f) refl
 
 pub text_refused : (bytes : List ℕ) → list_any is_feed bytes ≡ true → (IsText (before_first is_feed bytes) → ⊥) → text_at bytes ≡ None
 unfolding text_at
-text_refused bytes any h = by (is_name (before_first is_feed bytes)) refl
+text_refused bytes any h = by (is_text (before_first is_feed bytes)) refl
   where
-    by : (t : Bool) → is_name (before_first is_feed bytes) ≡ t → text_at bytes ≡ None
-    by true e = absurd (h (name_takes _ e))
+    by : (t : Bool) → is_text (before_first is_feed bytes) ≡ t → text_at bytes ≡ None
+    by true e = absurd (h (IsText-from_is_text _ e))
     by false e = rw (any, e) refl
 
 -- ---- A digit by how far it stands above 0

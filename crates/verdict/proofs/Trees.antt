@@ -1,10 +1,11 @@
 -- Nets as trees: along a relation that says no less, and by their first pieces.
 use Rattle.std.proofs.Common.{◌≡◌, ℕ, zero, suc, ◌<◌, ◌≤◌, List, [], ◌∷◌, ◌++◌, length, AllPairs, Contains, refl, arith}
+use Rattle.std.proofs.lemmas.List.{map-append}
 use Rattle.std.proofs.lemmas.List.Elements.{All-get_or}
 use Rattle.verdict.specs.declared.verdict.Twig.{Twig}
-use Rattle.verdict.specs.Forest.{AreTrees, Hang, IsTree, first_piece, net_at, pieces_of}
+use Rattle.verdict.specs.Forest.{AreTrees, Hang, IsTree, first_piece, net_at, piece_of, pieces_of}
 
-hang_along : (near more : ℕ → ℕ → Type 0) → ((p q : ℕ) → near p q → more p q) → (earlier : List ℕ) (rest : List Twig) → Hang near earlier rest → Hang more earlier rest
+pub hang_along : (near more : ℕ → ℕ → Type 0) → ((p q : ℕ) → near p q → more p q) → (earlier : List ℕ) (rest : List Twig) → Hang near earlier rest → Hang more earlier rest
 hang_along near more along earlier [] hang = tt
 hang_along near more along earlier (t ∷ rest) (here, hang) = (record { parent = here.parent; named = here.named; stands = here.stands; touches = along here.parent t.piece here.touches }, hang_along near more along (earlier ++ t.piece ∷ []) rest hang)
 
@@ -28,3 +29,6 @@ nets_few count near nets t (suc n) e =
     let tree = All-get_or (IsTree near) nets n [] (omega arith) t.trees in
     let below = t.known n (first_piece (net_at nets n)) (first_inside near (net_at nets n) tree) in
     omega arith
+
+pub pieces-push : (net : List Twig) (t : Twig) → pieces_of (net ++ t ∷ []) ≡ pieces_of net ++ t.piece ∷ []
+pieces-push net t = map-append piece_of net (t ∷ [])

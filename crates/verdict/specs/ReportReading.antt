@@ -1,11 +1,11 @@
 -- Reading the text of a verdict from left to right: what stands in front, and the bytes behind it, or nothing where
 -- the bytes are no such text. Only contracts of fields and private ones cite it: that it reads the texts of verdicts and
 -- nothing else is proved over report_text (proofs/ReadReport).
-use Rattle.std.specs.Prelude.{◌≡◌, ℕ, zero, suc, ◌+◌, ◌^◌, ◌<◌, ◌≤◌, ℤ, pos, negsuc, nat_lt, nat_le, Bool, true, false, not, ◌&&◌, ◌==◌, if◌then◌else◌, List, [], ◌∷◌, ◌++◌, length, take, drop, Option, Some, None, Result, Ok, Err, codes, decimal}
+use Rattle.std.specs.Prelude.{◌≡◌, ℕ, zero, suc, ◌+◌, ◌^◌, ◌<◌, ◌≤◌, ℤ, pos, negsuc, nat_lt, Bool, true, false, not, ◌&&◌, ◌==◌, if◌then◌else◌, List, [], ◌∷◌, ◌++◌, length, take, drop, Option, Some, None, Result, Ok, Err, codes, decimal}
 use Rattle.std.specs.Cmp.Lexicographic.{pointwise}
 use Rattle.std.specs.List.{after_first, before_first, list_all, list_any, prefix_len, take_while}
 use Rattle.std.specs.Str.Parse.{digits_value}
-use Rattle.lengths.specs.declared.TheConstants.{MOST_NAME_BYTES}
+use Rattle.lengths.specs.Text.{is_text}
 use Rattle.texts.specs.Digits.{is_decimal_digit}
 use Rattle.verdict.specs.ReportText.{last_line}
 use Rattle.verdict.specs.declared.report_reading.ReadFault.{ReadFault}
@@ -182,14 +182,10 @@ words_at at (suc k) bytes = if begins_blank bytes then (at bytes >>= λ x. with_
 abbrev pub is_feed : ℕ → Bool
 is_feed b = b == 10
 
--- 1 to 200 bytes from the blank to the tilde
-unfoldable pub is_name : List ℕ → Bool
-is_name bytes = nat_le 1 (length bytes) && (nat_le (length bytes) MOST_NAME_BYTES && list_all (λ b. nat_le 32 b && nat_le b 126) bytes)
-
 -- a name and the end of its line
 unfoldable pub text_at : List ℕ → Option (List ℕ × List ℕ)
 text_at bytes =
-    if list_any is_feed bytes && is_name (before_first is_feed bytes) then Some (before_first is_feed bytes, after_first is_feed bytes) else None
+    if list_any is_feed bytes && is_text (before_first is_feed bytes) then Some (before_first is_feed bytes, after_first is_feed bytes) else None
 
 -- ---- Lines
 

@@ -16,10 +16,10 @@ some_when (Some n) is e f = (n, refl)
 some_when None true e f = cc
 some_when None false e f = cc
 
-opened_none : (n : ℕ) (line : PointLine) (rest : List PointLine) → line.net ≡ None → bare_from n (line ∷ rest) ≡ n ∷ bare_from (n + 1) rest
+pub opened_none : (n : ℕ) (line : PointLine) (rest : List PointLine) → line.net ≡ None → bare_from n (line ∷ rest) ≡ n ∷ bare_from (n + 1) rest
 opened_none n line rest none = rw none refl
 
-opened_some : (n net : ℕ) (line : PointLine) (rest : List PointLine) → line.net ≡ Some net → bare_from n (line ∷ rest) ≡ bare_from (n + 1) rest
+pub opened_some : (n net : ℕ) (line : PointLine) (rest : List PointLine) → line.net ≡ Some net → bare_from n (line ∷ rest) ≡ bare_from (n + 1) rest
 opened_some n net line rest some = rw some refl
 
 -- The points without a net before i are those of the list before `at`.

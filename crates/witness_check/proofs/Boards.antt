@@ -43,7 +43,7 @@ under_as b t is k p stands = stands_as (length b.probes) (UnderAt b) t.beneath i
 under_where : (b : PlainBoard) (t : Tables) → IsTables b t → (k p : ℕ) → UnderAt b k p → Stands t.beneath k p
 under_where b t is k p under = stands_where (length b.probes) (UnderAt b) t.beneath is.beneath k p (slice_get_within b.probes k under.probe under.probe_is) under
 
-chain_along : (near more : ℕ → ℕ → Type 0) → ((p q : ℕ) → near p q → more p q) → (chain : List ℕ) (p q : ℕ) → IsChain near p chain q → IsChain more p chain q
+pub chain_along : (near more : ℕ → ℕ → Type 0) → ((p q : ℕ) → near p q → more p q) → (chain : List ℕ) (p q : ℕ) → IsChain near p chain q → IsChain more p chain q
 chain_along near more along [] p q leads = leads
 chain_along near more along (next ∷ rest) p q (here, leads) = (along p next here, chain_along near more along rest next q leads)
 

@@ -88,7 +88,7 @@ extent_moved f f' b b' e p q is = subst (λ (x : Frame). IsExtent x b' e) p (sub
 
 -- ---- Filing
 
-flips : (x y : ℕ) → (x == y) ≡ (y == x)
+pub flips : (x y : ℕ) → (x == y) ≡ (y == x)
 flips x y = grind (arith, nat_tests)
 
 one_turned : (x y : Interval) → are_one x y ≡ are_one y x

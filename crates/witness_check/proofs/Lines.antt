@@ -9,22 +9,20 @@ use Rattle.board_shapes.specs.Touching.{UnderAt}
 use Rattle.board_shapes.specs.declared.probe.Probe.{Probe}
 use Rattle.tables.specs.Lists.{IsLeast, Lists}
 use Rattle.tables.specs.Tables.{row_at}
+use Rattle.tables.proofs.Listing.{none_listed}
 use Rattle.verdict.specs.declared.verdict.Twig.{Twig}
 use Rattle.verdict.specs.declared.verdict.Branch.{Branch}
 use Rattle.verdict.specs.declared.verdict.PointLine.{PointLine}
 use Rattle.verdict.specs.declared.verdict.Short.{Short}
 use Rattle.verdict.specs.Forest.{IsForest, Holds, first_piece}
-use Rattle.verdict.specs.Right.{AreBranches, AreLines, BeginsAt, BeginsAtHome, BeginsBeneath, HasBranches, IsLeastOf, first_from, marks}
+use Rattle.verdict.specs.Right.{AreBranches, AreLines, BeginsAtHome, BeginsBeneath, HasBranches, IsLeastOf, first_from, marks}
 use Rattle.verdict.proofs.Holding.{held_within}
 use Rattle.verdict.specs.Seats.{net_by}
+use Rattle.verdict.proofs.Chains.{begins_along}
 use Rattle.witness_check.specs.Homes.{AreHomes, IsOneOf}
 use Rattle.witness_check.specs.Lines.{AreLinesBy, IsLineAt, IsLineBy}
 
 -- ---- One line
-
-none_listed : (P : ℕ → Type 0) (row : List ℕ) → Lists P row → ((q : ℕ) → P q → ⊥) → row ≡ []
-none_listed P [] lists none = refl
-none_listed P (x ∷ xs) lists none = absurd (none x (lists.only x (0, omega arith, refl)))
 
 none_inside : (row : List ℕ) (p : ℕ) → row ≡ [] → Contains row p → ⊥
 none_inside row p empty h = let k : Contains [] p = subst (λ (xs : List ℕ). Contains xs p) empty h in let b = k.1 in omega arith
@@ -165,10 +163,6 @@ first_step false n probe more later rest e = let b = rest e in omega arith
 first_within : (net name n : ℕ) (lines : List PointLine) (probe : ℕ) → first_from net name n lines ≡ Some probe → probe < n + length lines
 first_within net name n [] probe e = cc
 first_within net name n (line ∷ rest) probe e = let b = first_step (marks net name line) n probe (length rest) (first_from net name (n + 1) rest) (first_within net name (n + 1) rest probe) e in omega arith
-
-begins_along : (a b : ℕ → Type 0) → ((p : ℕ) → a p → b p) → (pieces : List ℕ) → BeginsAt a pieces → BeginsAt b pieces
-begins_along a b along [] h = absurd h
-begins_along a b along (p ∷ rest) h = along p h
 
 -- What holds of a branch's start goes along to another.
 abbrev pub GoesAlong : (starts more : ℕ → ℕ → Type 0) → ℕ → Branch → Type 0

@@ -1,21 +1,19 @@
 -- Members of lists. Lists without repeats that have the same members are one list in two orders.
 use Rattle.std.proofs.Common.{◌≡◌, ◌≢◌, ℕ, suc, ◌==◌, List, [], ◌∷◌, AllPairs, Contains, refl, sym, ◌∙◌, arith}
-use Rattle.std.proofs.lemmas.Bool.Decides.{Decides-eqb, nat_tests}
+use Rattle.std.proofs.lemmas.Bool.Decides.{Decides-eqb}
 use Rattle.std.proofs.lemmas.List.Elements.{Contains-append_right}
 use Rattle.std.proofs.lemmas.List.Sorted.{Contains-permutation, IsPermutation-cons, IsPermutation-refl, IsPermutation-remove, IsPermutation-sym, IsPermutation-trans}
 use Rattle.std.proofs.lemmas.Map.Keys.{IsDistinct-IsPermutation}
 use Rattle.std.proofs.lemmas.Map.Made.{AllPairs-from_IsDistinct, Contains-tail, IsDistinct-from_AllPairs}
 use Rattle.std.specs.List.{remove}
 use Rattle.std.specs.List.Sorted.{IsPermutation}
+use Rattle.witness_check.proofs.Filing.{flips}
 
 -- ---- Two orders of one list
 
 -- no number stands at two places
 abbrev pub AreDistinct : List ℕ → Type 0
 AreDistinct xs = AllPairs (λ p q. p ≢ q) xs
-
-flips : (x y : ℕ) → (x == y) ≡ (y == x)
-flips x y = grind (arith, nat_tests)
 
 distinct_moved : (xs ys : List ℕ) → IsPermutation xs ys → AreDistinct xs → AreDistinct ys
 distinct_moved xs ys moved once = AllPairs-from_IsDistinct Decides-eqb ys (IsDistinct-IsPermutation (λ x y. x == y) flips xs ys moved (IsDistinct-from_AllPairs Decides-eqb xs once))

@@ -36,7 +36,7 @@ pub record AreShortTo (shorts : List Short) (table : List (List Mark)) (next n :
 short_next : (shorts : List Short) (next : ℕ) (d : Short) → next < length shorts → map outline (drop next shorts) ≡ outline (get_or shorts next d) ∷ map outline (drop (next + 1) shorts)
 short_next shorts next d below = ap (map outline) (drop_more shorts next d below)
 
-none_cons : {X : Type 0} (x : X) (xs : List X) → [] ≡ x ∷ xs → ⊥
+pub none_cons : {X : Type 0} (x : X) (xs : List X) → [] ≡ x ∷ xs → ⊥
 none_cons x xs e = cc
 
 pub shorts_done : (shorts : List Short) (table : List (List Mark)) (next n : ℕ) (d : Short) → length table ≤ n → AreShortTo shorts table next n → (next ≡ length shorts) ↔ (map outline shorts ≡ outlines_from 0 table)

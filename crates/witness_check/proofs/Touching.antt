@@ -1,22 +1,19 @@
 -- Pieces of a board that touch, and pieces under its probes.
-use Rattle.std.proofs.Common.{◌≡◌, ◌↔◌, ℕ, ◌<◌, IsTrue, Bool, List, Some, length, get_or, slice_get, sym, ap, subst, ◌∙◌, arith}
+use Rattle.std.proofs.Common.{◌≡◌, ◌↔◌, ℕ, ◌<◌, IsTrue, Bool, List, Some, length, get_or, slice_get, sym, ap, subst, ◌∙◌}
 use Rattle.std.proofs.lemmas.List.{length-map}
 use Rattle.std.proofs.lemmas.Option.{slice_get-get_or, slice_get-map}
 use Rattle.std.specs.Option.{option_map}
 use Rattle.board_shapes.specs.Plain.{PlainBoard, PlainPiece, plain_piece, plain_pieces}
-use Rattle.board_shapes.specs.Spans.{CommonLayer}
 use Rattle.board_shapes.specs.Tables.{IsNear}
 use Rattle.board_shapes.specs.Touching.{IsUnder, Touch, UnderAt}
 use Rattle.board_shapes.specs.declared.placed.Placed.{Placed}
 use Rattle.board_shapes.specs.declared.probe.Probe.{Probe}
 use Rattle.board_shapes.specs.declared.shape.Shape.{Shape}
+use Rattle.board_shapes.proofs.BoardTables.{layers_turn}
 use Rattle.contact.specs.RoundLaws.{turned}
 
-layers_turned : (top bottom top' bottom' : ℕ) → CommonLayer top bottom top' bottom' → CommonLayer top' bottom' top bottom
-layers_turned top bottom top' bottom' h = omega arith
-
 pub near_turned : (b : PlainBoard) (p q : ℕ) → IsNear b p q → IsNear b q p
-near_turned b p q (other, t) = ((λ e. other (sym e)), record { first = t.second; second = t.first; first_is = t.second_is; second_is = t.first_is; touch = (layers_turned t.first.top t.first.bottom t.second.top t.second.bottom t.touch.0, turned t.touch.1) })
+near_turned b p q (other, t) = ((λ e. other (sym e)), record { first = t.second; second = t.first; first_is = t.second_is; second_is = t.first_is; touch = (layers_turn t.first.top t.first.bottom t.second.top t.second.bottom t.touch.0, turned t.touch.1) })
 
 some_one : {A : Type 0} (a b : A) → Some a ≡ Some b → a ≡ b
 some_one a b e = cc

@@ -1,10 +1,11 @@
 -- Trees tested twig by twig, net by net.
 use Rattle.std.proofs.Common.{◌≡◌, ◌≢◌, ◌⊎◌, inl, inr, ℕ, zero, suc, ◌+◌, ◌<◌, ◌≤◌, List, [], ◌∷◌, ◌++◌, length, get_or, set, take, drop, Contains, All, None, refl, sym, ap, subst, ◌∙◌, append_assoc, append-nil, arith}
-use Rattle.std.proofs.lemmas.List.{length-set, map-append, get_or-set_same, get_or-set_other, get_or_default, get_or-map, length-map, take_all, take_more, take-append-drop}
+use Rattle.std.proofs.lemmas.List.{length-set, get_or-set_same, get_or-set_other, get_or_default, get_or-map, length-map, take_all, take_more, take-append-drop}
 use Rattle.std.proofs.lemmas.List.Elements.{All-push, All-get_or, All-from_get_or, Contains-push, Contains-push_cases, Contains-append_left, Contains-get_or}
 use Rattle.std.proofs.lemmas.Bool.{cases_eq}
 use Rattle.verdict.specs.declared.verdict.Twig.{Twig}
 use Rattle.verdict.specs.Forest.{IsTree, Hang, HangsOn, AreTrees, Holds, net_at, pieces_of, piece_of, first_piece}
+use Rattle.verdict.proofs.Trees.{pieces-push}
 use Rattle.witness_check.specs.Nets.{IsKnownTree, HangsByStamp, twig_count}
 
 pub hang_more : (near : ℕ → ℕ → Type 0) (earlier : List ℕ) (rest : List Twig) (t : Twig) → Hang near earlier rest → HangsOn near (earlier ++ pieces_of rest) t → Hang near earlier (rest ++ t ∷ [])
@@ -69,14 +70,11 @@ set_cases P stamps p stamp q below here there = elim (cases_eq q p) [
   | inr other ↦ subst (λ (v : ℕ). P q v) (sym (get_or-set_other stamps p q stamp 0 other)) (there other)
 ]
 
-pieces_push : (net : List Twig) (t : Twig) → pieces_of (net ++ t ∷ []) ≡ pieces_of net ++ t.piece ∷ []
-pieces_push net t = map-append piece_of net (t ∷ [])
-
 pub judging_more : (count : ℕ) (near : ℕ → ℕ → Type 0) (net : List Twig) (stamp j : ℕ) (stamps : List ℕ) → IsJudging count near net stamp j stamps → j < length net → HangsByStamp count near stamps stamp (first_piece net) (get_or net j (record { piece = 0; parent = None })) → IsJudging count near net stamp (j + 1) (set stamps (get_or net j (record { piece = 0; parent = None })).piece stamp)
 judging_more count near net stamp j stamps g below h =
     let t : Twig = get_or net j (record { piece = 0; parent = None }) in
     let more : take (j + 1) net ≡ take j net ++ t ∷ [] = take_more net j (record { piece = 0; parent = None }) below in
-    let pieces : pieces_of (take (j + 1) net) ≡ pieces_of (take j net) ++ t.piece ∷ [] = ap pieces_of more ∙ pieces_push (take j net) t in
+    let pieces : pieces_of (take (j + 1) net) ≡ pieces_of (take j net) ++ t.piece ∷ [] = ap pieces_of more ∙ pieces-push (take j net) t in
     let room : t.piece < length stamps = let a = h.known in let b = g.long in omega arith in
     record {
       some = omega arith;

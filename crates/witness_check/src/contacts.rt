@@ -11,7 +11,7 @@ ghost use Rattle.std.specs.Prelude.{◌≡◌, ◌+◌, ◌<◌, ◌≤◌, ◌�
 use area_contact::Area;
 use board_shapes::{Board, Piece, Shape};
 use contact::{Capsule, Closed, Meets};
-use planar::{Frame, Spot};
+use planar::{Frame, is_same};
 use std::sync::ledger::Ledger;
 use steps::Steps;
 
@@ -80,13 +80,6 @@ fn begin_together(first: &Capsule, second: &Capsule) -> bool
     ensures { IsTrue result → SharePoint (InCapsule first.now.a first.now.b first.now.r) (InCapsule second.now.a second.now.b second.now.r) }
 {
     is_same(first.a, second.a)
-}
-
-// Whether two spots are one.
-fn is_same(one: Spot, two: Spot) -> bool
-    ensures { IsTrue result ↔ (one ≡ two) }
-{
-    one == two
 }
 
 // Whether the end of the capsule lies in the area.

@@ -13,7 +13,7 @@ use Rattle.xnc.specs.declared.line.DrillLine.TheVariants as form
 use Rattle.xnc.specs.declared.settings.Settings.{Settings}
 use Rattle.xnc.specs.declared.tools.Tools.{Tools}
 use Rattle.xnc.specs.declared.reader.Reader.{Reader}
-use Rattle.xnc.specs.FaultPlace.{Place}
+use Rattle.xnc.specs.Places.{Place}
 use Rattle.xnc.specs.DrillEffects.{Known, Effect, stays, makes, coordinate, effect, after}
 use Rattle.std.specs.Option.{option_or}
 use Rattle.file_reading.specs.LookingBack.{how_many}

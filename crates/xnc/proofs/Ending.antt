@@ -12,6 +12,7 @@ use Rattle.texts.specs.Blanks.{is_blank, trimmed, without_back, without_front}
 use Rattle.texts.specs.Lines.{PlainLine, lines_of}
 use Rattle.texts.specs.Words.{begins, is_word}
 use Rattle.texts.proofs.Prefix.{AreCut, TellsEnd, NoneEnds, end_of_prefix, no_end_in_prefix, lines_of_prefix}
+use Rattle.texts.proofs.Blanks.{front-blank, front-other}
 use Rattle.xnc.specs.declared.kind.DrillKind.{DrillKind}
 use Rattle.xnc.specs.declared.kind.DrillKind.TheVariants as kind
 use Rattle.xnc.specs.declared.line.Coordinates.{Coordinates}
@@ -19,7 +20,7 @@ use Rattle.xnc.specs.declared.line.DrillLine.{DrillLine}
 use Rattle.xnc.specs.declared.line.DrillLine.TheVariants as form
 use Rattle.xnc.specs.declared.settings.Stage.{Stage}
 use Rattle.xnc.specs.declared.settings.Stage.TheVariants.{Opening, Header, Body, Ended}
-use Rattle.xnc.specs.FaultPlace.{Place}
+use Rattle.xnc.specs.Places.{Place}
 use Rattle.xnc.specs.DrillLines.{form_of, within_blanks, comment, file_function, command, body_line, place_line, tool_line, line_with, slots, slot_end, defines, coordinates_of, field, further, names_span, is_g, is_c, is_metric, is_inch}
 use Rattle.xnc.specs.DrillEffects.{Known, Effect, stays, unless, effect, staged, header, body, is_ended}
 use Rattle.xnc.specs.Settings.{stage_at, known_at, effect_at, piece_of, barrels_at}
@@ -152,12 +153,6 @@ return_begins (a ∷ []) h = absurd (let l = long_code (a ∷ 13 ∷ []) h in om
 return_begins (a ∷ b ∷ []) h = absurd (let third : 13 ≡ 48 = ap (λ (xs : List ℕ). get_or xs 2 0) (code_behind (a ∷ b ∷ 13 ∷ []) h) in omega (arith, third))
 return_begins (a ∷ b ∷ c ∷ text) h = h
 
-front_blank : (b : ℕ) (text : List ℕ) → is_blank b ≡ true → without_front (b ∷ text) ≡ without_front text
-front_blank b text h = let more : 1 + prefix_len is_blank text ≡ suc (prefix_len is_blank text) = omega arith in rw (h, more) refl
-
-front_other : (b : ℕ) (text : List ℕ) → is_blank b ≡ false → without_front (b ∷ text) ≡ b ∷ text
-front_other b text h = rw h refl
-
 whole_tells : (text : List ℕ) → tells text ≡ true → reach text ≤ length text
 whole_tells text h = let l = long_code (without_front text) h in let d = length-drop (prefix_len is_blank text) text in omega (arith, l, d)
 
@@ -169,22 +164,22 @@ part_tells (b ∷ text) (suc k) h = by (is_blank b) refl (part_tells text k)
   where
     by : (v : Bool) → is_blank b ≡ v → (tells (take k text) ≡ true → (tells text ≡ true) × (reach text ≤ length (take k text))) → (tells (b ∷ text) ≡ true) × (reach (b ∷ text) ≤ suc (length (take k text)))
     by true e more =
-        let m = more (ap (λ (xs : List ℕ). begins xs (codes "M30")) (sym (front_blank b (take k text) e)) ∙ h) in
+        let m = more (ap (λ (xs : List ℕ). begins xs (codes "M30")) (sym (front-blank b (take k text) e)) ∙ h) in
         let size : prefix_len is_blank (b ∷ text) ≡ 1 + prefix_len is_blank text = rw e refl in
-        (ap (λ (xs : List ℕ). begins xs (codes "M30")) (front_blank b text e) ∙ m.0, (let le = m.1 in omega (arith, size, le)))
+        (ap (λ (xs : List ℕ). begins xs (codes "M30")) (front-blank b text e) ∙ m.0, (let le = m.1 in omega (arith, size, le)))
     by false e more =
-        let front : begins (b ∷ take k text) (codes "M30") ≡ true = ap (λ (xs : List ℕ). begins xs (codes "M30")) (sym (front_other b (take k text) e)) ∙ h in
+        let front : begins (b ∷ take k text) (codes "M30") ≡ true = ap (λ (xs : List ℕ). begins xs (codes "M30")) (sym (front-other b (take k text) e)) ∙ h in
         let whole = front_begins (b ∷ text) (b ∷ take k text) (drop k text) (ap (λ (xs : List ℕ). b ∷ xs) (sym (take-append-drop k text))) front in
         let size : prefix_len is_blank (b ∷ text) ≡ 0 = rw e refl in
-        (ap (λ (xs : List ℕ). begins xs (codes "M30")) (front_other b text e) ∙ whole, (let l = long_code (b ∷ take k text) front in omega (arith, size, l)))
+        (ap (λ (xs : List ℕ). begins xs (codes "M30")) (front-other b text e) ∙ whole, (let l = long_code (b ∷ take k text) front in omega (arith, size, l)))
 
 return_tells : (text : List ℕ) → tells (text ++ (13 ∷ [])) ≡ true → tells text ≡ true
 return_tells [] h = cc
 return_tells (b ∷ text) h = by (is_blank b) refl (return_tells text)
   where
     by : (v : Bool) → is_blank b ≡ v → (tells (text ++ (13 ∷ [])) ≡ true → tells text ≡ true) → tells (b ∷ text) ≡ true
-    by true e more = ap (λ (xs : List ℕ). begins xs (codes "M30")) (front_blank b text e) ∙ more (ap (λ (xs : List ℕ). begins xs (codes "M30")) (sym (front_blank b (text ++ (13 ∷ [])) e)) ∙ h)
-    by false e more = ap (λ (xs : List ℕ). begins xs (codes "M30")) (front_other b text e) ∙ return_begins (b ∷ text) (ap (λ (xs : List ℕ). begins xs (codes "M30")) (sym (front_other b (text ++ (13 ∷ [])) e)) ∙ h)
+    by true e more = ap (λ (xs : List ℕ). begins xs (codes "M30")) (front-blank b text e) ∙ more (ap (λ (xs : List ℕ). begins xs (codes "M30")) (sym (front-blank b (text ++ (13 ∷ [])) e)) ∙ h)
+    by false e more = ap (λ (xs : List ℕ). begins xs (codes "M30")) (front-other b text e) ∙ return_begins (b ∷ text) (ap (λ (xs : List ℕ). begins xs (codes "M30")) (sym (front-other b (text ++ (13 ∷ [])) e)) ∙ h)
 
 code_tells_end : TellsEnd tells reach
 code_tells_end = record { whole = whole_tells; part = part_tells; returned = return_tells }

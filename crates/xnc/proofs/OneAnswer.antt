@@ -1,7 +1,7 @@
 -- Each file has one answer.
 use Rattle.std.proofs.Common.{ℕ, List}
 use Rattle.file_reading.proofs.OneAnswer as reading
-use Rattle.xnc.specs.FaultPlace.{Place}
+use Rattle.xnc.specs.Places.{Place}
 use Rattle.xnc.specs.Settings.{effect_at, barrels_at}
 use Rattle.xnc.specs.DrillFile.{items, HasOneAnswer}
 

@@ -4,6 +4,7 @@ use Rattle.planar.specs.declared.Spot.{Spot}
 use Rattle.lengths.specs.Decimal.{Fraction, other_unit}
 use Rattle.lengths.specs.declared.decimal.Unit.{Unit as Measure}
 use Rattle.board_shapes.specs.Plain.{round}
+use Rattle.xnc.specs.declared.TheConstants.{MOST_TOOLS}
 use Rattle.xnc.specs.declared.kind.DrillKind.{DrillKind}
 use Rattle.xnc.specs.declared.kind.DrillKind.TheVariants as kind
 use Rattle.xnc.specs.declared.line.Coordinates.{Coordinates}
@@ -133,9 +134,9 @@ pub record Defined (k : Known) (n : ℕ) (d : Fraction) (e : Effect) : Type 0 wh
 define_did : (k : Known) (n : ℕ) (d : Fraction) (e : Effect) → define k n d ≡ Ok e → Defined k n d e
 unfolding define
 define_did k n d e h =
-    let s = bind_ok (diameter_of k.settings.unit d) (λ size. unless (is_some (k.defined n)) kind.ToolTwice (unless (nat_le 1000 k.tools) kind.TooManyTools (Ok (makes n size)))) e h in
-    let one = past_test (is_some (k.defined n)) kind.ToolTwice (unless (nat_le 1000 k.tools) kind.TooManyTools (Ok (makes n s.0))) e s.2 in
-    let two = past_test (nat_le 1000 k.tools) kind.TooManyTools (Ok (makes n s.0)) e one in
+    let s = bind_ok (diameter_of k.settings.unit d) (λ size. unless (is_some (k.defined n)) kind.ToolTwice (unless (nat_le MOST_TOOLS k.tools) kind.TooManyTools (Ok (makes n size)))) e h in
+    let one = past_test (is_some (k.defined n)) kind.ToolTwice (unless (nat_le MOST_TOOLS k.tools) kind.TooManyTools (Ok (makes n s.0))) e s.2 in
+    let two = past_test (nat_le MOST_TOOLS k.tools) kind.TooManyTools (Ok (makes n s.0)) e one in
     let same : makes n s.0 ≡ e = cc in
     record { size = s.0; size_is = s.1; is = sym same }
 

@@ -13,7 +13,7 @@ use Rattle.xnc.specs.declared.kind.DrillKind.TheVariants as kind
 use Rattle.xnc.specs.declared.line.Coordinates.{Coordinates}
 use Rattle.xnc.specs.declared.line.DrillLine.{DrillLine}
 use Rattle.xnc.specs.declared.line.DrillLine.TheVariants as form
-use Rattle.xnc.specs.FaultPlace.{Place}
+use Rattle.xnc.specs.Places.{Place}
 use Rattle.xnc.specs.DrillEffects.{Known, Effect, stays, makes, moves, drills, ◌>>=◌, unless, is_drilling, target, diameter, half, barrel, rout, straight, hit, slot, header, body, effect}
 use Rattle.xnc.specs.Settings.{piece_of, barrels_at, known_at, effect_at}
 use Rattle.xnc.specs.DrillFile.{IsRead}

@@ -16,7 +16,7 @@ use Rattle.xnc.specs.declared.kind.DrillFault.{DrillFault}
 use Rattle.file_reading.specs.declared.halt.Halt.{Halt}
 use Rattle.file_reading.specs.declared.halt.Halt.TheVariants as halt
 use Rattle.xnc.specs.declared.reader.Reader.{Reader}
-use Rattle.xnc.specs.FaultPlace.{Place}
+use Rattle.xnc.specs.Places.{Place}
 use Rattle.xnc.specs.DrillEffects.{Known, Effect, effect}
 use Rattle.xnc.specs.Settings.{settings_at, defined_at, effect_at, barrels_at}
 use Rattle.xnc.specs.DrillFile.{item_of, items, items_with, IsRead, IsFault}

@@ -4,7 +4,7 @@ use Rattle.xnc.specs.declared.kind.DrillKind.{DrillKind}
 use Rattle.xnc.specs.declared.kind.DrillKind.TheVariants as kind
 use Rattle.xnc.specs.declared.line.DrillLine.{DrillLine}
 use Rattle.xnc.specs.declared.line.DrillLine.TheVariants as form
-use Rattle.xnc.specs.FaultPlace.{Place}
+use Rattle.xnc.specs.Places.{Place}
 use Rattle.xnc.specs.DrillEffects.{Known, Effect, stays, unless, is_drilling, diameter, header, body, effect}
 use Rattle.std.specs.Option.{option_or}
 use Rattle.xnc.specs.Settings.{down_at, tool_at, defined_at, known_at}

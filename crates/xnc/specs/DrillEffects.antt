@@ -7,6 +7,7 @@ use Rattle.lengths.specs.Grid.{position_of, size_of}
 use Rattle.lengths.specs.declared.decimal.Unit.{Unit as Measure}
 use Rattle.lengths.specs.declared.decimal.GridFault.{GridFault}
 use Rattle.board_shapes.specs.Plain.{Figure, round}
+use Rattle.xnc.specs.declared.TheConstants.{MOST_TOOLS}
 use Rattle.xnc.specs.declared.kind.DrillKind.{DrillKind}
 use Rattle.xnc.specs.declared.kind.DrillKind.TheVariants as kind
 use Rattle.xnc.specs.declared.line.Coordinates.{Coordinates}
@@ -68,7 +69,7 @@ diameter_of unit d = do
 unfoldable pub define : Known → ℕ → Fraction → Result Effect DrillKind
 define k n d = do
   size ← diameter_of k.settings.unit d
-  unless (is_some (k.defined n)) kind.ToolTwice (unless (nat_le 1000 k.tools) kind.TooManyTools (Ok (makes n size)))
+  unless (is_some (k.defined n)) kind.ToolTwice (unless (nat_le MOST_TOOLS k.tools) kind.TooManyTools (Ok (makes n size)))
 
 -- the value of a coordinate
 unfoldable pub value_of : Measure → Fraction → Result ℤ DrillKind

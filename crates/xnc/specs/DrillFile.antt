@@ -9,7 +9,7 @@ use Rattle.xnc.specs.declared.line.DrillLine.TheVariants as form
 use Rattle.xnc.specs.declared.kind.DrillKind.{DrillKind}
 use Rattle.xnc.specs.declared.kind.DrillFault.{DrillFault}
 use Rattle.xnc.specs.declared.kind.DrillFault.TheVariants as fault
-use Rattle.xnc.specs.FaultPlace.{Place}
+use Rattle.xnc.specs.Places.{Place}
 use Rattle.xnc.specs.DrillLines.{form_of}
 use Rattle.xnc.specs.Settings.{effect_at, barrels_at}
 

@@ -10,7 +10,7 @@ use Rattle.xnc.specs.Kind.{row_of}
 use Rattle.xnc.specs.declared.kind.DrillKind.{DrillKind}
 use Rattle.xnc.specs.declared.line.DrillLine.{DrillLine}
 use Rattle.xnc.specs.declared.line.DrillLine.TheVariants as form
-use Rattle.xnc.specs.FaultPlace.{Place}
+use Rattle.xnc.specs.Places.{Place}
 use Rattle.xnc.specs.DrillLines.{form_of}
 use Rattle.xnc.specs.DrillEffects.{diameter}
 use Rattle.xnc.specs.Settings.{down_at, known_at, effect_at}

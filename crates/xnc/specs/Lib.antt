@@ -1,7 +1,7 @@
 pub mod DrillFile
 pub mod Kind
 pub mod Laws
-pub mod FaultPlace
+pub mod Places
 pub mod Reader
 pub mod DrillLines
 pub mod Settings

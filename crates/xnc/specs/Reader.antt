@@ -19,7 +19,7 @@ use Rattle.xnc.specs.declared.effect.Effect.{Effect as Seen}
 use Rattle.xnc.specs.declared.effect.Effect.TheVariants as seen
 use Rattle.xnc.specs.declared.tools.Tools.{Tools}
 use Rattle.xnc.specs.declared.reader.Reader.{Reader}
-use Rattle.xnc.specs.FaultPlace.{Place}
+use Rattle.xnc.specs.Places.{Place}
 use Rattle.xnc.specs.DrillEffects.{Known, Effect, stays, makes, moves, drills, rout, straight, hit, slot, effect, after}
 use Rattle.xnc.specs.Settings.{piece_of, settings_at}
 

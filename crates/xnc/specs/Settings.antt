@@ -14,7 +14,7 @@ use Rattle.xnc.specs.declared.settings.Stage.TheVariants.{Opening, Header, Body,
 use Rattle.xnc.specs.declared.settings.Mode.{Mode}
 use Rattle.xnc.specs.declared.settings.Mode.TheVariants.{Drill, Rout}
 use Rattle.xnc.specs.declared.settings.Settings.{Settings}
-use Rattle.xnc.specs.FaultPlace.{Place}
+use Rattle.xnc.specs.Places.{Place}
 use Rattle.xnc.specs.DrillEffects.{Known, Effect, drills, value_of, diameter_of, effect}
 
 -- the stage that a line begins

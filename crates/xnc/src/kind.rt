@@ -43,7 +43,7 @@ pub enum DrillKind {
     AfterEnd,
     /// A barrel where the room for pieces is used up.
     TooManyPieces,
-    /// A definition after 1,000 others.
+    /// A definition after `MOST_TOOLS` others.
     TooManyTools,
 }
 

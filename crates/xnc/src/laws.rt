@@ -4,7 +4,7 @@ ghost use Rattle.board_shapes.specs.Plain.{PlainPiece};
 ghost use Rattle.xnc.specs.declared.line.DrillLine.{DrillLine};
 ghost use Rattle.xnc.specs.DrillFile.{HasOneAnswer, IsRead};
 ghost use Rattle.xnc.specs.Laws.{HasTool, KindsHaveOwnNumbers, PrefixIsRefused};
-ghost use Rattle.xnc.specs.FaultPlace.{Place};
+ghost use Rattle.xnc.specs.Places.{Place};
 
 /// Each file has one answer: its barrels, or its first fault.
 pub fn one_answer()

@@ -22,3 +22,6 @@ mod tools;
 pub use drill_file::read_drill;
 pub use kind::{DrillFault, DrillKind};
 pub use span::Span;
+
+/// The most tools that a file defines.
+pub const MOST_TOOLS: usize = 1000;

@@ -2,6 +2,7 @@
 ghost use Rattle.std.specs.Prelude.{◌≡◌, ◌+◌, ◌^◌, ◌<◌, ◌≤◌, [], IfOk, IfErr, IfSome, OnOk};
 ghost use Rattle.contact.specs.declared.TheConstants.{MOST_DIAMETER};
 
+use crate::MOST_TOOLS;
 use crate::drill_effects::{after, diameter, half, is_drilling, is_ended, is_start, target};
 use crate::effect::Effect;
 use crate::kind::DrillKind;
@@ -85,7 +86,7 @@ impl Reader {
         if self.tools.find(n).is_some() {
             return Err(DrillKind::ToolTwice);
         }
-        if self.tools.len() >= 1000 {
+        if self.tools.len() >= MOST_TOOLS {
             return Err(DrillKind::TooManyTools);
         }
         Ok(Effect::Makes(n, size))

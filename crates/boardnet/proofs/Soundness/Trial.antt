@@ -1,5 +1,6 @@
 -- That what is told of the command `trial` is sound.
 use Rattle.std.proofs.Common.{◌≡◌, ℕ, ◌≤◌, List, Option, refl, arith, sym, ◌∙◌}
+use Rattle.board_maker.specs.declared.TheConstants.{MOST_CELLS}
 use Rattle.board_io.specs.Handed.{Handed}
 use Rattle.board_io.specs.Package.{Files}
 use Rattle.boardnet.proofs.Alike.{same_summary, same_verdicts}
@@ -14,7 +15,7 @@ one_size size SizeTooLarge SizeTooLarge x y = refl
 one_size size SizeTooLarge other x y = absurd y
 one_size size why other x y = absurd x
 
-no_summary : (size : ℕ) (why : Unanswered) → TrialRefuses size why → size ≤ 10000 → ⊥
+no_summary : (size : ℕ) (why : Unanswered) → TrialRefuses size why → size ≤ MOST_CELLS → ⊥
 no_summary size SizeTooLarge m small = omega (arith, m, small)
 no_summary size other m small = absurd m
 

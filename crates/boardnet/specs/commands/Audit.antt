@@ -12,7 +12,6 @@ use Rattle.boardnet.specs.declared.answer.Unanswered.TheVariants.{NotAReport}
 use Rattle.reports.specs.Rulings.{HasRuling, IsNoReport, IsTextOf}
 use Rattle.lengths.specs.Text.{IsText}
 use Rattle.tables.specs.Tables.{Tables}
-use Rattle.verdict.specs.ReportText.{report_text}
 use Rattle.verdict.specs.declared.verdict.Verdict.{Verdict}
 
 -- `audit`, the name of a manifest and the name of a report

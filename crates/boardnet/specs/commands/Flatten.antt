@@ -18,8 +18,8 @@ pub record IsFlatten (words : List (String Global)) (name : List ℕ) : Type 0 w
   pub spelled : map string_bytes words ≡ codes "flatten" ∷ name ∷ []
   pub text : IsText name
 
--- The file was read and is not too long, it has an image, and this is the text of that image, which every layer reads as the same
--- copper; with the status and the line.
+-- The file was read and is not too long, it has an image, and this is the text of that image, which each layer to
+-- MOST_LAYERS, in a room of MOST_PIECES pieces and MOST_FLAT_EDGES edges, reads as the same copper; with the status and the line.
 pub record IsFlatText (source : Source) (name text : List ℕ) (status : ℕ) (line : List ℕ) : Type 0 where
   pub bytes : List ℕ
   pub file : IsFileBy source name bytes

@@ -9,6 +9,7 @@ use Rattle.boardnet.specs.Source.{Source, FitsWith, IsBoardBy}
 use Rattle.boardnet.specs.Task.{Task, on_package}
 use Rattle.boardnet.specs.declared.answer.Unanswered.{Unanswered}
 use Rattle.boardnet.specs.declared.answer.Unanswered.TheVariants.{GrownTooLarge}
+use Rattle.gaps.specs.declared.TheConstants.{MOST_NANOMETRES}
 use Rattle.gaps.specs.GrownBox.{grown_common}
 use Rattle.lengths.specs.Text.{IsText}
 
@@ -16,7 +17,7 @@ use Rattle.lengths.specs.Text.{IsText}
 pub record IsGaps (words : List (String Global)) (name : List ℕ) (nanometres : ℕ) : Type 0 where
   pub spelled : map string_bytes words ≡ codes "gaps" ∷ name ∷ decimal nanometres ∷ []
   pub text : IsText name
-  pub few : nanometres ≤ 10_000_000
+  pub few : nanometres ≤ MOST_NANOMETRES
 
 -- The package fits, and this is the list of gaps of its board, with the status and the line.
 abbrev pub IsGapped : Source → List ℕ → ℕ → List ℕ → ℕ → List ℕ → Type 0
@@ -29,7 +30,7 @@ GapsRefuses source manifest nanometres other = ⊥
 
 abbrev pub gaps : List ℕ → ℕ → Task
 gaps manifest nanometres = record (on_package manifest (λ words. IsGaps words manifest nanometres) (codes "gaps" ∷ manifest ∷ decimal nanometres ∷ []) (λ source text status line. IsGapped source manifest nanometres text status line)) {
-  in_range = IsText manifest × (nanometres ≤ 10_000_000);
+  in_range = IsText manifest × (nanometres ≤ MOST_NANOMETRES);
   refuses = λ source why. GapsRefuses source manifest nanometres why;
   has_text = λ source. (board : PlainBoard) × IsBoardBy source manifest board × Fits (grown_common (pos (5 * nanometres)) board.pieces);
 }

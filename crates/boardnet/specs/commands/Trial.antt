@@ -3,6 +3,7 @@ use Rattle.std.specs.Str.Parse.{digits_value}
 use Rattle.std.specs.Prelude.{◌≡◌, ◌<◌, ◌≤◌, ℕ, List, [], ◌∷◌, Some, codes, decimal, ◌^◌, map, string_bytes, String, Option, None}
 use Rattle.std.specs.declared.alloc.Global.{Global}
 use Rattle.board_maker.specs.MadePackage.{made_files}
+use Rattle.board_maker.specs.declared.TheConstants.{MOST_CELLS}
 use Rattle.board_package.specs.PackageBoard.{IsBoardOf, IsFirstStop}
 use Rattle.board_shapes.specs.Plain.{PlainBoard}
 use Rattle.boardnet.specs.Command.{Command, Trial}
@@ -26,7 +27,7 @@ made_manifest = codes "m.json"
 
 -- The made package fits, and this is the summary of a right verdict on its board, with its status and its line.
 pub record IsTrialReport (seed size : ℕ) (text : List ℕ) (status : ℕ) (line : List ℕ) : Type 0 where
-  pub small : size ≤ 10000
+  pub small : size ≤ MOST_CELLS
   pub board : PlainBoard
   pub board_is : IsBoardOf (made_files seed size) made_manifest board
   pub verdict : Verdict
@@ -37,7 +38,7 @@ pub record IsTrialReport (seed size : ℕ) (text : List ℕ) (status : ℕ) (lin
 
 -- beside a stop: there is no made board of the size
 abbrev pub TrialRefuses : ℕ → Unanswered → Type 0
-TrialRefuses size SizeTooLarge = 10000 < size
+TrialRefuses size SizeTooLarge = MOST_CELLS < size
 TrialRefuses size other = ⊥
 
 -- It takes no file of the package.
@@ -51,10 +52,10 @@ trial seed size = record {
   takes = ⊥;
   reads = λ held. Some (made_files seed size);
   comes = λ source name. ⊥;
-  stops = λ source stop. (size ≤ 10000) × IsFirstStop (made_files seed size) made_manifest stop;
+  stops = λ source stop. (size ≤ MOST_CELLS) × IsFirstStop (made_files seed size) made_manifest stop;
   refuses = λ source why. TrialRefuses size why;
   answers = λ source text status line. IsTrialReport seed size text status line;
-  has_text = λ source. (size ≤ 10000) × (board : PlainBoard) × IsBoardOf (made_files seed size) made_manifest board;
+  has_text = λ source. (size ≤ MOST_CELLS) × (board : PlainBoard) × IsBoardOf (made_files seed size) made_manifest board;
 }
 
 -- the command that words behind its name can ask for; whether they are texts, and in range, is for `IsTrial` to say

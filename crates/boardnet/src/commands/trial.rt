@@ -1,6 +1,7 @@
 //! The command `trial SEED SIZE`: checks the made board of the two numbers, and puts a summary. It takes nothing from the package.
 //!
 //! 0, 1: as of `check`. 3: there is no board of the size.
+ghost use Rattle.board_maker.specs.declared.TheConstants.{MOST_CELLS};
 ghost use Rattle.boardnet.specs.Command.{asked};
 ghost use Rattle.reports.specs.Notes.{line_of, status_of};
 ghost use Rattle.boardnet.specs.HandedOutcome.{HasHandedReason};
@@ -45,7 +46,7 @@ pub fn summary(alloc: Global, seed: u64, size: u32) -> Answered
 
 // The verdict on a made board.
 fn verdict_on_made(alloc: Global, seed: u64, size: u32) -> Result<Verdict, Unanswered>
-    ensures ok { IfOk result (λ verdict. (size ≤ 10000) × (board : PlainBoard) × IsBoardOf (made_files seed size) made_manifest board × IsRightOn board verdict) }
+    ensures ok { IfOk result (λ verdict. (size ≤ MOST_CELLS) × (board : PlainBoard) × IsBoardOf (made_files seed size) made_manifest board × IsRightOn board verdict) }
     ensures reason { IfErr result (λ why. (source : Source) (before now : ℕ) (lost : List ℕ) → HasHandedReason source (Trial seed size) before now lost why) }
 {
     let mut made = make(alloc, seed, size)?;

@@ -1,11 +1,12 @@
 use Rattle.std.proofs.Common.{arith}
+use Rattle.std.proofs.lemmas.Bool.{both_ways}
 use Rattle.board_shapes.specs.Pieces.{plain_pieces}
 use Rattle.arc_covers.specs.declared.side.Side.TheVariants.{Above, Below}
-use Rattle.arc_covers.proofs.Steps.{first_more, fits, further, item_there, not_both, shared, unshared}
+use Rattle.arc_covers.proofs.Steps.{first_more, fits, further, item_there, shared, unshared}
 use Rattle.arc_covers.proofs.between.check_between.Goals as goal
 
 pub returns-then-not-add_up-2-clause-fault : goal.returns-then-not-add_up-2-clause-fault
-returns-then-not-add_up-2-clause-fault c = (c.add_up.ensures.0 c.if-not-add_up.false, λ up. not_both c.add_up-2.result c.if-not-add_up-2.true (c.add_up-2.ensures.1 up))
+returns-then-not-add_up-2-clause-fault c = (c.add_up.ensures.0 c.if-not-add_up.false, λ up. both_ways c.add_up-2.result c.if-not-add_up-2.true (c.add_up-2.ensures.1 up))
 
 pub returns-then-not-branch-clause-fault : goal.returns-then-not-branch-clause-fault
 returns-then-not-branch-clause-fault c = record {
@@ -16,7 +17,7 @@ returns-then-not-branch-clause-fault c = record {
   below = c.loop-i.invariant.below;
   above = c.loop-i.invariant.above;
   refused = λ taken.
-      not_both c.in_ok-stand.field-0 c.if-not-branch.true (c.in_ok-stand.ensures.1 (unshared Below c.index-real-i.result c.args.lower_counts.now c.args.lower.now c.part-under.result.now c.loop-i.i c.loop-i.low c.loop-i.invariant.low c.part-under.ensures taken));
+      both_ways c.in_ok-stand.field-0 c.if-not-branch.true (c.in_ok-stand.ensures.1 (unshared Below c.index-real-i.result c.args.lower_counts.now c.args.lower.now c.part-under.result.now c.loop-i.i c.loop-i.low c.loop-i.invariant.low c.part-under.ensures taken));
 }
 
 pub part-over-requires : goal.part-over-requires
@@ -32,7 +33,7 @@ returns-then-not-branch-2-clause-fault c = record {
       (shared Below c.index-real-i.result c.args.lower_counts.now c.args.lower.now c.part-under.result.now c.loop-i.i c.loop-i.low c.loop-i.invariant.low c.part-under.ensures (c.in_ok-stand.ensures.0 c.if-not-branch.false));
   above = c.loop-i.invariant.above;
   refused = λ taken.
-      not_both c.in_ok-stand-2.field-0 c.if-not-branch-2.true (c.in_ok-stand-2.ensures.1 (unshared Above c.index-real-i-in-loop-i.result c.args.upper_counts.now c.args.upper.now c.part-over.result.now c.loop-i.i c.loop-i.high c.loop-i.invariant.high c.part-over.ensures taken));
+      both_ways c.in_ok-stand-2.field-0 c.if-not-branch-2.true (c.in_ok-stand-2.ensures.1 (unshared Above c.index-real-i-in-loop-i.result c.args.upper_counts.now c.args.upper.now c.part-over.result.now c.loop-i.i c.loop-i.high c.loop-i.invariant.high c.part-over.ensures taken));
 }
 
 pub loop-i-preserved : goal.loop-i-preserved

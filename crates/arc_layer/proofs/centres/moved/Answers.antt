@@ -1,10 +1,11 @@
-use Rattle.arc_layer.proofs.Sums.{sum_read, sum_within}
+use Rattle.arc_layer.proofs.Sums.{sum_within}
 use Rattle.arc_layer.proofs.centres.moved.Goals as goal
+use Rattle.board_shapes.proofs.Halves.{sum}
 
 pub returns-clause-value : goal.returns-clause-value
 returns-clause-value c =
-    let x = sum_read c.args.a.x c.args.way.x c.requires.spot.0 c.requires.way.0 in
-    let y = sum_read c.args.a.y c.args.way.y c.requires.spot.1 c.requires.way.1 in
+    let x = sum c.args.a.x c.args.way.x c.requires.spot.0 c.requires.way.0 in
+    let y = sum c.args.a.y c.args.way.y c.requires.spot.1 c.requires.way.1 in
     cc
 
 pub returns-clause-near : goal.returns-clause-near

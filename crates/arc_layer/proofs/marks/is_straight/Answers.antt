@@ -9,7 +9,7 @@ pub loop-word-init : goal.loop-word-init
 loop-word-init c = subst (λ (a : Ahead). QuietSoFar c.args.file.now a) (sym c.new-words.ensures) (nothing_read c.args.file.now)
 
 pub loop-word-preserved : goal.loop-word-preserved
-loop-word-preserved c = word_read c.args.file.now (ahead c.loop-word.words) (ahead c.next_word.new.self) (entry_of c.in-Word.word) c.loop-word.invariant c.in-Word.ensures.next (c.is_quiet.ensures c.if-not-is_quiet.false)
+loop-word-preserved c = word_read c.args.file.now (ahead c.loop-word.words) (ahead c.next_word.new.self) (entry_of c.in-Word.word) c.loop-word.invariant c.in-Word.ensures.next (c.is_quiet.ensures.quiet c.if-not-is_quiet.false)
 
 pub returns-then-are_silent : goal.returns-then-are_silent
 returns-then-are_silent c = record { none = λ yes. no_marks c.words_lie_ahead.ensures c.args.file.now (sym c.are_silent.ensures ∙ c.if-are_silent.true) }

@@ -3,7 +3,7 @@ use Rattle.std.proofs.Math.Seq.{drop-cons}
 use Rattle.std.proofs.lemmas.List.{take_all}
 use Rattle.planar.specs.declared.Frame.{Frame}
 use Rattle.planar.specs.declared.Spot.{Spot}
-use Rattle.arcs.specs.Chains.{EachFrom}
+use Rattle.planar.specs.Plane.{EachFrom}
 use Rattle.arc_regions.specs.Taken.{AreClear, IsClear}
 use Rattle.arc_regions.proofs.below.chain_clear.Goals as goal
 

@@ -14,7 +14,7 @@ pub returns-then-first : goal.returns-then-first
 returns-then-first c = half c.args.arc.now.centre c.args.arc.now.start c.args.arc.now.end c.args.a c.args.b c.sides_of-first.result.left c.sides_of-first.result.right c.sides_of-last.result.left c.sides_of-last.result.right c.sides_of-last.result.left c.sides_of-first.ensures.left c.sides_of-first.ensures.right c.sides_of-last.ensures.left c.sides_of-last.ensures.right (omega (arith, ints)) (omega (arith, ints)) (λ yes. (search rules, yes), λ h. h.1)
 
 pub returns-else-dot-lt0 : goal.returns-else-dot-lt0
-returns-else-dot-lt0 c = whole c.args.arc.now.centre c.args.arc.now.start c.args.arc.now.end c.args.a c.args.b c.is_same.result (omega (arith, ints)) (omega (arith, ints)) c.is_same.ensures
+returns-else-dot-lt0 c = whole c.args.arc.now.centre c.args.arc.now.start c.args.arc.now.end c.args.a c.args.b c.is_same.result (omega (arith, ints)) (omega (arith, ints)) c.is_same.ensures.same
 
 pub cross-way-requires-clause-o_reachable : goal.cross-way-requires-clause-o_reachable
 cross-way-requires-clause-o_reachable c = reachable c.args.arc.now.centre c.requires.arc.centre

@@ -1,6 +1,7 @@
 use Rattle.std.proofs.Common.{pos}
 use Rattle.planar.specs.declared.Spot.{Spot}
-use Rattle.arcs.specs.Chains.{EachFrom, IsInner}
+use Rattle.planar.specs.Plane.{EachFrom}
+use Rattle.arcs.specs.Chains.{IsInner}
 use Rattle.tables.proofs.Links.{is_not, is_so, link_fails, link_more, links_left}
 use Rattle.arcs.proofs.chords.links_inside.Goals as goal
 

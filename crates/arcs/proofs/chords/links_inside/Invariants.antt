@@ -1,7 +1,7 @@
 use Rattle.std.proofs.Common.{pos, drop, ◌↔◌}
-use Rattle.planar.specs.Plane.{IsPlaced}
+use Rattle.planar.specs.Plane.{IsPlaced, EachFrom}
 use Rattle.planar.specs.declared.Spot.{Spot}
-use Rattle.arcs.specs.Chains.{EachFrom, IsInner}
+use Rattle.arcs.specs.Chains.{IsInner}
 use Rattle.arcs.proofs.chords.links_inside.Given as goal
 
 abbrev pub invariant-loop-to : goal.invariant-loop-to

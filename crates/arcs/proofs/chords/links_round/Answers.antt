@@ -1,6 +1,7 @@
 use Rattle.std.proofs.Common.{pos}
 use Rattle.planar.specs.declared.Spot.{Spot}
-use Rattle.arcs.specs.Chains.{EachFrom, EndsAt, IsLink}
+use Rattle.planar.specs.Plane.{EachFrom}
+use Rattle.arcs.specs.Chains.{EndsAt, IsLink}
 use Rattle.tables.proofs.Links.{is_not, link_fails, link_more, links_left}
 use Rattle.arcs.proofs.chords.links_round.Goals as goal
 
@@ -22,4 +23,4 @@ returns c =
     let link : Spot → Spot → Type 0 = IsLink c.args.arc.now.centre (pos c.args.ring.0) (pos c.args.ring.1) in
     let each = links_left (EachFrom link) (EachFrom link c.args.start c.args.rest.now) c.loop-to.from c.args.rest.now c.loop-to.to-index c.loop-to-test.false c.loop-to.invariant.1 in
     let end = links_left (EndsAt c.args.arc.now.end) (EndsAt c.args.arc.now.end c.args.start c.args.rest.now) c.loop-to.from c.args.rest.now c.loop-to.to-index c.loop-to-test.false c.loop-to.invariant.2 in
-    (λ yes. (each.0 tt, end.0 (c.is_same.ensures.0 yes)), λ q. c.is_same.ensures.1 (end.1 q.1))
+    (λ yes. (each.0 tt, end.0 (c.is_same.ensures.same.0 yes)), λ q. c.is_same.ensures.same.1 (end.1 q.1))

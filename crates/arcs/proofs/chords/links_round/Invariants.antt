@@ -1,7 +1,7 @@
 use Rattle.std.proofs.Common.{pos, drop, ◌↔◌}
-use Rattle.planar.specs.Plane.{IsPlaced}
+use Rattle.planar.specs.Plane.{IsPlaced, EachFrom}
 use Rattle.planar.specs.declared.Spot.{Spot}
-use Rattle.arcs.specs.Chains.{EachFrom, EndsAt, IsLink}
+use Rattle.arcs.specs.Chains.{EndsAt, IsLink}
 use Rattle.arcs.proofs.chords.links_round.Given as goal
 
 abbrev pub invariant-loop-to : goal.invariant-loop-to

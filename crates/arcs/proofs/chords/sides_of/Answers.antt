@@ -1,6 +1,7 @@
 use Rattle.std.proofs.Common.{rules}
 use Rattle.planar.specs.Plane.{cross_of}
-use Rattle.arcs.proofs.Read.{from_zero_read, to_zero_read}
+use Rattle.planar.proofs.Read.{from_zero_read}
+use Rattle.arcs.proofs.Read.{to_zero_read}
 use Rattle.arcs.proofs.chords.sides_of.Goals as goal
 
 pub returns-clause-left : goal.returns-clause-left

@@ -1,6 +1,7 @@
 use Rattle.std.proofs.Common.{pos}
 use Rattle.planar.specs.declared.Spot.{Spot}
-use Rattle.slants.specs.Rounds.{EachFrom, on_way}
+use Rattle.planar.specs.Plane.{EachFrom}
+use Rattle.slants.specs.Rounds.{on_way}
 use Rattle.slants.specs.Taken.{Keeps}
 use Rattle.tables.proofs.Links.{is_not, is_so, link_fails, link_more, links_left}
 use Rattle.slants.proofs.above.each_keeps.Goals as goal

@@ -1,6 +1,6 @@
 use Rattle.std.proofs.Common.{drop, pos, ◌↔◌}
-use Rattle.planar.specs.Plane.{IsPlaced}
-use Rattle.slants.specs.Rounds.{EachFrom, on_way}
+use Rattle.planar.specs.Plane.{IsPlaced, EachFrom}
+use Rattle.slants.specs.Rounds.{on_way}
 use Rattle.slants.specs.Taken.{Keeps}
 use Rattle.slants.proofs.above.each_keeps.Given as goal
 

@@ -1,6 +1,6 @@
 use Rattle.std.proofs.Common.{rules}
 use Rattle.planar.specs.Plane.{dot_of}
-use Rattle.slants.proofs.Read.{from_zero_read}
+use Rattle.planar.proofs.Read.{from_zero_read}
 use Rattle.slants.proofs.below.is_ahead.Goals as goal
 
 pub returns : goal.returns

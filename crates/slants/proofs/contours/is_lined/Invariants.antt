@@ -1,6 +1,6 @@
 use Rattle.std.proofs.Common.{drop, ◌↔◌}
-use Rattle.planar.specs.Plane.{IsPlaced}
-use Rattle.slants.specs.Rounds.{EachFrom, IsFlat}
+use Rattle.planar.specs.Plane.{IsPlaced, EachFrom}
+use Rattle.slants.specs.Rounds.{IsFlat}
 use Rattle.slants.proofs.contours.is_lined.Given as goal
 
 abbrev pub invariant-loop-to : goal.invariant-loop-to

@@ -2,7 +2,6 @@ use Rattle.std.proofs.Common.{arith, refl, sym}
 use Rattle.std.proofs.lemmas.List.{take_all}
 use Rattle.std.proofs.lemmas.List.Elements.{All-more, All-same}
 use Rattle.slants.specs.Polygons.{CornersLean}
-use Rattle.slants.proofs.Reach.{not_both}
 use Rattle.slants.proofs.polygons.all_corners_lean.Goals as goal
 
 pub loop-g-preserved : goal.loop-g-preserved

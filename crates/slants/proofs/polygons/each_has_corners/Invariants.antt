@@ -1,7 +1,7 @@
 use Rattle.std.proofs.Common.{drop, ◌↔◌}
-use Rattle.planar.specs.Plane.{IsPlaced}
+use Rattle.planar.specs.Plane.{IsPlaced, EachFrom}
 use Rattle.slants.specs.Polygons.{AllCornersLean}
-use Rattle.slants.specs.Rounds.{EachFrom, on_way}
+use Rattle.slants.specs.Rounds.{on_way}
 use Rattle.slants.proofs.polygons.each_has_corners.Given as goal
 
 abbrev pub invariant-loop-to : goal.invariant-loop-to

@@ -1,6 +1,6 @@
 use Rattle.std.proofs.Common.{drop, ◌↔◌}
-use Rattle.planar.specs.Plane.{IsPlaced}
-use Rattle.slants.specs.Rounds.{EachFrom, on_way}
+use Rattle.planar.specs.Plane.{IsPlaced, EachFrom}
+use Rattle.slants.specs.Rounds.{on_way}
 use Rattle.slants.specs.Turned.{AllLean}
 use Rattle.slants.proofs.turned.each_leans.Given as goal
 

@@ -11,5 +11,5 @@ returns c = λ same.
     record {
       point = at one.a;
       in_first = holds_start one.a one.b one.r;
-      in_second = subst (λ (s : Spot). InCapsule two.a two.b two.r (at s)) (sym (c.is_same.ensures.0 same)) (holds_start two.a two.b two.r);
+      in_second = subst (λ (s : Spot). InCapsule two.a two.b two.r (at s)) (sym (c.is_same.ensures.same.0 same)) (holds_start two.a two.b two.r);
     }

@@ -2,7 +2,7 @@ use Rattle.std.proofs.Common.{◌≡◌, length, sym, ap, subst, arith}
 use Rattle.std.proofs.lemmas.Result.{err_from_is_err_and}
 use Rattle.texts.specs.Lines.{Ahead, start}
 use Rattle.texts.specs.Stepping.{ahead, plain_line}
-use Rattle.xnc.specs.FaultPlace.{Place}
+use Rattle.xnc.specs.Places.{Place}
 use Rattle.xnc.proofs.Placing.{few_read, span_read}
 use Rattle.xnc.proofs.ReadSoFar.{ReadSoFar, nothing-read, line-read, line-fault, end-read, end-fault}
 use Rattle.xnc.proofs.drill_file.read_drill.Goals as goal

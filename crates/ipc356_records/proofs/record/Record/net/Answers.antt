@@ -1,5 +1,5 @@
 use Rattle.std.proofs.Common.{length, ap, arith}
-use Rattle.ipc356_records.proofs.Front.{trimmed-within}
+use Rattle.texts.proofs.Blanks.{trimmed-within}
 use Rattle.ipc356_records.proofs.record.Record.net.Goals as goal
 
 pub returns-clause-short : goal.returns-clause-short

@@ -27,17 +27,17 @@ each_of p xs all i d below = by (p (get_or xs i d)) refl
     by true e = e
     by false e = let k : list_all p xs ≡ false = list_all_at p xs i d below e in cc
 
-plain_no_feed : (b : ℕ) → is_plain b ≡ true → is_feed b ≡ false
+pub plain_no_feed : (b : ℕ) → is_plain b ≡ true → is_feed b ≡ false
 plain_no_feed b h = by (is_feed b) refl
   where
     by : (v : Bool) → is_feed b ≡ v → is_feed b ≡ false
     by true e = let same : b ≡ 10 = eqb-true b 10 e in let k : is_plain 10 ≡ true = subst (λ (x : ℕ). is_plain x ≡ true) same h in cc
     by false e = e
 
-no_feeds : (text : List ℕ) → IsPlain text → All (λ b. is_feed b ≡ false) text
+pub no_feeds : (text : List ℕ) → IsPlain text → All (λ b. is_feed b ≡ false) text
 no_feeds text h = All-from_get_or (λ b. is_feed b ≡ false) text 0 (λ i below. plain_no_feed (get_or text i 0) (each_of is_plain text h i 0 below))
 
-plain_behind : (n : ℕ) (text : List ℕ) → IsPlain text → IsPlain (drop n text)
+pub plain_behind : (n : ℕ) (text : List ℕ) → IsPlain text → IsPlain (drop n text)
 plain_behind n [] h = by n
   where
     by : (n : ℕ) → IsPlain (drop n [])
@@ -50,7 +50,7 @@ plain_behind (suc n) (b ∷ text) h = by (is_plain b) h (λ k. plain_behind n te
     by true k more = more k
     by false k more = cc
 
-no_return_first : (text : List ℕ) → IsPlain text → pointwise nat_eq (13 ∷ []) text ≡ false
+pub no_return_first : (text : List ℕ) → IsPlain text → pointwise nat_eq (13 ∷ []) text ≡ false
 no_return_first [] h = refl
 no_return_first (b ∷ text) h = by (eqb 13 b) refl
   where
@@ -58,7 +58,7 @@ no_return_first (b ∷ text) h = by (eqb 13 b) refl
     by true e = let same : 13 ≡ b = eqb-true 13 b e in let k : (is_plain 13 && list_all is_plain text) ≡ true = subst (λ (x : ℕ). (is_plain x && list_all is_plain text) ≡ true) (sym same) h in cc
     by false e = refl
 
-whole_line : (text : List ℕ) → IsPlain text → without_return text ≡ text
+pub whole_line : (text : List ℕ) → IsPlain text → without_return text ≡ text
 whole_line text h = rw (no_return_first (drop (length text - 1) text) (plain_behind (length text - 1) text h)) refl
 
 -- what stands in lines
