@@ -47,7 +47,7 @@ help_of() {
   [ -n "$head" ] || return 1
   printf 'boardnet %s\n\n' "$head"
   section "$1"
-  case $head in *MANIFEST*) section files ;; esac
+  case $head in *MANIFEST* | *REAL*) section files ;; esac
   case $1 in install | package) ;; *) [ -f "$home/$1" ] || { printf 'Status\n'; section status; } ;; esac
 }
 

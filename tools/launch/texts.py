@@ -70,7 +70,6 @@ def man(release):
     return "\n".join(parts) + "\n"
 
 
-# What a command's words are, for completions: by the name of the word in its head.
 BASH = r"""# Completion of boardnet for bash.
 _boardnet() {
   local word=${COMP_WORDS[COMP_CWORD]}
@@ -98,7 +97,7 @@ local -a commands options
 commands=(
 @COMMANDS@
 )
-options=('--help:prints all commands' '--version:prints the release, the commit and the toolchain')
+options=('--help:prints all commands' '--version:prints the release, the commit, the toolchain and the sum of the sources')
 if (( CURRENT == 2 )); then
   _describe command commands
   _describe -o option options
@@ -119,7 +118,8 @@ def options_of(head, text):
 
 
 def takes_files(head):
-    return any(word in head for word in ("MANIFEST", "FILE", "FOLDER", "PATH"))
+    """Whether words of a command name files or folders, by what its head calls them."""
+    return any(word in head for word in ("MANIFEST", "REAL", "FILE", "FOLDER", "PATH"))
 
 
 def bash():

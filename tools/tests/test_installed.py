@@ -250,9 +250,10 @@ class Texts(common.Case):
         COMP_WORDS=(boardnet "$1") COMP_CWORD=1; _boardnet; echo "${COMPREPLY[@]}"
         COMP_WORDS=(boardnet manifest --) COMP_CWORD=2; _boardnet; echo "${COMPREPLY[@]}"
         COMP_WORDS=(boardnet check fil) COMP_CWORD=2; _boardnet; echo "${COMPREPLY[@]}"
+        COMP_WORDS=(boardnet between file.json fil) COMP_CWORD=3; _boardnet; echo "${COMPREPLY[@]}"
         COMP_WORDS=(boardnet check a) COMP_CWORD=2; _boardnet; printf '<%s>' "${COMPREPLY[@]}"
         """
         self.write("file.json", "")
         self.write("a b.json", "")
         out = self.run_words(["bash", "-c", script, "bash", "a"])[1].splitlines()
-        self.assertEqual(out, ["audit", "--help --netlist --yes --no-drills --mend", "file.json", "<a b.json>"])
+        self.assertEqual(out, ["audit", "--help --netlist --yes --no-drills --mend", "file.json", "file.json", "<a b.json>"])

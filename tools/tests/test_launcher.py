@@ -151,6 +151,7 @@ class Launcher(common.Case):
             for words in ([command, "--help"], ["help", command], [command, "-h"]):
                 status, page, _ = self.launch(*words)
                 self.assertEqual((status, page.split()[:2]), (0, ["boardnet", command]))
+                self.assertEqual("\nMANIFEST is a JSON file" in page, command in ("check", "audit", "write", "x2", "gaps", "between"))
         self.assertIn("  6  out of memory\n", out)
         self.assertEqual(self.launch("other", "--help")[1].splitlines()[1:], ["other", "--help"])
 
