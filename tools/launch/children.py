@@ -45,7 +45,7 @@ def seconds_of_children():
 class Child:
     """A command that runs in a folder; what it says goes to files. It stays in the terminal's group, so that Ctrl-Z reaches it."""
 
-    def __init__(self, words, folder, out, err=None, environment=None):
+    def __init__(self, words, folder, out, environment, err=None):
         self.seconds = 0.0
         with open(out, "wb") as told, open(err or os.devnull, "wb") as notes:
             how = {"cwd": folder, "stdin": subprocess.DEVNULL, "stdout": told, "env": environment}

@@ -60,7 +60,7 @@ class Work:
 
     def next(self):
         scratch = dict(os.environ, TMPDIR=os.path.join(self.room, "scratch"))
-        self.child = Child(self.left.pop(0), self.folder, os.path.join(self.room, "said"), environment=scratch)
+        self.child = Child(self.left.pop(0), self.folder, os.path.join(self.room, "said"), scratch)
 
     def status(self):
         """How they ended, or None while one runs."""

@@ -1,12 +1,10 @@
-#!/usr/bin/env python3
-"""The help text as other texts: texts.py man|bash|zsh
+"""The help text as other texts: a man page, and completions of bash and zsh.
 
 tools/help.txt is the one place that has the words. Each section begins with a line `= HEAD`; the heads of commands begin
 with the command, the other sections are boardnet, files and status. The first line of a command says what it does.
 """
 import os
 import re
-import sys
 
 TOOLS = os.path.dirname(os.path.dirname(os.path.abspath(__file__)))
 OTHER = ("boardnet", "files", "status")
@@ -147,14 +145,3 @@ def zsh():
 def release():
     with open(os.path.join(TOOLS, "release"), encoding="ascii") as file:
         return file.read().strip()
-
-
-def main(words):
-    made = {"man": lambda: man(release()), "bash": bash, "zsh": zsh}
-    if len(words) != 1 or words[0] not in made:
-        sys.exit(__doc__)
-    sys.stdout.write(made[words[0]]())
-
-
-if __name__ == "__main__":
-    main(sys.argv[1:])

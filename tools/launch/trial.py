@@ -89,7 +89,7 @@ class Trial:
 
     def start(self, asked):
         crate = os.path.join(self.scratch, "crates", "boardnet")
-        self.child = Child(asked, crate, self.path("out"), self.path("err"), dict(os.environ, TMPDIR=self.scratch))
+        self.child = Child(asked, crate, self.path("out"), dict(os.environ, TMPDIR=self.scratch), self.path("err"))
 
     def path(self, name):
         return os.path.join(self.scratch, name)

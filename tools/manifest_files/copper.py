@@ -19,7 +19,7 @@ NUMBERED = re.compile(r"(?:^|[._ -])(?:l|layer)[._ -]?0*([1-9]\d?)(?:[._ -]|$)",
 class Layer:
     """A copper file: its layer's number, what side its attribute says, and why it is taken as that (nothing where it says so)."""
 
-    def __init__(self, name, number, side="", why=""):
+    def __init__(self, name, number, side, why=""):
         self.name, self.number, self.side, self.why = name, number, side, why
 
 

@@ -16,7 +16,7 @@ APART = ("write plated and unplated holes to files of their own "
 class Drills:
     """A drill file of plated holes: its span, nothing where it is all layers, and why it is taken so (nothing where it says so)."""
 
-    def __init__(self, name, span=None, why=""):
+    def __init__(self, name, span, why=""):
         self.name, self.span, self.why = name, span, why
 
 

@@ -121,7 +121,7 @@ class Plan:
     asks makes one.
     """
 
-    def __init__(self, package, wanted=None, may_lack_holes=False, may_lack_netlist=False):
+    def __init__(self, package, wanted, may_lack_holes, may_lack_netlist=False):
         layers = package.copper()
         may_lack = may_lack_netlist and wanted is None and package.has_names and not package.netlists
         netlist = netlists.Netlist("", b"") if may_lack else netlists.choose(package.netlists, wanted)

@@ -50,11 +50,6 @@ ROWS = (
 TOLD = {row.kind: row.told for row in ROWS}
 
 
-def rows_of_guide():
-    """The rows as docs/using/mends.md has them."""
-    return [f"| {row.sees} | {row.writes} | {row.why} |" for row in ROWS]
-
-
 def told(name, found):
     """A mend in one sentence."""
     more = f" (and {found.more} more)" if found.more else ""

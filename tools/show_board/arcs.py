@@ -143,17 +143,17 @@ class Arc:
     `ccw` tells the way it is walked. `inner` is a chain of chords in the disc, `outer` one of tangents outside it."""
 
     def __init__(self, centre, start, end, ccw):
-        self.ccw, self.first, self.last = ccw, start, end
+        self.ccw = ccw
         a, b = (start, end) if ccw else (end, start)
         d = (b[0] - a[0], b[1] - a[1])
         self.n = 2 * (d[0] ** 2 + d[1] ** 2) or 1
         shift = dot(centre, b, b) - dot(centre, a, a)
         self.c = tuple(centre[k] * self.n + shift * d[k] for k in (0, 1))       # times n
         self.a, self.b = a, b
-        self.chain, self.most = arc_chain(centre, a, b)
+        self.chain, _ = arc_chain(centre, a, b)
         self.square = self.off2(a)
         off = floor_root(self.square) // self.n
-        self.sound, self.is_exact = len(self.chain) > 2, shift == 0
+        self.sound = len(self.chain) > 2
         around = (round(Q(self.c[0], self.n)), round(Q(self.c[1], self.n)))
         least = isqrt(min(dot(centre, a, a), dot(centre, b, b)))
         radius = min(off, least)

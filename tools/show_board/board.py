@@ -15,7 +15,7 @@ def touching(shapes, report):
 class Board:
     """`shapes` is None where the copper is not known, `labels` (names of pieces by the files' own labels) where there are none."""
 
-    def __init__(self, package, report, records, shapes=None, labels=None, ties=None):
+    def __init__(self, package, report, records, shapes, labels, ties):
         self.package, self.manifest, self.report = package, package.manifest, report
         self.records, self.shapes, self.labels, self.ties = records, shapes, labels or {}, ties or Ties()
         self.touching = touching(shapes, report) if shapes is not None else None

@@ -126,7 +126,7 @@ def answered(program, package, sides, low, high, ties):
     return Bounded(status, line, [it[:4] for it in findings], sides.left_out, tuple(it[4] for it in findings), sides.sources)
 
 
-def judge(program, package, ties=Ties()):
+def judge(program, package, ties):
     """(answer, lower, upper) of a package, made once; Refused where no bounds can be given."""
     if not package.between:
         sides = package.sides = of_package(package)

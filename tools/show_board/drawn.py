@@ -90,7 +90,7 @@ class Operations:
         radius = self.pen_radius()
         if self.passes():
             return
-        first, last = ends = (start, self.spot) if anticlockwise else (self.spot, start)
+        first, last = (start, self.spot) if anticlockwise else (self.spot, start)
         back = lambda spot: spot and (spot[0] - first[0], spot[1] - first[1])
         chain, both = arc_beside(back(centre), back(last), radius)
         self.stands([tuple(map(len, both))])

@@ -75,7 +75,7 @@ def listed_by(u, listed, found):
     return f"The program's `gaps` lists what is at most that far apart: {counted(listed, 'pair')}{even}"
 
 
-def of_board(program, told, board, u):
+def of_board(program, board, u):
     """The gaps of a board, and the sentence on what is counted."""
     found, listed = spacings(program, board, u)
     nets = Nets(board)
@@ -93,7 +93,7 @@ def add(program, told, shown, u):
     """Adds the gaps to what is told of a board, and to its answer."""
     try:
         board = copper_of(program, told, shown.board)
-        found, words = (of_bounds if told.package.between else of_board)(program, told, board, u)
+        found, words = of_bounds(program, told, board, u) if told.package.between else of_board(program, board, u)
     except (Stop, BadCopper) as why:
         shown.lacks(f"gaps are not known: {why}")
         return

@@ -46,7 +46,7 @@ class Answer(namedtuple("Answer", "package status line words report ties", defau
 class Trials:
     """Changed copies, each in a folder of its own beside the package."""
 
-    def __init__(self, program, ties=Ties()):
+    def __init__(self, program, ties):
         self.program, self.ties, self.looked = program, ties, {}
 
     def holes(self, package):

@@ -2,7 +2,7 @@
 from collections import defaultdict
 
 from .board import NO_NET
-from .ties import Ties, nets_of
+from .ties import nets_of
 from .words import counted, millimetres, spoken
 
 FEW = 4     # parts that are told by a point
@@ -11,8 +11,8 @@ FEW = 4     # parts that are told by a point
 class Joint:
     """Both reports of one board; they have the same test points and names. Names that are declared to be tied count as one."""
 
-    def __init__(self, low, high, records, manifest, ties=None):
-        self.low, self.high, self.records, self.manifest, self.ties = low, high, records, manifest, ties or Ties()
+    def __init__(self, low, high, records, manifest, ties):
+        self.low, self.high, self.records, self.manifest, self.ties = low, high, records, manifest, ties
 
     def agrees(self):
         """The premises of the law, for names of which tied ones are one."""

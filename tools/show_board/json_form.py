@@ -12,9 +12,9 @@ def mm(u):
     return u / 10_000_000
 
 
-def place(spot, layer=None):
-    told = {"x": mm(spot[0]), "y": mm(spot[1])} if spot else {"x": None, "y": None}
-    return {**told, "layer": layer} if layer else told
+def place(spot, layer):
+    x, y = map(mm, spot) if spot else (None, None)
+    return {"x": x, "y": y, "layer": layer}
 
 
 def point(board, number):

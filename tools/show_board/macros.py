@@ -276,8 +276,3 @@ def is_fine(corners):
     if len(corners) != 4 or any(len(ends) != 2 for ends in sides):
         return False
     return all((a + b) % 2 == 0 == (b - a) % 1 for a, b in sides) and any((b - a) % 2 for a, b in sides)
-
-
-def macro_bounds(body, parameters, scale):
-    """Pieces of LOWER and UPPER about the macro's origin, and how many figures LOWER leaves out."""
-    return without(figures(body, parameters, scale))

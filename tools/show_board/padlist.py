@@ -70,7 +70,7 @@ def between(board, package, name, pieces):
     return [inner.get(piece) or objects.get(tuple(sources[piece][1:3])) or objects.get((sources[piece][1], 0)) for piece in pieces]
 
 
-def origins(board, base=None):
+def origins(board, base):
     """The object of each piece of copper. Between bounds `base` is the package of the user's files, and the board has their commands."""
     package, sources, found = base or board.package, board.report.sources, []
     by_file = defaultdict(list)

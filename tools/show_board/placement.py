@@ -128,7 +128,7 @@ def hits(text):
                 yield tuple(at)
 
 
-def voters(package, text, without=()):
+def voters(package, text, without):
     """Places of records with centres that they may lie on: through points and holes, else all points and all centres. The holes
     of some drill files have no vote."""
     told = records(text)
@@ -198,7 +198,7 @@ def spoken(other, turn, by, unit):
     return "with the netlist " + ", ".join(filter(None, [*words, change(turn, (by[0] * unit, by[1] * unit))]))
 
 
-def placements(package, without=()):
+def placements(package, without):
     """(words, changed files), the likeliest first; among equal votes the fewest changes first. Holes of some files have no vote."""
     name = package.manifest.netlist
     text = text_of(package, name)

@@ -37,12 +37,11 @@ def segments_within(a, b, c, d, r):
             or segments_cross(a, b, c, d))
 
 
-def odd_inside(corners, p, scale=1):
-    """Even-odd by a ray to the right; p is given times scale."""
-    odd, (px, py) = False, p
-    bx, by = corners[-1][0] * scale, corners[-1][1] * scale
+def odd_inside(corners, p):
+    """Even-odd by a ray to the right."""
+    odd, (px, py), (bx, by) = False, p, corners[-1]
     for x, y in corners:
-        ax, ay, bx, by = bx, by, x * scale, y * scale
+        ax, ay, bx, by = bx, by, x, y
         if (ay > py) != (by > py):
             side = (bx - ax) * (py - ay) - (by - ay) * (px - ax)
             if (side > 0) == (by > ay):

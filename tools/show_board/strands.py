@@ -106,8 +106,8 @@ class Strand:
         return self.dx * (y - self.y1) - (x - self.x1) * self.dy
 
 
-def straight(a, b, item=None):
-    found = Strand([a, b], item)
+def straight(a, b):
+    found = Strand([a, b], None)
     found.rise()
     return found
 

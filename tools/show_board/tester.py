@@ -24,7 +24,7 @@ def with_copper(program, told, sources=(), known=None):
     return between.board_of(told, dict(sources), shapes)
 
 
-def copper_of(program, told, board=None, known=None):
+def copper_of(program, told, board, known=None):
     """The board whose copper is told of, the lower one of two; `board` where its copper is known already, `known` as for shapes."""
     if board and board.shapes:
         return board

@@ -58,10 +58,7 @@ class Touching:
         """Whether a piece has a place."""
         if not self.shapes.is_area(piece):
             return point_within(place, *self.lines(piece)[0], self.shapes.radius[piece])
-        x, y, r = *place, 0
-        if any(point_within(place, a, b, r) for a, b in self.lines_near(piece, (x - r, y - r, x + r, y + r))):
-            return True
-        return self.is_inside(piece, place)
+        return any(point_within(place, a, b, 0) for a, b in self.lines_near(piece, (*place, *place))) or self.is_inside(piece, place)
 
     def touch(self, p, q):
         """Whether two pieces share a place, and a layer."""

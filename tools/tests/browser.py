@@ -12,14 +12,15 @@ import unittest
 import urllib.request
 
 PROGRAM = shutil.which("chromium") or shutil.which("chromium-browser")
+WIDTH, HEIGHT = 1400, 900
 WHY_NOT = "there is no chromium; Debian's package chromium has it"
 
 
 class Browser:
-    def __init__(self, width=1400, height=900):
+    def __init__(self):
         self.folder, self.number, self.events = tempfile.mkdtemp(), 0, []
         words = ["--headless=new", "--no-sandbox", "--disable-gpu", "--hide-scrollbars", "--remote-debugging-port=0", "--remote-allow-origins=*",
-                 f"--user-data-dir={self.folder}", f"--window-size={width},{height}", "about:blank"]
+                 f"--user-data-dir={self.folder}", f"--window-size={WIDTH},{HEIGHT}", "about:blank"]
         self.process = subprocess.Popen([PROGRAM, *words], stdin=subprocess.DEVNULL, stdout=subprocess.DEVNULL, stderr=subprocess.DEVNULL)
         try:
             try:
@@ -28,7 +29,7 @@ class Browser:
                 raise unittest.SkipTest(str(why)) from None
             for part in ("Page", "Runtime", "Log", "Network"):
                 self.call(part + ".enable")
-            self.call("Emulation.setDeviceMetricsOverride", width=width, height=height, deviceScaleFactor=1, mobile=False)
+            self.call("Emulation.setDeviceMetricsOverride", width=WIDTH, height=HEIGHT, deviceScaleFactor=1, mobile=False)
         except BaseException:
             self.process.kill()
             raise
@@ -119,10 +120,6 @@ class Browser:
 
     def prefer(self, theme, media=""):
         self.call("Emulation.setEmulatedMedia", media=media, features=[{"name": "prefers-color-scheme", "value": theme}])
-
-    def picture(self, path):
-        with open(path, "wb") as file:
-            file.write(base64.b64decode(self.call("Page.captureScreenshot", format="png")["data"]))
 
     def paper(self):
         """The page as it is printed, a PDF."""

@@ -8,18 +8,28 @@ import re
 from fractions import Fraction as Q
 
 from show_board.exact import cos_sin, exact, minus, plus, times, turned
-from show_board.macros import figures
+from show_board.macros import figures, without
 from show_board.spots import odd_inside, point_within
 
 FINE = 4                # places are quarters of a u
 NEAR = 3 * FINE
 
 
+def macro_bounds(body, parameters, scale):
+    """Pieces of LOWER and UPPER of a macro about its origin, and how many figures LOWER leaves out."""
+    return without(figures(body, parameters, scale))
+
+
+def encloses(corners, p, scale=FINE):
+    """Even-odd; p is given times scale."""
+    return odd_inside([(x * scale, y * scale) for x, y in corners], p)
+
+
 def has(pieces, p):
     """p is given times FINE."""
     for kind, *rest in pieces:
         if kind == "area":
-            if odd_inside(rest[0], p, FINE) or any(point_within(p, fine(a), fine(b), 0) for a, b in zip(rest[0], rest[0][1:] + rest[0][:1])):
+            if encloses(rest[0], p) or any(point_within(p, fine(a), fine(b), 0) for a, b in zip(rest[0], rest[0][1:] + rest[0][:1])):
                 return True
         elif point_within(p, fine(rest[0]), fine(rest[1]), rest[2] * FINE):
             return True

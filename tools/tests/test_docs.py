@@ -19,15 +19,13 @@ ELSEWHERE = {
     "boardnet package": "test_installed",
     "find crates.txt": "test_installed",
     "kicad-cli": "another tool, as its documentation has it",
-    "rt ": "the toolchain",
-    "tools/test": "this very command",
 }
 COMMAND = re.compile(r"(?:boardnet(?!:)|\./boardnet|tools/\w+|benches/\w+|bash|find|rt|kicad-cli)(?: |$)")
 INLINE = re.compile(r"`([^`\n]+)`")
 # What a page names as a file or folder of ours; the ending of a definition or a proof may be left out.
 FILE = re.compile(r"[\w./]+\.(?:rt|py|antt)|(?:src|specs|proofs|benches|tools|docs)/[\w/]+")
 # Options of other tools, which our pages name.
-OTHER_OPTIONS = {"--excellon-separate-th", "--root=FOLDER"}
+OTHER_OPTIONS = {"--excellon-separate-th"}
 
 
 def pages(patterns):
@@ -156,7 +154,7 @@ class Lines(common.Case):
             for line in command_lines(read(name)):
                 with self.subTest(page=name, line=line):
                     is_elsewhere = any(line.startswith(head) for head in ELSEWHERE)
-                    self.assertTrue(is_elsewhere or re.match(r"(\./)?boardnet |tools/lists", line))
+                    self.assertTrue(is_elsewhere or re.match(r"(\./)?boardnet ", line))
 
     def test_run(self):
         command = self.put_command(common.program())

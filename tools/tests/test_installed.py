@@ -11,6 +11,7 @@ sys.path.insert(0, os.path.join(common.TOOLS, "launch"))
 import compiled  # noqa: E402
 import kept  # noqa: E402
 import package  # noqa: E402
+import texts  # noqa: E402
 
 
 class Installed(common.Case):
@@ -217,13 +218,8 @@ class Package(Installed):
 
 
 class Texts(common.Case):
-    def made(self, kind):
-        status, text, notes = self.run_words([sys.executable, os.path.join(common.TOOLS, "launch", "texts.py"), kind])
-        self.assertEqual((status, notes), (0, ""))
-        return text
-
     def test_man_page_has_the_words_of_help(self):
-        text = self.made("man")
+        text = texts.man(texts.release())
         page = text.replace("\\-", "-").replace("\\e", "\\").replace("\\&", "").split("\n")
         for line in self.run_words([os.path.join(common.TOP, "boardnet"), "audit", "--help"])[1].splitlines()[4:]:
             self.assertIn(line, [*page, "Status", ""])
@@ -232,20 +228,19 @@ class Texts(common.Case):
             self.assertIn(part, text)
 
     def test_completions_read(self):
-        for shell, kind in (("bash", "bash"), ("zsh", "zsh")):
-            text = self.made(kind)
+        for shell, text in (("bash", texts.bash()), ("zsh", texts.zsh())):
             for command in ("check", "audit", "trial", "manifest"):
                 self.assertIn(command, text)
             self.assertNotIn("install", text)
             self.assertNotIn("@", text)
             if shutil.which(shell):
-                path = self.write(kind, text)
+                path = self.write(shell, text)
                 self.assertEqual(self.run_words([shell, "-n", path]), (0, "", ""))
 
     def test_bash_completes(self):
         if not shutil.which("bash"):
             self.skipTest("there is no bash")
-        script = self.made("bash") + """
+        script = texts.bash() + """
         compopt() { :; }
         COMP_WORDS=(boardnet "$1") COMP_CWORD=1; _boardnet; echo "${COMPREPLY[@]}"
         COMP_WORDS=(boardnet manifest --) COMP_CWORD=2; _boardnet; echo "${COMPREPLY[@]}"

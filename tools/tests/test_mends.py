@@ -70,7 +70,6 @@ def drill(*lines, header=("METRIC",), tools=("T1C0.4",), front=("M48",), end=("M
 
 
 HOLES = drill()
-KICAD = ("; #@! TF.FileFunction,{}Plat{},1,1", "METRIC")
 OWN = "; #@! TA.AperFunction,{},PTH,ViaDrill"
 TOOLS = (OWN.format("Plated"), "T1C0.4", OWN.format("NonPlated"), "T2C1.0")
 MIXED = ("T1", "X0.0Y0.0", "T2", "X3.0Y0.0", "X4.0", "T1", "X5.0")
@@ -227,7 +226,7 @@ class Words(common.Case):
     def test_guide_has_the_table(self):
         with open(os.path.join(common.TOP, "docs", "using", "mends.md"), encoding="utf-8") as file:
             guide = file.read()
-        self.assertIn("\n".join(table.rows_of_guide()) + "\n", guide)
+        self.assertIn("".join(f"| {row.sees} | {row.writes} | {row.why} |\n" for row in table.ROWS), guide)
 
     def test_copies(self):
         self.assertEqual((package.name_beside("a/top.gbr"), package.name_beside("top")), ("a/top.mended.gbr", "top.mended"))

@@ -5,12 +5,12 @@ import random
 import unittest
 from fractions import Fraction as Q
 
-from real_shapes import FINE, NEAR, Real, circle_ends, contour_of, every, fine, gerber_of, has, in_sector, on_circle, pieces_of, through
+from real_shapes import FINE, NEAR, Real, circle_ends, contour_of, encloses, every, fine, gerber_of, has, in_sector, macro_bounds, on_circle, pieces_of, through
 from show_board.arcs import Arc, arc_chain, chain_bounds, goes_once
 from show_board.contours import contour_bound
 from show_board.exact import Refused, cos_sin, minus, plus, root, times
-from show_board.macros import Expression, bounds_of, macro_bounds
-from show_board.spots import cross, dot, odd_inside, point_within
+from show_board.macros import Expression, bounds_of
+from show_board.spots import cross, dot, point_within
 from show_board.two_sides import Copper
 
 MANY = int(os.environ.get("TESTS", "1"))
@@ -246,7 +246,7 @@ class Regions(unittest.TestCase):
     def truth(self, p, contour):
         """None on a border."""
         straight = [corner(part) for part in contour]
-        odd, last = odd_inside(straight, p, FINE), contour[0]
+        odd, last = encloses(straight, p), contour[0]
         if any(point_within(p, fine(a), fine(b), 0) for a, b in zip(straight, straight[1:] + straight[:1])):
             return None
         for part in contour[1:]:

@@ -8,7 +8,7 @@ from fractions import Fraction as Q
 
 import made
 from made import built, manifest, netlist, record
-from real_shapes import FINE, circle_ends, fine, has, in_sector, pieces_of
+from real_shapes import FINE, circle_ends, encloses, fine, has, in_sector, pieces_of
 from show_board.arcs import arc_chain
 from show_board.clear import Object, cut
 from show_board.rounds import in_it, ring, round_it
@@ -26,7 +26,7 @@ def on_border(corners, p, scale):
 
 
 def holds(contours, p, scale):
-    return any(odd_inside(c, p, scale) or on_border(c, p, scale) for c in contours)
+    return any(encloses(c, p, scale) or on_border(c, p, scale) for c in contours)
 
 
 class Areas(unittest.TestCase):
@@ -62,7 +62,7 @@ class Areas(unittest.TestCase):
         for dark, corners in items:
             if on_border(corners, p, PARTS):
                 return None
-            if odd_inside(corners, p, PARTS):
+            if encloses(corners, p, PARTS):
                 state = dark
         return state
 
@@ -259,7 +259,7 @@ class Borders(unittest.TestCase):
         ways = [(c[0] - p[0], c[1] - p[1]) for a, b in zip(corners, corners[1:] + corners[:1]) if on_border([a, b], p, 1) for c in (a, b) if c != p]
         for x, y in ways:
             for k in (-1, 1):
-                found.add(odd_inside(corners, (p[0] * fine + x * 10 ** 6 - k * y, p[1] * fine + y * 10 ** 6 + k * x), fine))
+                found.add(encloses(corners, (p[0] * fine + x * 10 ** 6 - k * y, p[1] * fine + y * 10 ** 6 + k * x), fine))
         return found.pop() if len(found) == 1 else None
 
     def truth(self, items, p):
@@ -299,7 +299,7 @@ class Rounds(unittest.TestCase):
                 t, end = rng.random() * 7, rng.choice(((0, 0), d, (d[0] // 2, d[1] // 2)))
                 p = tuple(round((v + r * f(t)) * FINE) + rng.randint(-4, 4) for v, f in zip(end, (math.cos, math.sin)))
                 inside = point_within(p, (0, 0), fine(d), r * FINE)
-                self.assertTrue(inside or not inner or not odd_inside(inner, p, FINE), (d, r, p))
+                self.assertTrue(inside or not inner or not encloses(inner, p), (d, r, p))
                 self.assertTrue(not inside or has([("area", outer)], p), (d, r, p))
             self.assertTrue(inner or r < 9, (d, r))
 
@@ -358,7 +358,7 @@ def annulus(c, radius, r):
 
 
 def area(corners):
-    return lambda p: None if on_border(corners, p, FINE) else odd_inside(corners, p, FINE)
+    return lambda p: None if on_border(corners, p, FINE) else encloses(corners, p)
 
 
 def layered(parts):

@@ -4,10 +4,11 @@ import random
 import unittest
 from fractions import Fraction as Q
 
+from real_shapes import macro_bounds
 from show_board.cones import cone_of
 from show_board.degrees import turned_bounds
 from show_board.exact import cos_sin, cross_least, exact, minus, plus, pointed, times, turned
-from show_board.macros import bounds_of, figures, macro_bounds, regular, rows
+from show_board.macros import bounds_of, figures, regular, rows
 from show_board.regular import PARTS, regular_bounds
 from show_board.spots import cross, dot, edges
 

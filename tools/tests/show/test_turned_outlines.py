@@ -4,10 +4,10 @@ import random
 import unittest
 from fractions import Fraction as Q
 
-from real_shapes import Real, has
+from real_shapes import Real, has, macro_bounds
 from show_board.cones import cone_of
 from show_board.exact import cos_sin, exact
-from show_board.macros import macro_bounds, rows
+from show_board.macros import rows
 from show_board.turned_outlines import outline_bounds, placed_outline
 
 RIGHT, MM = 90 * 10 ** 7, 10 ** 7
