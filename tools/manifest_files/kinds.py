@@ -1,8 +1,6 @@
 """Which kind of file some bytes are, by what they say and never by a name."""
 import re
 
-from . import MOST_BYTES
-
 MARKS = ((b"\xef\xbb\xbf", "a byte order mark"), (b"\xff\xfe", "a byte order mark of UTF-16"), (b"\xfe\xff", "a byte order mark of UTF-16"))
 GERBER = re.compile(rb"%(?:FS|MO|AD|TF|LN|IN|AM|LP)|^G04|^G0?1\*", re.M)
 DRILL = re.compile(rb"\A(?:[ \t\r]*(?:;[^\n]*|%[ \t\r]*)?\n)*[ \t]*M48")
@@ -61,7 +59,3 @@ def kind_of(text):
     if GERBER.search(text[:65536]) and b"*" in text:
         return "gerber"
     return "other"
-
-
-def is_too_long(size):
-    return size > MOST_BYTES

@@ -45,7 +45,7 @@ class Package:
             self.leave_out(name, seen.word + (f" (after {seen.mark})" if seen.mark else ""))
         if seen.mark:
             self.amiss[name] = f"it begins with {seen.mark}, which `check` refuses: save it without one"
-        if kinds.is_too_long(len(data)):
+        if len(data) > MOST_BYTES:
             self.amiss[name] = f"it is longer than {MOST_BYTES} bytes"
 
     def read_job(self, data):

@@ -12,6 +12,7 @@ AXES = (b"X", b"Y", b"I", b"J")     # what an operation word may begin with
 SIZES = {b"C": 1, b"R": 2, b"O": 2}    # of a standard aperture
 NOTHING = b"TFleft_out"     # an attribute without a meaning, in a pair of percent signs
 COMMENT = b"G04"
+NUMBERS = bytes.maketrans(b"XYD*", b"    ")    # words of X, Y and D become their numbers
 MOST_DIGITS = 100
 MOST_EDGES = 100_000        # of a contour, in the profile
 

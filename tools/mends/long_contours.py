@@ -3,13 +3,12 @@ import re
 from itertools import accumulate
 from typing import NamedTuple
 
-from .copper_words import MOST_EDGES, has
+from .copper_words import MOST_EDGES, NUMBERS, has
 from .table import CONTOUR
 
 # A word in a region: an operation of straight lines, or another one; OPERATED are other operations.
 STEP = re.compile(rb"[%\t\n\r ]*(?:(?:G0?1)?(?:X([+-]?[0-9]{1,13}))?(?:Y([+-]?[0-9]{1,13}))?(?:D0?([12]))?|([^*%]*))\*")
 PLAIN = re.compile(rb"[\t\n\r ]*X[+-]?[0-9]{1,13}Y[+-]?[0-9]{1,13}D0?[12]\*")
-NUMBERS = bytes.maketrans(b"XYD*", b"    ")
 OPERATED = re.compile(rb"(?:G0?[0-3])?[XYIJ]|(?:G0?[0-3])?D0?[0-3]\Z|G0?[023]\Z")
 OF_OPERATIONS = b"GXYD+-0123456789"
 BETWEEN, SEPARATORS = b"%\t\n\r ", b"*%\t\n\r "

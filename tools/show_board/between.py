@@ -72,11 +72,6 @@ class Findings:
 
 # ---- where the upper board is wider
 
-def shape(shapes, piece):
-    places = [tuple(p) for p in shapes.places(piece)]
-    return ("area", places) if shapes.is_area(piece) else ("capsule", places[0], places[-1], shapes.radius[piece])
-
-
 def wider(low, shapes, sources):
     """[(layer, corners)]: what the upper board has beyond the lower one by more than a micrometre, command by command; of the upper one
     the pieces that may be other ones, with their sources."""
@@ -90,7 +85,7 @@ def wider(low, shapes, sources):
         layer, ours = sources[pieces[0]][3], below[key]
         is_same = len(ours) == len(pieces) and all(low.shapes.has(p, shapes, q) for p, q in zip(ours, pieces))
         if not is_same and sources[pieces[0]][4] == layer:
-            found += [(layer, corners) for corners in beyond([shape(low.shapes, p) for p in ours], [shape(shapes, p) for p in pieces])]
+            found += [(layer, corners) for corners in beyond([*map(low.shapes.solid, ours)], [*map(shapes.solid, pieces)])]
     return found
 
 

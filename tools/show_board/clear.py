@@ -10,7 +10,7 @@ from typing import NamedTuple
 
 from .grid import meet
 from .rounds import polygon
-from .spots import edges
+from .spots import box_of_line, edges
 from .sweep import Sweep
 
 CELLS = 64          # to each side
@@ -41,8 +41,7 @@ def box(piece):
     if piece[0] == "area":
         xs, ys = zip(*piece[1])
         return min(xs), min(ys), max(xs), max(ys)
-    _, a, b, r = piece
-    return min(a[0], b[0]) - r, min(a[1], b[1]) - r, max(a[0], b[0]) + r, max(a[1], b[1]) + r
+    return box_of_line(*piece[1:])
 
 
 class Boxes:

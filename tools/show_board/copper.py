@@ -7,7 +7,9 @@ import re
 from array import array
 from decimal import Decimal
 
-from . import BadCopper
+from mends.copper_words import NUMBERS
+
+from . import BadCopper, judged
 from .units import INCH, MM
 
 TOOL = re.compile(rb"T([0-9]+)C([0-9.+-]+)")
@@ -18,7 +20,6 @@ PIECES = re.compile(rb"(?:X-?[0-9]+Y-?[0-9]+D02\*\nX-?[0-9]+Y-?[0-9]+D01\*\n|D[0
 PIECE = re.compile(rb"X(-?[0-9]+)Y(-?[0-9]+)D02\*\nX(-?[0-9]+)Y(-?[0-9]+)D01\*\n|D([0-9]+)\*\n|G36\*\n([^G]+)G37\*\n")
 PART = re.compile(rb"%ADD([0-9]+)C,([0-9.]+)\*%\n|(?:M02\*|%FSLAX47Y47\*%|%MOMM\*%)\n")
 REGION, REGION_END = b"G36*\n", b"G37*\n"
-NUMBERS = bytes.maketrans(b"XYD*", b"    ")
 NOT_NORMAL = "the flattened copper is not in its normal form"
 AREA = -1
 
@@ -78,6 +79,11 @@ class Shapes:
         if end - first == 1:
             return [(self.x[first], self.y[first])]
         return list(zip(self.x[first:end], self.y[first:end]))
+
+    def solid(self, piece):
+        """A piece as bounds have it: ("capsule", a, b, r) or ("area", corners)."""
+        places = self.places(piece)
+        return ("area", places) if self.is_area(piece) else ("capsule", places[0], places[-1], self.radius[piece])
 
     def is_spot(self, piece):
         """Whether it is a capsule of one place, as of a round pad."""
@@ -274,6 +280,11 @@ def shapes_of(package, report, flatten, known=None):
             raise BadCopper(f"{name}: {len(shapes) - before} shapes, but the report has {counts[file]} pieces of it")
     must_fit(shapes, report)
     return shapes
+
+
+def shapes_of_judged(program, told, known=None):
+    """The same of a judged package."""
+    return shapes_of(told.package, told.report, judged.flat_of(program, told.package), known)
 
 
 def must_fit(shapes, report):

@@ -5,7 +5,6 @@ A second look at both packages that says only where: pieces by `flatten`'s norma
 from collections import defaultdict, deque
 
 from . import BadCopper, copper
-from .judged import flat_of
 from .touching import Touching
 from .words import millimetres, spoken
 
@@ -28,7 +27,7 @@ class Differing:
             for piece, key in enumerate(self.keys[0]):
                 self.below[key].add(low.report.net_of[piece])
             try:
-                self.shapes = copper.shapes_of(high.package, high.report, flat_of(program, high.package))
+                self.shapes = copper.shapes_of_judged(program, high)
                 self.touching = Touching(self.shapes, [source[3:] for source in high.report.sources])
             except BadCopper:
                 pass

@@ -4,6 +4,7 @@ A hint says what was changed and the answer; nothing is told that was not tried,
 status stays what it is.
 """
 from collections import namedtuple
+from functools import partial
 
 from . import Stop, codes, drillings, judged
 from .layering import as_labelled, layerings
@@ -110,15 +111,7 @@ def layers(trials, base):
             yield hint("layers", words, answer), answer
 
 
-def vias(trials, base):
-    yield from recoded(trials, base, codes.RULES[0])
-
-
-def bottoms(trials, base):
-    yield from recoded(trials, base, codes.RULES[1])
-
-
-def recoded(trials, base, rule):
+def recoded(rule, trials, base):
     """Access codes read otherwise, where that leaves fewer faults."""
     for words, files in codes.recoded(base.package, *rule):
         answer = trials.of(base.package, files)
@@ -219,7 +212,7 @@ def arranged(trials, base):
 def fitted(trials, base):
     """Hints on a board that was judged, each on top of those before it."""
     last = base
-    for step in (vias, bottoms, drills, copper, arranged):
+    for step in (*(partial(recoded, rule) for rule in codes.RULES), drills, copper, arranged):
         if last.status == 0 or step is arranged and not last.is_wanting():
             break
         for found, answer in step(trials, last):

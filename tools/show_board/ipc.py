@@ -12,7 +12,7 @@ from . import points
 from .board import NO_NET
 from .exact import ceil_root
 from .padlist import VIA, front
-from .units import UNIT_WORDS
+from .units import CODES, UNIT_WORDS
 from .words import at_most, counted, millimetres, spoken
 
 NAME = re.compile(r"(?!NNAME)[!-~]{1,14}")
@@ -135,12 +135,6 @@ class Row:
         return f"{it.part} pin {it.pin}" if it.part and it.pin else it.part or f"a {'hole' if it.hole is not None else 'pad'} at {millimetres(it.middle[0])}, {millimetres(it.middle[1])} mm"
 
 
-def solid(shapes, piece):
-    """A piece as `points` has it."""
-    places = shapes.places(piece)
-    return ("area", places) if shapes.is_area(piece) else ("capsule", places[0], places[-1], shapes.radius[piece])
-
-
 def is_middle(place, shapes):
     """Whether a place is a round piece that is touched at its middle: there it has copper."""
     return len(place.pieces) == 1 and shapes.is_spot(place.pieces[0]) and place.aim == shapes.first(place.pieces[0])
@@ -157,7 +151,7 @@ def on_grid(places, shapes):
 
 
 def pad_of(place, shapes):
-    return points.Pad(place.aim, [solid(shapes, piece) for piece in place.pieces])
+    return points.Pad(place.aim, [*map(shapes.solid, place.pieces)])
 
 
 class Netlist:
@@ -187,7 +181,7 @@ class Netlist:
             if row.is_moved(self.unit):
                 lines.append(f"C the next record is {at_most(row.away(self.unit))} mm from the middle of its pad")
             lines.append(row.line(self.unit, self.names.field(it.net), self.drill(it)))
-        head = [f"C boardnet show: the nets of the copper of {plain(self.title.replace(' ', '_'), 40)}", "P  VER IPC-D-356A", f"P  UNITS CUST {points.CUST[self.unit]}"]
+        head = [f"C boardnet show: the nets of the copper of {plain(self.title.replace(' ', '_'), 40)}", "P  VER IPC-D-356A", f"P  UNITS CUST {CODES[self.unit]}"]
         aliases = [f"P  {alias}  {in_ascii(name)}" for name, alias in self.names.alias.items()]
         none = [f"C net without a record: {self.net_word(net)}" for net in self.without()]
         return "\n".join([*head, *aliases, *lines, *none, "999", ""])

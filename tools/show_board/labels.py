@@ -9,10 +9,10 @@ from typing import NamedTuple
 
 from . import UNCLEAR, UNREADABLE, Stop, clear, netlist, points, ties, two_sides
 from .exact import Refused
-from .manifest import Manifest
 from .own_names import MADE
 from .side import words_of
 from .tree import Tree
+from .units import CODES
 from .words import at_most, counted, spoken
 
 # Mode, X and Y of an operation, and its code where it is no draw.
@@ -203,7 +203,7 @@ def lines_of(point, place, name):
 def text_of(found, unit, places):
     """The netlist as a text."""
     names = named(list(dict.fromkeys(name for it in found for name in it.label.names)))
-    lines = [MADE, f"P  UNITS CUST {points.CUST[unit]}"]
+    lines = [MADE, f"P  UNITS CUST {CODES[unit]}"]
     lines += [f"P  {alias}  {name}" for name, alias in names.items() if alias != name]
     for point, place in zip(found, places):
         for name in point.label.names or (netlist.NO_NET,) if place else ():
@@ -264,10 +264,8 @@ def use(package, may_lack_holes):
     if package.is_made and not may_lack_holes:
         need_holes(package, found)
     unit, places = points.settled([it.pad for it in found])
-    manifest = package.manifest
-    package.theirs, package.own = manifest.netlist, package.free_name("names", ".ipc")
-    drills = [{"file": name, "from": first, "to": last} for name, first, last in manifest.drills]
-    package.manifest = Manifest({"copper": manifest.copper, "drills": drills, "netlist": package.own})
+    package.theirs, package.own = package.manifest.netlist, package.free_name("names", ".ipc")
+    package.manifest = package.manifest.changed(netlist=package.own)
     package.put(package.own, text_of(found, unit, places))
     package.put(package.name, package.manifest.text().encode())
     package.ties = list(tied(package, [it for it, place in zip(found, places) if place]))

@@ -1,7 +1,6 @@
 """Which copper file is the top and which the bottom, by surface points that lie on centres of pads of one file."""
 import re
 
-from .manifest import Manifest
 from .placement import flashes, records, text_of, unit_of
 
 LAYER = re.compile(r"%TF\.FileFunction,Copper,L(\d{1,2})[,*]")
@@ -26,9 +25,7 @@ def scores(package, surface, unit):
 
 def reordered(manifest, order):
     """The manifest with its copper files in another order."""
-    names = [manifest.copper[k] for k in order]
-    drills = [{"file": name, "from": first, "to": last} for name, first, last in manifest.drills]
-    return Manifest({"copper": names, "drills": drills, "netlist": manifest.netlist})
+    return manifest.changed(copper=[manifest.copper[k] for k in order])
 
 
 def layerings(package):

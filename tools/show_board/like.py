@@ -12,6 +12,7 @@ from .hints import Trials, best_placement
 from .nearest import gap_of_lines
 from .placement import FORMS
 from .spacing import STEP, Lines, least
+from .spots import box_of_line
 from .tree import apart
 from .words import counted, millimetres
 
@@ -78,9 +79,7 @@ class Other:
         """The piece of a net on a layer that is nearest to a place."""
         best = None
         for line, r, piece in self.lines.of(net, layer)[0]:
-            (x1, y1), (x2, y2) = line
-            box = min(x1, x2) - r, min(y1, y2) - r, max(x1, x2) + r, max(y1, y2) + r
-            if best is None or apart(box, place * 2) < best[0] * abs(best[0]):
+            if best is None or apart(box_of_line(*line, r), place * 2) < best[0] * abs(best[0]):
                 found = from_line(place, *line) - r, piece
                 best = found if best is None or found < best else best
         return best and best[1]
@@ -129,7 +128,7 @@ def differences(program, shapes, answer, made, other_text):
     after = netlist.records(answer.package.read(answer.package.manifest.netlist))
     other, bounded = Other(made, Move(netlist.records(other_text), after)), answer.package.between
     told, sources = (bounded[1], bounded[0].sides[0]) if bounded else (answer, {})
-    shapes = shapes or copper.shapes_of(told.package, told.report, judged.flat_of(program, told.package))
+    shapes = shapes or copper.shapes_of_judged(program, told)
     board = between.board_of(told, sources, shapes, ties=answer.ties)
     its = between.Findings(board).of(bounded[0]) if bounded else findings.all_findings(board)
     return [difference(board, other, it) for it in its]

@@ -253,20 +253,12 @@ def rows(figures_in_order):
 
 
 def row(kind, *parts):
-    if kind == "line":
-        return len(line_bounds(*parts)[0]), 1
-    if kind == "turned":
-        return len(turned_bounds(*parts)[0]), 1
-    if kind == "turned disc":
-        return len(turned_disc_bounds(*parts)[0]), 1
     if kind == "turned outline":
         return tuple(map(len, outline_bounds(*parts)))
-    if kind == "regular":
-        return len(regular_bounds(*parts)[0]), 1
-    if kind == "disc":
-        return (len(disc_bounds(*parts)[0]), 1) if whole_corners(parts[:1])[1] and (2 * parts[1]).denominator == 1 else None
-    if kind == "convex" and is_fine(parts[0]):
-        return len(convex_bounds(parts[0])[0]), 1
+    is_read = kind in ("line", "turned", "turned disc", "regular") or kind == "convex" and is_fine(parts[0]) \
+        or kind == "disc" and whole_corners(parts[:1])[1] and (2 * parts[1]).denominator == 1
+    if is_read:
+        return len(BOUNDS[kind](*parts)[0]), 1
     return (1, 1) if kind in ("convex", "outline") and whole_corners(parts[0])[1] else None
 
 

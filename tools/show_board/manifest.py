@@ -12,9 +12,17 @@ class Manifest:
         self.files = self.copper + [name for name, _, _ in self.drills]
         self.layers = len(self.copper)
 
-    def text(self):
+    def told(self):
+        """What it is made of."""
         drills = [{"file": name, "from": first, "to": last} for name, first, last in self.drills]
-        return json.dumps({"copper": self.copper, "drills": drills, "netlist": self.netlist}, separators=(",", ":")) + "\n"
+        return {"copper": self.copper, "drills": drills, "netlist": self.netlist}
+
+    def changed(self, **parts):
+        """The manifest with other copper files or another netlist."""
+        return Manifest({**self.told(), **parts})
+
+    def text(self):
+        return json.dumps(self.told(), separators=(",", ":")) + "\n"
 
     def names(self):
         """Each file that it names, once."""

@@ -3,6 +3,7 @@ from bisect import bisect_left
 from collections import defaultdict, namedtuple
 
 from . import lines_apart
+from .spots import box_of_line
 from .tree import Tree, nearest
 
 
@@ -85,7 +86,7 @@ class NearestCopper:
             touching, sources, radius = self.board.touching, self.board.report.sources, self.board.shapes.radius
             lines = [(line, max(radius[piece], 0)) for piece in self.board.pieces_of[net]
                      if sources[piece][3] <= layer <= sources[piece][4] for line in touching.lines(piece)]
-            boxes = [(min(p[0], q[0]) - r, min(p[1], q[1]) - r, max(p[0], q[0]) + r, max(p[1], q[1]) + r) for (p, q), r in lines]
+            boxes = [box_of_line(*line, r) for line, r in lines]
             self.rows[net, layer] = lines, Tree(boxes) if lines else None
         return self.rows[net, layer]
 

@@ -3,8 +3,9 @@ import re
 from collections import namedtuple
 from functools import lru_cache
 
+from .units import CUSTOM
+
 UNITS = re.compile(rb"^P +UNITS +CUST +([01])[ \t\r]*$", re.M)
-U_OF = {b"0": 25_400, b"1": 10_000}
 # Names that are too long for their columns, and pins, as parameters and as comments that we write before a record.
 ALIAS = re.compile(rb"^P +(NNAME[0-9]+)[ \t]+([^\r\n]*)", re.M)
 PIN = b"C PIN,"
@@ -30,12 +31,16 @@ def length(sign, digits, unit):
     return int(text) * unit * (-1 if sign == b"-" else 1)
 
 
+def unit_of(data):
+    """The unit in u, or None where none is said."""
+    found = UNITS.search(data)
+    return CUSTOM[int(found[1])] if found else None
+
+
 @lru_cache(maxsize=2)
 def records(data):
     """The records in order, kept for the netlists that were read last; the k-th is record k + 1 of a report."""
-    unit_line = UNITS.search(data)
-    unit = U_OF[unit_line.group(1)] if unit_line else None
-    found, before = [], b""
+    unit, found, before = unit_of(data), [], b""
     for number, line in enumerate(data.split(b"\n"), 1):
         if line[:3] == b"999":
             break

@@ -7,7 +7,7 @@ from collections import Counter
 from fractions import Fraction as Q
 from functools import lru_cache
 
-from .netlist import U_OF, UNITS
+from . import netlist
 from .units import INCH, MM, SCALES, UNIT_WORDS
 from .words import millimetres
 
@@ -52,8 +52,7 @@ def records(text):
 
 
 def unit_of(text):
-    found = UNITS.search(text.encode("latin-1"))
-    return U_OF[found.group(1)] if found else None
+    return netlist.unit_of(text.encode("latin-1"))
 
 
 def moved(text, form, by):

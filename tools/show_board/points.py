@@ -11,8 +11,8 @@ from typing import NamedTuple
 from .clear import box
 from .rounds import polygon
 from .spots import edges, odd_inside, point_within
+from .units import CODES
 
-CUST = {25_400: 0, 10_000: 1}       # units in u, by their codes
 MOST = 999_999                      # six digits
 ROWS, ALONG = 15, 8                 # as many rows of an area, and places along a capsule, are looked at
 FEW = 8                             # of as many places that will do the nearest is taken
@@ -117,6 +117,6 @@ def found_in(pad, unit):
 
 def settled(pads):
     """(unit, places): the unit in which most pads have a place in copper, and of two such that with most at their middles."""
-    tried = [(unit, [place(pad, unit) for pad in pads]) for unit in CUST]
+    tried = [(unit, [place(pad, unit) for pad in pads]) for unit in CODES]
     return min(tried, key=lambda it: (sum(at is None or is_erased(pad, at, it[0]) for pad, at in zip(pads, it[1])),
                                       sum(at is not None and at.off > 0 for at in it[1]), sum(at.off for at in it[1] if at)))

@@ -55,7 +55,7 @@ def shapes_of(program, told):
         return None, NO_PLACES
     from . import copper        # a board that agrees has no copper looked at
     try:
-        return copper.shapes_of(told.package, told.report, judged.flat_of(program, told.package)), ""
+        return copper.shapes_of_judged(program, told), ""
     except BadCopper as why:
         return None, str(why)
 

@@ -1,6 +1,8 @@
 """The words of a copper file, and one of the two files that are written in its place."""
 import re
 
+from mends.copper_words import NUMBERS
+
 from .exact import Refused
 
 OWN = 900_000_000       # numbers of apertures that are made here
@@ -10,7 +12,6 @@ PLACED = re.compile(r"[\t\n\r ]*X[+-]?[0-9]{1,13}Y[+-]?[0-9]{1,13}D0?[12]\*")
 # Words that most files have most: a place with its code, and an aperture.
 PLAIN_WORDS = re.compile(r"(?:[\t\n\r ]*(?:X[+-]?[0-9]{1,13}Y[+-]?[0-9]{1,13}D0?[123]|D[1-9][0-9]{1,8})\*){2,500}")
 PLAIN = re.compile(r"(?:X([+-]?[0-9]+)Y([+-]?[0-9]+)D0?([123])|D([0-9]+))\*")
-NUMBERS = bytes.maketrans(b"XYD*", b"    ")
 MOST_DIGITS = 13        # of a coordinate
 FEW = 40                # bytes that are taken word by word
 

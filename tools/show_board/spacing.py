@@ -8,6 +8,7 @@ from typing import NamedTuple
 
 from . import Stop, nearest
 from .distances import of_lines
+from .spots import box_of_line
 from .tree import Tree, apart
 from .words import millimetres
 
@@ -70,7 +71,7 @@ class Lines:
             spans = touching.spans
             rows = [(line, max(radius[piece], 0), piece) for piece in self.pieces[net] if spans[piece][0] <= layer <= spans[piece][1]
                     for line in touching.lines(piece)]
-            boxes = [(min(p[0], q[0]) - r, min(p[1], q[1]) - r, max(p[0], q[0]) + r, max(p[1], q[1]) + r) for (p, q), r, _ in rows]
+            boxes = [box_of_line(*line, r) for line, r, _ in rows]
             self.found[key] = rows, boxes
         return self.found[key]
 

@@ -13,6 +13,11 @@ def edges(corners):
     return list(zip(corners, corners[1:] + corners[:1]))
 
 
+def box_of_line(a, b, r):
+    """The box of all that is at most r from the segment from a to b: left, low, right, high."""
+    return min(a[0], b[0]) - r, min(a[1], b[1]) - r, max(a[0], b[0]) + r, max(a[1], b[1]) + r
+
+
 def point_within(p, a, b, r):
     """Whether p is at most r from the segment from a to b."""
     dx, dy, px, py = b[0] - a[0], b[1] - a[1], p[0] - a[0], p[1] - a[1]

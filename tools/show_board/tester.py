@@ -1,7 +1,7 @@
 """The netlist for a tester: made of a judged board, or of the lower one of two bounds, and given out where `check` confirms it."""
 from typing import NamedTuple, Optional
 
-from . import BadCopper, Stop, between, copper, judged, padlist
+from . import BadCopper, Stop, between, copper, padlist
 from .ipc import Netlist
 from .package import beside
 
@@ -20,8 +20,7 @@ class Tester(NamedTuple):
 
 def with_copper(program, told, sources=(), known=None):
     """A judged package as a board whose copper is known; one of two bounds with the user's commands by its `sources`."""
-    shapes = copper.shapes_of(told.package, told.report, judged.flat_of(program, told.package), known)
-    return between.board_of(told, dict(sources), shapes)
+    return between.board_of(told, dict(sources), copper.shapes_of_judged(program, told, known))
 
 
 def copper_of(program, told, board, known=None):

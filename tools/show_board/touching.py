@@ -1,6 +1,6 @@
 """Which pieces touch, exactly, over whole numbers: a second look at the copper that only says where, never whether."""
 from . import grid, lines_apart
-from .spots import cross, point_within, segments_within
+from .spots import box_of_line, cross, point_within, segments_within
 from .tree import Tree
 
 FEW_EDGES = 24
@@ -41,7 +41,7 @@ class Touching:
             return [(p, q) for p, q in lines if max(p[0], q[0]) >= box[0] and min(p[0], q[0]) <= box[2]
                     and max(p[1], q[1]) >= box[1] and min(p[1], q[1]) <= box[3]]
         if piece not in self.trees:
-            self.trees[piece] = Tree([(min(p[0], q[0]), min(p[1], q[1]), max(p[0], q[0]), max(p[1], q[1])) for p, q in lines])
+            self.trees[piece] = Tree([box_of_line(p, q, 0) for p, q in lines])
         return [lines[k] for k in self.trees[piece].meeting(box)]
 
     def is_inside(self, piece, place):

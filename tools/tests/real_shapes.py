@@ -13,6 +13,19 @@ from show_board.spots import odd_inside, point_within
 
 FINE = 4                # places are quarters of a u
 NEAR = 3 * FINE
+METRE, RIGHT = 10 ** 10, 90 * 10 ** 7       # in u, and a right angle in parts of a degree
+
+
+def are_placed(spots):
+    """Whether places are at most a metre from both axes."""
+    return all(-METRE <= v <= METRE for spot in spots for v in spot)
+
+
+def angles(rng, count):
+    """From the least part of a degree to the least under a right angle."""
+    yield from (1, 2, 3, 10 ** 7, RIGHT // 3, RIGHT // 2, RIGHT - 2, RIGHT - 1)
+    for _ in range(count):
+        yield rng.choice((rng.randrange(1, RIGHT), int(10 ** rng.uniform(0, 8.9)), RIGHT - int(10 ** rng.uniform(0, 8.9)), rng.randrange(1, 360) * RIGHT // 360))
 
 
 def macro_bounds(body, parameters, scale):

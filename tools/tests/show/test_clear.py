@@ -8,7 +8,7 @@ from fractions import Fraction as Q
 
 import made
 from made import built, manifest, netlist, record
-from real_shapes import FINE, circle_ends, encloses, fine, has, in_sector, pieces_of
+from real_shapes import FINE, circle_ends, encloses, every, fine, has, in_sector, pieces_of
 from show_board.arcs import arc_chain
 from show_board.clear import Object, cut
 from show_board.rounds import in_it, ring, round_it
@@ -326,11 +326,6 @@ class Rounds(unittest.TestCase):
 
 def side_of(value):
     return True if value > 0 else False if value < 0 else None
-
-
-def every(answers):
-    answers = list(answers)
-    return False if False in answers else None if None in answers else True
 
 
 def disc(c, r):

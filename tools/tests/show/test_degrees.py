@@ -4,7 +4,7 @@ import random
 import unittest
 from fractions import Fraction as Q
 
-from real_shapes import macro_bounds
+from real_shapes import METRE, RIGHT, angles, are_placed, macro_bounds
 from show_board.cones import cone_of
 from show_board.degrees import turned_bounds
 from show_board.exact import cos_sin, cross_least, exact, minus, plus, pointed, times, turned
@@ -12,13 +12,9 @@ from show_board.macros import bounds_of, figures, regular, rows
 from show_board.regular import PARTS, regular_bounds
 from show_board.spots import cross, dot, edges
 
-METRE, RIGHT, MOST_PART, MM = 10 ** 10, 90 * 10 ** 7, 10 ** 8, 10 ** 7
+MOST_PART, MM = 10 ** 8, 10 ** 7
 ROT_RECT, OUTLINE, FREE = ["21,1,$1,$2,0,0,$3"], ["4,1,4,$1,$2,$3,$4,$5,$6,$7,$8,$1,$2,$9"], ["4,1,5,0,0,1,0,2,1,1,2,0,1,0,0,$1"]
 TRAPEZOID = [-1, Q(-1, 2), 1, Q(-1, 2), Q(7, 10), Q(1, 2), Q(-7, 10), Q(1, 2)]
-
-
-def are_placed(spots):
-    return all(-METRE <= v <= METRE for spot in spots for v in spot)
 
 
 def changes(up, ways):
@@ -61,13 +57,6 @@ def is_below(figure, first, last, about, to, points):
 
 def ring(corners, at=(0, 0)):
     return [(x + at[0], y + at[1]) for x, y in (*corners, corners[0])]
-
-
-def angles(rng, count):
-    """From the least part of a degree to the least under a right angle."""
-    yield from (1, 2, 3, 10 ** 7, RIGHT // 3, RIGHT // 2, RIGHT - 2, RIGHT - 1)
-    for _ in range(count):
-        yield rng.choice((rng.randrange(1, RIGHT), int(10 ** rng.uniform(0, 8.9)), RIGHT - int(10 ** rng.uniform(0, 8.9)), rng.randrange(1, 360) * RIGHT // 360))
 
 
 def outlines(rng):

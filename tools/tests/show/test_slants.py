@@ -3,14 +3,11 @@ import random
 import unittest
 from math import cos, hypot, isqrt, pi, sin
 
+from real_shapes import are_placed
 from show_board.slants import line_bounds
 from show_board.spots import cross, dot
 
-FINE, BITS, METRE = 16_777_216, 2 ** 128, 10 ** 10
-
-
-def are_placed(spots):
-    return all(-METRE <= v <= METRE for spot in spots for v in spot)
+FINE, BITS = 16_777_216, 2 ** 128
 
 
 def is_within(start, end, width, p):

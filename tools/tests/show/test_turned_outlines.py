@@ -4,13 +4,13 @@ import random
 import unittest
 from fractions import Fraction as Q
 
-from real_shapes import Real, has, macro_bounds
+from real_shapes import RIGHT, Real, angles, has, macro_bounds
 from show_board.cones import cone_of
 from show_board.exact import cos_sin, exact
 from show_board.macros import rows
 from show_board.turned_outlines import outline_bounds, placed_outline
 
-RIGHT, MM = 90 * 10 ** 7, 10 ** 7
+MM = 10 ** 7
 
 
 # ---- what is taken
@@ -116,12 +116,6 @@ def outlines(rng, least=2, most=8.5):
         at, found = rng.choice(((0, 0), (rng.randint(-size, size), rng.randint(-size, size)))), kind(rng, *(rng.randint(size // 5 + 50, size + 50) for _ in "wh"))
         k = rng.randrange(len(found))
         yield tuple([(x + at[0], y + at[1]) for x, y in found[k:] + found[:k]][::rng.choice((1, -1))])
-
-
-def angles(rng, count):
-    yield from (1, RIGHT // 3, RIGHT // 2, RIGHT - 1)
-    for _ in range(count):
-        yield rng.choice((rng.randrange(1, RIGHT), int(10 ** rng.uniform(0, 8.9)), RIGHT - int(10 ** rng.uniform(0, 8.9)), rng.randrange(1, 360) * RIGHT // 360))
 
 
 class Outline(Real):
