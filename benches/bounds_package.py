@@ -2,13 +2,11 @@
 import math
 import os
 import random
-import resource
-import subprocess
 import sys
 import tempfile
-import time
 
 import made_board
+import runs
 
 HEAD = [*made_board.COPPER, "G75*", "%ADD10C,0.2*%", "%ADD11C,0.5*%", "G01*"]
 
@@ -44,10 +42,8 @@ def timed(layers, edges):
     """Prints what `show` says, and its processor seconds with those of the program, and the most memory that one of them had."""
     with tempfile.TemporaryDirectory() as folder:
         write(folder, layers, edges)
-        began = time.time()
-        told = subprocess.run([sys.executable, os.path.join(os.path.dirname(os.path.dirname(os.path.abspath(__file__))), "tools", "show"), folder, "-q"],
-                              stdout=subprocess.PIPE, check=False)
-    used = resource.getrusage(resource.RUSAGE_CHILDREN)
-    print(told.stdout.decode().strip().split(": ", 1)[-1])
-    print(f"{layers} layers, {edges} edges: {used.ru_utime + used.ru_stime:.1f} processor seconds, {time.time() - began:.0f} by the clock, {used.ru_maxrss // 1024} MB")
-    return told.returncode
+        done = runs.run([sys.executable, os.path.join(runs.TOP, "tools", "show"), folder, "-q"])
+    sys.stderr.write(done.notes)
+    print(done.out.decode().strip().split(": ", 1)[-1])
+    print(f"{layers} layers, {edges} edges: {done.processor:.1f} processor seconds, {done.clock:.0f} by the clock, {done.held >> 20} MB")
+    return done.status

@@ -1,18 +1,17 @@
 """A made package of large planes with cut-ins along rows of holes, pads and draws: what `show` takes for it, and its mends alone."""
 import os
 import random
-import subprocess
 import sys
 import tempfile
-import time
 
 import made_board
+import runs
 
 ROWS, VOID, STEP = 100, 350_000, 1_000_000          # rows, and holes of a row; nanometres
 SIDE = (ROWS + 1) * STEP
 AROUND = [(-14, 0), (-13, 5), (-10, 10), (-5, 13), (0, 14), (5, 13), (10, 10), (13, 5), (14, 0), (10, -10), (5, -13), (0, -14), (-5, -13), (-13, -5)]
 HEAD = [*made_board.COPPER, "%ADD10C,0.3*%", "%ADD11C,0.1*%", "%LPD*%", "G01*"]
-TOOLS = os.path.join(os.path.dirname(os.path.dirname(os.path.abspath(__file__))), "tools")
+TOOLS = os.path.join(runs.TOP, "tools")
 
 
 def plane(rng, noisy):
@@ -49,15 +48,6 @@ def write(folder, layers, noisy=1_902, draws=2_000):
     return made[-1][1]
 
 
-def used(words):
-    """The processor seconds of a command with all that it starts, by the system, the most memory of a process in MB, and what it printed."""
-    began = time.time()
-    process = subprocess.Popen(words, stdout=subprocess.PIPE)
-    out = process.stdout.read()
-    _, _, usage = os.wait4(process.pid, 0)
-    return usage.ru_utime + usage.ru_stime, usage.ru_maxrss // 1024, time.time() - began, out.decode()
-
-
 MENDS = "import sys; sys.path.insert(0, sys.argv[1]); from mends import copper_file; [copper_file.mended(open(name, 'rb').read()) for name in sys.argv[2:]]"
 
 
@@ -65,9 +55,10 @@ def timed(layers):
     with tempfile.TemporaryDirectory() as folder:
         edges = write(folder, layers)
         files = [os.path.join(folder, f"l{k}.gbr") for k in range(layers)]
-        seconds, memory, _, _ = used([sys.executable, "-c", MENDS, TOOLS, *files])
-        print(f"{layers} planes of {edges:,} edges, mends alone: {seconds:.1f} processor s, {memory} MB", flush=True)
+        done = runs.run([sys.executable, "-c", MENDS, TOOLS, *files])
+        print(f"{layers} planes of {edges:,} edges, mends alone: {done.processor:.1f} processor s, {done.held >> 20} MB", flush=True)
         for words in ([], ["--page", os.path.join(folder, "page.html")]):
-            seconds, memory, clock, out = used([sys.executable, os.path.join(TOOLS, "show"), folder, "-q", *words])
-            print(out.split("\n")[0].split(": ", 1)[-1])
-            print(f"show{' with a page' if words else ''}: {seconds:.1f} processor s, {clock:.1f} by the clock, {memory} MB in the process that had most", flush=True)
+            done = runs.run([sys.executable, os.path.join(TOOLS, "show"), folder, "-q", *words])
+            sys.stderr.write(done.notes)
+            print(done.out.decode().split("\n")[0].split(": ", 1)[-1])
+            print(f"show{' with a page' if words else ''}: {done.processor:.1f} processor s, {done.clock:.1f} by the clock, {done.held >> 20} MB in the process that had most", flush=True)
