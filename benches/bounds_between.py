@@ -1,5 +1,4 @@
 """Made packages whose copper outside the profile `between` reads, and how many of them it takes, by what `show` says."""
-import json
 import math
 import os
 import random
@@ -8,9 +7,10 @@ import sys
 import tempfile
 from collections import Counter
 
+import made_board
+import runs
 from bounds_files import FORMATS
 
-TOP = os.path.dirname(os.path.dirname(os.path.abspath(__file__)))
 METRE = 10 ** 10
 KINDS = ("like", "whole", "any turn", "two radii", "one line", "small", "large", "quadrant")
 PROVED = ", between two bounds, proved"
@@ -47,9 +47,6 @@ class Layer:
     def step(self):
         """Of inches a size is counted by 254 u, which have six decimals at most."""
         return 127 if self.scale % 127 == 0 else 1
-
-    def text(self):
-        return "\n".join(self.lines) + "\n"
 
     def place(self):
         return tuple(self.rng.randint(-self.most, self.most) for _ in "xy")
@@ -291,14 +288,10 @@ class Layer:
 def package(rng, folder, arcs):
     """A package of two layers, a through drill file and two points; how many arc draws it has, and what else outside the profile."""
     layers = [Layer(rng, arcs // 2) for _ in "tb"]
-    files = {f"{k}.gbr": its.text() for k, its in enumerate(layers)}
-    files["d.drl"] = "\n".join(["M48", "METRIC", "T1C0.3", "%", "T1", *(f"X{rng.uniform(-40, 40):.4f}Y{rng.uniform(-40, 40):.4f}" for _ in range(9)), "M30", ""])
+    files = {f"{k}.gbr": its.lines for k, its in enumerate(layers)}
+    files["d.drl"] = ["M48", "METRIC", "T1C0.3", "%", "T1", *(f"X{rng.uniform(-40, 40):.4f}Y{rng.uniform(-40, 40):.4f}" for _ in range(9)), "M30"]
     points = [f"327{name}                J1    -{k + 1}          A01X+{k:06}Y+000000" for k, name in enumerate("AB")]
-    files["n.ipc"] = "\n".join(["P  UNITS CUST 1", *points, "999", ""])
-    files["m.json"] = json.dumps({"copper": ["0.gbr", "1.gbr"], "drills": [{"file": "d.drl", "from": 1, "to": 2}], "netlist": "n.ipc"})
-    for name, text in files.items():
-        with open(os.path.join(folder, name), "w", encoding="ascii") as file:
-            file.write(text)
+    made_board.put(folder, {**files, "n.ipc": [made_board.NETLIST, *points, "999"], "m.json": [made_board.manifest(["0.gbr", "1.gbr"], "d.drl")]})
     return sum((its.made for its in layers), Counter({"arc draws": sum(its.arcs for its in layers)}))
 
 
@@ -308,7 +301,7 @@ def tried(packages, seed, arcs=100):
     for number in range(packages):
         with tempfile.TemporaryDirectory() as folder:
             count += package(random.Random(f"{seed} {number}"), folder, arcs)
-            told = subprocess.run([sys.executable, os.path.join(TOP, "tools", "show"), folder, "-q"], stdout=subprocess.PIPE, check=False)
+            told = subprocess.run([sys.executable, os.path.join(runs.TOP, "tools", "show"), folder, "-q"], stdout=subprocess.PIPE, check=False)
             said = told.stdout.decode().strip().split("\n")[-1].replace(folder, "board")
         if PROVED in said:
             taken += 1

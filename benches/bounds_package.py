@@ -17,7 +17,7 @@ def plane(rng, middle, edges):
     for k in range(edges):
         angle, far = 2 * math.pi * k / edges, 25_000_000 + k % 2 * rng.randint(0, 3_000_000)
         spots.append(tuple(round(v + far * f(angle)) for v, f in zip(middle, (math.cos, math.sin))))
-    return ["G36*", "X%dY%dD02*" % spots[0], *("X%dY%dD01*" % spot for spot in spots[1:] + spots[:1]), "G37*"]
+    return made_board.region(spots)
 
 
 def layer(rng, edges):

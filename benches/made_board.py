@@ -24,6 +24,11 @@ def manifest(copper, drill=None):
     return json.dumps({"copper": copper, "drills": drills, "netlist": "n.ipc"}, separators=(",", ":"))
 
 
+def region(spots):
+    """The lines of a region of one contour, which ends where it begins."""
+    return ["G36*", "X%dY%dD02*" % spots[0], *("X%dY%dD01*" % spot for spot in spots[1:] + spots[:1]), "G37*"]
+
+
 def put(folder, files):
     """Writes files of lines into a folder, which is made. How many bytes they have."""
     os.makedirs(folder, exist_ok=True)

@@ -27,7 +27,7 @@ def plane(rng, noisy):
 
 def layer(rng, noisy, draws):
     spots = plane(rng, noisy)
-    lines = [*HEAD, "G36*", "X%dY%dD02*" % spots[0], *("X%dY%dD01*" % spot for spot in spots[1:] + spots[:1]), "G37*", "D10*"]
+    lines = [*HEAD, *made_board.region(spots), "D10*"]
     lines += [f"X{x * STEP}Y{y * STEP}D03*" for y in range(1, ROWS + 1) for x in range(1, ROWS + 1)]
     lines.append("D11*")
     for _ in range(draws):
