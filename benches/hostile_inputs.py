@@ -183,7 +183,8 @@ def macros_at_limits():
     for count in (5_000, 5_001):
         outline = b"4,1,%d,0,0," % count + b",".join(b"%d.0,%d.0" % (k % 900, k % 2) for k in range(1, count)) + b",0,0,90"
         yield f"an outline of {count} corners", lambda o=outline: Made("", package(with_macro([o], *grid(3))))
-        yield f"200 flashes of an outline of {count} corners", lambda o=outline: Made("", package(with_macro([o.replace(b".0", b".0001")], *[b"X0Y0D03*"] * 201)))
+        for flashes in (200, 201):
+            yield f"{flashes} flashes of an outline of {count} corners", lambda o=outline, n=flashes: Made("", package(with_macro([o.replace(b".0", b".0001")], *[b"X0Y0D03*"] * n)))
     yield "an outline of 10^18 corners", lambda: Made("", package(with_macro([b"4,1,%d,0,0,0" % 10**18], *grid(1))))
     for count in (32_768, 32_769):
         yield f"{2 * count} radii", lambda n=count: Made("", package(gerber(b"%AMM*1,1,$1,0,0*1,1,$2,1,0*%", *[b"%%ADD%dM,0.%07dX1.%07d*%%\nD%d*\nX%dY0D03*" % (10 + k, 2 * k + 2, 2 * k, 10 + k, 1000 * k) for k in range(n)])))

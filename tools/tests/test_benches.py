@@ -1,10 +1,21 @@
-"""The benches: each that benches/README.md names is there and says how it is called, and those that read files do so with any program."""
+"""The benches: each that benches/README.md names is there and says how it is called, those that read files do so with any program,
+and what a run takes is its own."""
+import importlib.machinery
+import importlib.util
 import os
 import re
+import sys
+import types
+from unittest import mock
 
 import common
 
 BENCHES = os.path.join(common.TOP, "benches")
+sys.path.append(BENCHES)
+import runs
+
+loader = importlib.machinery.SourceFileLoader("faults", os.path.join(BENCHES, "faults"))
+loader.exec_module(faults := importlib.util.module_from_spec(importlib.util.spec_from_loader("faults", loader)))
 
 
 class Benches(common.Case):
@@ -30,6 +41,27 @@ class Benches(common.Case):
         for name in ("gaps", "pages"):
             status, _, notes = self.run_words([os.path.join(BENCHES, name)])
             self.assertEqual((status, f"benches/{name} PROGRAM" in notes), (1, True), name)
+
+    def test_a_run(self):
+        held = b"x" * (100 << 20)
+        done = runs.run(["sh", "-c", "echo out; echo notes >&2; sleep 0.1; exit 3"])
+        self.assertEqual((done.status, done.out, done.notes), (3, b"out\n", "notes\n"))
+        self.assertGreaterEqual(done.clock, 0.1)
+        self.assertLess(done.held, len(held), "not the peak of what asks")
+        burns = "x = b'x' * (60 << 20)\nimport time\nwhile time.process_time() < 0.2: pass"
+        clock, processor, most = runs.best(2, [sys.executable, "-c", burns], self.scratch, "out")
+        self.assertGreaterEqual(min(clock, processor), 0.15)
+        self.assertGreater(most, 60 << 20)
+        for words, said in ((["sh", "-c", "echo why >&2; exit 4"], "status 4\nwhy$"), (["none/there"], "No such file or directory: 'none/there'$")):
+            with self.assertRaisesRegex(SystemExit, said):
+                runs.best(1, words, self.scratch, "out")
+
+    def test_faults_in_a_command_that_is_not_understood(self):
+        trials = faults.Faults.__new__(faults.Faults)
+        trials.passed = trials.failed = 0
+        with mock.patch.object(faults, "Trial", lambda *_: types.SimpleNamespace(status=2)), mock.patch("builtins.print"):
+            trials.commands(self.scratch, ("chekc m.json",))
+        self.assertEqual((trials.passed, trials.failed), (0, 1))
 
     def test_what_reads_files(self):
         program = common.program()

@@ -1,5 +1,6 @@
 """The inputs made to harm: the same for the same seed, of the sizes that they are named for, from packages that are whole."""
 import os
+import re
 import sys
 
 import common
@@ -24,6 +25,11 @@ class Inputs(common.Case):
             if size == inputs.MOST:
                 self.assertIn(size, [len(data) for data in make().files.values()], what)
         self.assertEqual(maker.made(-1).what, names[0])
+
+    def test_flashes_are_as_many_as_named(self):
+        for what, make in inputs.Maker(common.TOP, 1).at_limits:
+            if named := re.match(r"([\d,]+) flashes", what):
+                self.assertEqual(make().files["t.gbr"].count(b"D03*"), int(named[1].replace(",", "")), what)
 
     def test_packages_they_are_made_from(self):
         program = common.program()
