@@ -11,7 +11,7 @@ import made_board
 import runs
 from bounds_files import FORMATS
 
-METRE = 10 ** 10
+FARTHEST, ARCS = 5 * 10 ** 8, 50       # from 0 to places, in u; arc draws of a layer
 KINDS = ("like", "whole", "any turn", "two radii", "one line", "small", "large", "quadrant")
 PROVED = ", between two bounds, proved"
 
@@ -31,11 +31,11 @@ class Layer:
     """A copper file: figures, arc draws of every kind, macros with slanted lines, pads turned by degrees, round holes, odd sizes, also of pens, regions with arcs, blocks. `arcs` counts
     the draws, and `made` what else of the file is outside the profile; lengths are counted in the file's units. At 0 is a pad for both points."""
 
-    def __init__(self, rng, arcs, most=METRE // 20):
+    def __init__(self, rng):
         self.rng, self.arcs, self.made, (digits, unit, self.unit) = rng, 0, Counter(), rng.choice(FORMATS)
-        self.scale, self.most = 254 * 10 ** 6 if unit == "IN" else 10 ** 7, most // self.unit
+        self.scale, self.most = 254 * 10 ** 6 if unit == "IN" else 10 ** 7, FARTHEST // self.unit
         self.lines = [f"%FSLAX{digits}Y{digits}*%", f"%MO{unit}*%", *self.apertures(), *self.macros(), *self.pads(), *self.holes(), *self.odds(), "%ADD60C,0.01*%", "G01*", "D60*", "X0Y0D03*"]
-        while self.arcs < arcs:
+        while self.arcs < ARCS:
             self.block() if rng.random() < .03 else self.object()
         self.lines += ["G01*", "M02*"]
 
@@ -285,9 +285,9 @@ class Layer:
         self.arcs += 1
 
 
-def package(rng, folder, arcs):
+def package(rng, folder):
     """A package of two layers, a through drill file and two points; how many arc draws it has, and what else outside the profile."""
-    layers = [Layer(rng, arcs // 2) for _ in "tb"]
+    layers = [Layer(rng) for _ in "tb"]
     files = {f"{k}.gbr": its.lines for k, its in enumerate(layers)}
     files["d.drl"] = ["M48", "METRIC", "T1C0.3", "%", "T1", *(f"X{rng.uniform(-40, 40):.4f}Y{rng.uniform(-40, 40):.4f}" for _ in range(9)), "M30"]
     points = [f"327{name}                J1    -{k + 1}          A01X+{k:06}Y+000000" for k, name in enumerate("AB")]
@@ -295,12 +295,12 @@ def package(rng, folder, arcs):
     return sum((its.made for its in layers), Counter({"arc draws": sum(its.arcs for its in layers)}))
 
 
-def tried(packages, seed, arcs=100):
+def tried(packages, seed):
     """Prints how many packages are taken; 1 where one is not."""
     taken, count = 0, Counter()
     for number in range(packages):
         with tempfile.TemporaryDirectory() as folder:
-            count += package(random.Random(f"{seed} {number}"), folder, arcs)
+            count += package(random.Random(f"{seed} {number}"), folder)
             told = subprocess.run([sys.executable, os.path.join(runs.TOP, "tools", "show"), folder, "-q"], stdout=subprocess.PIPE, check=False)
             said = told.stdout.decode().strip().split("\n")[-1].replace(folder, "board")
         if PROVED in said:

@@ -177,7 +177,7 @@ class File:
         x, y = self.rng.choice(((a, b), (b, a)))
         return x * m * self.rng.choice((-1, 1)), y * m * self.rng.choice((-1, 1))
 
-    def arc(self, c, a, b, anticlockwise, words=""):
+    def arc(self, c, a, b, anticlockwise):
         """Along an arc from a to b about c, by words of the file."""
         start, end = (a, b) if anticlockwise else (b, a)
         self.lines.append(f"G0{3 if anticlockwise else 2}X{end[0]}Y{end[1]}I{c[0] - start[0]}J{c[1] - start[1]}D01*")
