@@ -1,5 +1,5 @@
 -- The text of what two verdicts decide, and its status, of findings that are theirs.
-use Rattle.std.proofs.Common.{◌≡◌, ℕ, List, Result, Ok, Err, IfOk, ◌++◌, ap, subst, ◌∙◌}
+use Rattle.std.proofs.Common.{◌≡◌, ℕ, List, Result, Ok, Err, IfOk, ◌++◌, ap, length, subst, ◌∙◌}
 use Rattle.board_shapes.specs.LawfulBoard.{IsLawfulBoard}
 use Rattle.board_shapes.specs.Plain.{PlainBoard}
 use Rattle.board_shapes.specs.declared.probe.Probe.{Probe}
@@ -11,11 +11,11 @@ use Rattle.reports.specs.Right.{IsRightOn}
 use Rattle.reports.specs.declared.answer.Answer.{Answer}
 use Rattle.verdict.specs.declared.verdict.Verdict.{Verdict}
 
-pub text_alike : (n m : ℕ) (p q : List Probe) (a b : List (List ℕ)) (v w : Verdict) (sure unsure : Findings) → n ≡ m → p ≡ q → a ≡ b → sure ≡ certain v w → unsure ≡ undecided v w → boards_part n v w ++ decision_part p a sure unsure ≡ between_text m q b v w
+pub text_alike : (n m : ℕ) (p q : List Probe) (a b : List (List ℕ)) (v w : Verdict) (sure unsure : Findings) → n ≡ m → p ≡ q → a ≡ b → sure ≡ certain v w → unsure ≡ undecided v w → boards_part n (length p) v w ++ decision_part p a sure unsure ≡ between_text m q b v w
 text_alike n m p q a b v w sure unsure e f h c u =
-    ap (λ (k : ℕ). boards_part k v w ++ decision_part p a sure unsure) e ∙ (ap (λ (k : List Probe). boards_part m v w ++ decision_part k a sure unsure) f ∙
-    (ap (λ (k : List (List ℕ)). boards_part m v w ++ decision_part q k sure unsure) h ∙
-    (ap (λ (k : Findings). boards_part m v w ++ decision_part q b k unsure) c ∙ ap (λ (k : Findings). boards_part m v w ++ decision_part q b (certain v w) k) u)))
+    ap (λ (k : ℕ). boards_part k (length p) v w ++ decision_part p a sure unsure) e ∙ (ap (λ (k : List Probe). boards_part m (length k) v w ++ decision_part k a sure unsure) f ∙
+    (ap (λ (k : List (List ℕ)). boards_part m (length q) v w ++ decision_part q k sure unsure) h ∙
+    (ap (λ (k : Findings). boards_part m (length q) v w ++ decision_part q b k unsure) c ∙ ap (λ (k : Findings). boards_part m (length q) v w ++ decision_part q b (certain v w) k) u)))
 
 pub decision_by : (v w : Verdict) (sure unsure : Findings) (status : ℕ) (line : List ℕ) → sure ≡ certain v w → unsure ≡ undecided v w → IsDecisionBy sure unsure status line → IsDecision v w status line
 decision_by v w sure unsure status line c u h = subst (λ (k : Findings). IsDecisionBy (certain v w) k status line) u (subst (λ (k : Findings). IsDecisionBy k unsure status line) c h)

@@ -57,8 +57,9 @@ last_part sure unsure = where_none sure.opens sure.shorts sure.missing (where_no
 abbrev pub board_line : List ℕ → Verdict → List ℕ
 board_line title v = title ++ word v.pieces ++ word (length v.nets) ++ word (length v.opens) ++ word (length v.shorts) ++ word (length v.bare) ++ end
 
-abbrev pub boards_part : ℕ → (below above : Verdict) → List ℕ
-boards_part count below above = codes "boardnet-between 1" ++ end ++ count_line (codes "real") count ++ board_line (codes "lower") below ++ board_line (codes "upper") above
+-- so many pieces of the real board and test points of all three, and what is found on the other two
+abbrev pub boards_part : (pieces points : ℕ) → (below above : Verdict) → List ℕ
+boards_part pieces points below above = codes "boardnet-between 1" ++ end ++ count_line (codes "real") pieces ++ count_line (codes "points") points ++ board_line (codes "lower") below ++ board_line (codes "upper") above
 
 -- what is certain, what is undecided, and what is decided
 abbrev pub decision_part : List Probe → List (List ℕ) → (sure unsure : Findings) → List ℕ
@@ -66,7 +67,7 @@ decision_part probes names sure unsure = (codes "certain" ++ end) ++ findings_pa
 
 -- of a real board of so many pieces, with these test points and names, between boards with these verdicts
 abbrev pub between_text : ℕ → List Probe → List (List ℕ) → (below above : Verdict) → List ℕ
-between_text count probes names below above = boards_part count below above ++ decision_part probes names (certain below above) (undecided below above)
+between_text count probes names below above = boards_part count (length probes) below above ++ decision_part probes names (certain below above) (undecided below above)
 
 -- 0: nothing is certain and nothing undecided, so the board agrees. 1: something is certain, so it does not; or it is undecided. The line has the counts of
 -- what is certain, or of what is undecided.

@@ -2,7 +2,7 @@
 ghost use Rattle.reports.specs.BetweenText as spec;
 ghost use Rattle.reports.specs.BetweenText.{findings_part, list_part, point_line, probe_text};
 ghost use Rattle.std.specs.List.{flat_map};
-ghost use Rattle.std.specs.Prelude.{IfOk, OnOk, Some, [], map, slice_index_or, ◌++◌, ◌≡◌};
+ghost use Rattle.std.specs.Prelude.{IfOk, OnOk, Some, [], length, map, slice_index_or, ◌++◌, ◌≡◌};
 ghost use Rattle.verdict.specs.ReportText.{count_line, signed_word};
 
 use crate::findings::Findings;
@@ -169,14 +169,16 @@ fn push_board(out: &mut Vec<u8>, title: &[u8], v: &Verdict) -> Result<(), AllocE
 
 fn push_boards(
     out: &mut Vec<u8>,
-    count: usize,
+    pieces: usize,
+    points: usize,
     below: &Verdict,
     above: &Verdict,
 ) -> Result<(), AllocError>
-    ensures { OnOk result (out.new.items ≡ out.old.items ++ spec.boards_part count below.now above.now) }
+    ensures { OnOk result (out.new.items ≡ out.old.items ++ spec.boards_part pieces points below.now above.now) }
 {
     put(out, b"boardnet-between 1\n")?;
-    push_count(out, b"real", count)?;
+    push_count(out, b"real", pieces)?;
+    push_count(out, b"points", points)?;
     push_board(out, b"lower", below)?;
     push_board(out, b"upper", above)
 }
@@ -222,10 +224,10 @@ pub fn write_between(
     sure: &Findings,
     unsure: &Findings,
 ) -> Result<Vec<u8>, NoMemory>
-    ensures { IfOk result (λ text. text.items ≡ spec.boards_part count below.now above.now ++ spec.decision_part probes.now names.now sure.now unsure.now) }
+    ensures { IfOk result (λ text. text.items ≡ spec.boards_part count (length probes.now) below.now above.now ++ spec.decision_part probes.now names.now sure.now unsure.now) }
 {
     let mut out = Vec::new(alloc);
-    push_boards(&mut out, count, below, above)?;
+    push_boards(&mut out, count, probes.len(), below, above)?;
     push_decision(&mut out, probes, names, sure, unsure)?;
     Ok(out)
 }

@@ -158,7 +158,7 @@ class Asked(made.Case):
     def test_smaller_areas(self):
         """With regions the word is said where the smaller areas within them say the same, and a weaker answer is none."""
         bent = ["G36*", "X0Y0D02*", "X2000000Y0D01*", "G03X0Y2000000I-2000000J0D01*", "G01X0Y0D01*", "G37*"]
-        text = "boardnet-between 1\nreal 1\ncertain\nopens 0\nshorts {}\nmissing 0\nundecided\nopens 0\nshorts 0\nmissing 0\n{}\n"
+        text = "boardnet-between 1\nreal 1\npoints 2\nlower 1 1 0 0 0\nupper 1 1 0 0 0\ncertain\nopens 0\nshorts {}\nmissing 0\nundecided\nopens 0\nshorts 0\nmissing 0\n{}\n"
         for records, shorts, word, is_said in (("AA", 0, "agrees", True), ("AA", 0, "undecided", False), ("AB", 1, "differs", True), ("AB", 0, "differs", False)):
             program = Recorder(Answer(int(word != "agrees"), text.format(shorts, word).encode(), ""))
             told = self.told(program, bent, [record(name, f"J1.{k}", .5, .5 + k * .1) for k, name in enumerate(records)])

@@ -301,13 +301,13 @@ fn pads_of_odd_sizes(rt: HostRuntime) -> Result<(), Fail> {
 }
 
 const TEXT: &str =
-    "boardnet-between 1\nreal 2\nlower 7 2 1 0 0\nupper 7 1 0 0 0\ncertain\nopens 0\nshorts 0\nmissing 0\nundecided\nopens 1\nopen 2 1 30000 40000 A\nshorts 0\nmissing 0\nundecided\n";
+    "boardnet-between 1\nreal 2\npoints 2\nlower 7 2 1 0 0\nupper 7 1 0 0 0\ncertain\nopens 0\nshorts 0\nmissing 0\nundecided\nopens 1\nopen 2 1 30000 40000 A\nshorts 0\nmissing 0\nundecided\n";
 
 const OPEN: &str =
-    "boardnet-between 1\nreal 2\nlower 7 2 1 0 0\nupper 7 2 1 0 0\ncertain\nopens 1\nopen 2 1 30000 40000 A\nshorts 0\nmissing 0\nundecided\nopens 0\nshorts 0\nmissing 0\ndiffers\n";
+    "boardnet-between 1\nreal 2\npoints 2\nlower 7 2 1 0 0\nupper 7 2 1 0 0\ncertain\nopens 1\nopen 2 1 30000 40000 A\nshorts 0\nmissing 0\nundecided\nopens 0\nshorts 0\nmissing 0\ndiffers\n";
 
 const SHORT: &str =
-    "boardnet-between 1\nreal 2\nlower 7 1 0 1 0\nupper 7 1 0 1 0\ncertain\nopens 0\nshorts 1\nshort 2\npoint 1 1 0 70000 A\npoint 2 1 30000 40000 B\nmissing 0\nundecided\nopens 0\nshorts 0\nmissing 0\ndiffers\n";
+    "boardnet-between 1\nreal 2\npoints 2\nlower 7 1 0 1 0\nupper 7 1 0 1 0\ncertain\nopens 0\nshorts 1\nshort 2\npoint 1 1 0 70000 A\npoint 2 1 30000 40000 B\nmissing 0\nundecided\nopens 0\nshorts 0\nmissing 0\ndiffers\n";
 
 // What both boards have is certain, and is not undecided besides.
 #[test]
@@ -323,6 +323,18 @@ fn what_is_certain_is_not_undecided(rt: HostRuntime) -> Result<(), Fail> {
         assert_eq!(rt; (status, shown(&out)), (1, text));
     }
     Ok(())
+}
+
+const WITHOUT_POINTS: &str =
+    "boardnet-between 1\nreal 2\npoints 0\nlower 7 2 0 0 0\nupper 7 1 0 0 0\ncertain\nopens 0\nshorts 0\nmissing 0\nundecided\nopens 0\nshorts 0\nmissing 0\nagrees\n";
+
+// Of no test point nothing is certain or undecided: the text says that there is none.
+#[test]
+fn without_test_points(rt: HostRuntime) -> Result<(), Fail> {
+    let alloc = rt.alloc();
+    let row = (PAD, THIN, THICK, &ONE_NAME[..0], COUNTS, 0, AGREES);
+    let mut package = row_package(alloc, &row)?;
+    wants(alloc, BETWEEN, &mut package, 0, AGREES, WITHOUT_POINTS)
 }
 
 // The text, and what is read in order: a manifest that is none, a file that is not there, other test points, a board over 1 m.
