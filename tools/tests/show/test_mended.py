@@ -84,3 +84,25 @@ class Answers(made.Case):
             status, out, _ = self.show("board", program=made.built())
             self.assertEqual(status, 3)
             self.assertIn(words, out.splitlines()[0])
+
+    def test_one_whole_name(self):
+        """Two aliases of one name: pads that stand apart are open, joined ones agree; what is unclear is refused."""
+        aliases = "P  NNAME1  the whole name\nP  NNAME2  the whole name\n"
+        apart, joined = gerber(*flash(10, (0, 0), (5, 0))), gerber(*flash(10, (0, 0), (5, 0)), *draw(11, (0, 0), (5, 0)))
+        points = aliases + netlist(record("NNAME1", "U1.1", 0, 0), record("NNAME2", "U1.2", 5, 0))
+        told = "mended: n.ipc: line 5, `NNAME2`, stands for the same name as NNAME1: written as that"
+        for program in self.over_both():
+            for number, (text, status, line) in enumerate(((apart, 1, "differs, opens 1, shorts 0, missing 0"), (joined, 0, "agrees"))):
+                self.board({"m.json": manifest(), "top.gbr": text, "n.ipc": points}, f"row{number}")
+                done, out, _ = self.show(f"row{number}", program=program)
+                self.assertEqual((done, out.splitlines()[:2]), (status, [f"row{number}: {line}, after 1 mend (audit true)", told]))
+            self.assertIn("the whole name is in 2 parts", self.show("row0", program=program)[1])
+        self.write("row0/n.ipc", points.replace("NNAME2  the", "NNAME1  the other"))
+        self.assertEqual(self.show("row0")[:2], (3, "row0: n.ipc: NNAME1 stands for two names: have each name stand for one net, and each net have one name\n"))
+
+    def test_a_netlist_elsewhere(self):
+        """A netlist that a manifest names by its whole path has no copy under that name."""
+        points = "P  NNAME1  A\nP  NNAME2  A\n" + netlist(record("NNAME1", "U1.1", 0, 0), record("NNAME2", "U1.2", 5, 0))
+        path = self.write("else/n.ipc", points)
+        self.board({"m.json": manifest().replace("n.ipc", path), "top.gbr": gerber(*flash(10, (0, 0), (5, 0)))})
+        self.assertNotEqual(self.show("board")[0], 0)
