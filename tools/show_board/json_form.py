@@ -67,7 +67,7 @@ def absent_ties(shown):
 def like_of(it):
     """The comparison with another board."""
     places = lambda its: [place((x, y), layer) for x, y, layer in its]
-    return {"path": it.path, "status": it.status, "line": it.line, "placed": it.placed, "differences": [
+    return {"path": it.path, "status": it.status, "line": it.line, "placed": it.placed, "not_compared": it.untouched, "differences": [
         {**each._asdict(), "places": places(each.places), "places_there": places(each.places_there)} for each in it.differences]}
 
 

@@ -6,7 +6,7 @@ hints, and what is told is what `check` says of the moved netlist.
 import os
 from typing import NamedTuple
 
-from . import UNDECIDED, BadCopper, Stop, between, bounds, copper, findings, judged, labels, mending, netlist, package, tester
+from . import UNDECIDED, UNJUDGED, BadCopper, Stop, between, bounds, copper, findings, judged, labels, mending, netlist, package, tester
 from .distances import from_line
 from .hints import Trials, best_placement
 from .nearest import gap_of_lines
@@ -33,11 +33,14 @@ class Difference(NamedTuple):
 
 
 class Likeness(NamedTuple):
+    """`untouched` is what of the other board was not compared, or empty."""
+
     path: str
     status: int
     line: str
     placed: str
     differences: list
+    untouched: str
 
 
 class Move:
@@ -170,6 +173,8 @@ def add(program, told, shown, asked, scratch):
         made, text = reference(program, asked.like, asked, scratch, shown.board)
         answer, placed = checked(program, told, text, shown.ties.allowed())
         its = differences(program, shown.board and shown.board.shapes, answer, made.netlist, text)
+        if len(made.netlist.rows) < 2 and not its:
+            raise Stop(UNJUDGED, "it has one pad alone that can be compared")
     except (Stop, BadCopper) as why:
         shown.lacks(f"not compared with {asked.like}: {why}")
         return
@@ -177,5 +182,7 @@ def add(program, told, shown, asked, scratch):
     counts = [counted(sum(it.kind == kind for it in its), word) for kind, word in (("parted", "parted net"), ("joined", "joined net"), ("missing", "missing pad"))]
     doubt = len(its) - sure + (not made.is_whole)
     line = f"joins what {'it' if made.is_whole else 'its lower bound'} joins" if not its else ", ".join(word for word in counts if not word.startswith("0 "))
-    shown.like = Likeness(asked.like, 1 if sure else UNDECIDED if doubt else 0, line, placed, its)
+    untouched = made.netlist.untouched()
+    line += f"; not compared: {untouched}" if untouched else ""
+    shown.like = Likeness(asked.like, 1 if sure else UNDECIDED if doubt else 0, line, placed, its, untouched)
     shown.found(sure, doubt, f"like {asked.like}: {line}")

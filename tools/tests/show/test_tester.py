@@ -1,4 +1,5 @@
 """The netlist for a tester, and a board against another one, over the stand-in and over the built program."""
+import json
 import os
 import re
 import shutil
@@ -231,7 +232,7 @@ class Likenesses(made.Case):
                 self.board(board)
                 told, out, _ = self.show("board", "--like", "other", *words, program=made.built() or made.STAND_IN)
                 self.assertEqual(told, status, out)
-                for line in (f"like other: {lines[0]}\n", *lines[1:]):
+                for line in (f"like other: {lines[0]}; not compared: 1 net without a record, first NET", *lines[1:]):     # that of the arc
                     self.assertIn(line, out)
 
     def test_moved_and_panel(self):
@@ -246,6 +247,34 @@ class Likenesses(made.Case):
                 self.assertIn(words, out)
                 if status:
                     self.assertIn("There top.gbr command 39 is near that place, the one layer (top.gbr) at 1.500, 0.500 mm", out)
+
+    def test_what_is_not_compared(self):
+        """Nets without a pad, areas that no file calls a pad, pads that are drawn: what has no record is told; with a pin it is compared."""
+        square = lambda x: region((x, 0), (x + 1, 0), (x + 1, 1), (x, 1))
+        pads = [*flash(10, (30, 0), (35, 0))]
+        areas = [*square(0), *square(5)]
+        rows = [
+            ([*areas, *draw(11, (0, 0), (5, 0)), *pads], [*areas, *pads], 0, "; not compared: 1 net without a record, first NET0 (top.gbr command 12)"),
+            ([*flash(10, (0, 0)), *square(5), *draw(11, (0, 0), (5, 0)), *pads], [*flash(10, (0, 0)), *square(5), *pads], 0, "; not compared: 1 area that no file calls a pad"),
+            (["%TO.P,U1,1*%", *square(0), "%TO.P,U1,2*%", *square(5), "%TD*%", *draw(11, (0, 0), (5, 0)), *pads], [*areas, *pads], 1, ""),
+            (pads, pads, 0, ""),
+            (["%TO.P,U1,1*%", *draw(10, (30, 0), (30, 1)), "%TD*%", *pads], pads, 0, "; not compared: 1 area that no file calls a pad"),
+        ]
+        for other, board, status, words in rows:
+            files = lambda lines: {"m.json": manifest(), "top.gbr": gerber(*lines), "n.ipc": netlist(record("A", "J.1", 30, 0), record("B", "J.2", 35, 0))}
+            for program in self.over_both():
+                told, out, _ = self.compared(files(board), files(other), program=program)
+                line = "1 parted net" if status else "joins what it joins"
+                self.assertEqual(told, status, out)
+                self.assertIn(f"like other: {line}{words}\n", out)
+                like = json.loads(self.show("board", "--like", "other", "--json", "-", program=program)[1])["boards"][0]["like"]
+                self.assertEqual(like["not_compared"], words[len("; not compared: "):])
+
+    def test_one_pad(self):
+        """A board of one pad says nothing."""
+        other = {**one(*flash(10, (0, 0)))}
+        status, out, _ = self.compared(one(*spread()), {**other, "n.ipc": netlist(record("A", "J.1", 0, 0))})
+        self.assertEqual((status, "not compared with other: " in out), (12, True), out)
 
     def test_what_cannot_be_compared(self):
         incremental = {**one(*spread()), "top.gbr": "%FSLAX46Y46*%\n%MOMM*%\nG91*\nM02*\n"}
