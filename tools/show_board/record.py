@@ -182,6 +182,13 @@ def told_of(value):
     return spoken([str(it) for it in value], FEW) if isinstance(value, list) and value else "none" if value in ([], None) else str(value)
 
 
+def judged_as(told):
+    """What the reports are of."""
+    if told.package.between:
+        return "both bounds"
+    return "the copies that were judged" if told.package.mends or told.package.flattened else "them"
+
+
 def verify(program, told, shown, path):
     """Tells whether a record is of these files."""
     try:
@@ -194,5 +201,6 @@ def verify(program, told, shown, path):
     if other:
         shown.notes.append(f"the record of {record.get('date')} is by another program: now " + ", ".join(f"{key} {value}" for key, value in other.items()))
     shown.notes += [f"unlike the record: {words}" for words in found]
-    sums = f"the record is of these files, and {'its report passes the audit' if packages(told) else 'neither it nor today has a report'}"
+    passes = f"its report passes the audit on {judged_as(told)}"
+    sums = f"the record is of these files, and {passes if packages(told) else 'neither it nor today has a report'}"
     shown.found(len(found), 0, sums if not found else f"unlike the record in {counted(len(found), 'point')}")

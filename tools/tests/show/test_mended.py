@@ -38,6 +38,20 @@ class Answers(made.Case):
             self.assertEqual(told["mends"], [{"file": "p.drl", "line": 3, "kind": "plating", "words": TOLD}])
         self.assertEqual(self.read("board/p.drl"), DRILL)
 
+    def test_page_and_record(self):
+        """The page begins with the words of the terminal, and says that copies were judged; so does the verification of a record."""
+        self.board(BOARD)
+        for program in self.over_both():
+            _, out, _ = self.show("board", "--page", "p.html", "--record", "r.json", program=program)
+            page = self.read("p.html")
+            self.assertIn('<p class="verdict">Agrees, after 1 mend. The copper joins exactly the points that the netlist joins.</p>', page)
+            self.assertIn("The report was audited: it is true of these files, with copies in place of p.drl (mended). ", page)
+            self.assertIn("<td>agrees, after 1 mend (status 0)</td>", page)
+            self.assertIn("the record is of these files, and its report passes the audit on the copies that were judged", self.show("board", "--verify", "r.json", program=program)[1])
+        self.board({**BOARD, "p.drl": DRILL.replace("MixedPlating", "Plated").replace("T2\nX5.0Y0.0\n", "")})
+        self.show("board", "--page", "p.html")
+        self.assertTrue('<p class="verdict">Agrees. The copper joins ' in self.read("p.html") and "it is true of these files. " in self.read("p.html"))
+
     def test_differs(self):
         """A hole of an unplated tool joins nothing, and lines are those of the file as it is."""
         middle = gerber(*flash(10, (0, 0), (10, 0), (5, 0)))

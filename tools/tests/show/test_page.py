@@ -65,7 +65,7 @@ class Files(made.Case):
         self.assertEqual((columns["counts"], columns["radii"][-3:]), ([1] * 6 + [2] + [1] * 2, [100_000, 200_000, 200_000]))
         self.assertEqual(([it["id"] for it in head["findings"]], re.findall(r'<li id="([^"]+)"', text.split("<script")[0])), (IDS, IDS))
         self.assertEqual(head["findings"][1]["sides"], ["GND", "VCC"])
-        self.assertIn("Differs: 1 open, 1 short, 1 point without copper.", text)
+        self.assertIn("Differs, opens 1, shorts 1, missing 1", text)
         self.assertEqual(self.show("board", "--svg", "f.svg", "--at", "open-7")[::2], (2, "boardnet: --at open-7: there is no such finding\n"))
 
     def test_names_of_folders(self):
