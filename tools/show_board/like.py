@@ -31,6 +31,12 @@ class Difference(NamedTuple):
     places: list
     places_there: list
 
+    def name(self):
+        return self.id if self.sure else f"undecided {self.id}"
+
+    def told(self):
+        return self.words + (f" {self.there[0].upper()}{self.there[1:]}." if self.there else "")
+
 
 class Likeness(NamedTuple):
     """`untouched` is what of the other board was not compared, or empty."""
@@ -176,7 +182,7 @@ def add(program, told, shown, asked, scratch):
         if len(made.netlist.rows) < 2 and not its:
             raise Stop(UNJUDGED, "it has one pad alone that can be compared")
     except (Stop, BadCopper) as why:
-        shown.lacks(f"not compared with {asked.like}: {why}")
+        shown.lacks(f"like {asked.like}", f"not compared with {asked.like}: {why}")
         return
     sure = sum(it.sure for it in its)
     counts = [counted(sum(it.kind == kind for it in its), word) for kind, word in (("parted", "parted net"), ("joined", "joined net"), ("missing", "missing pad"))]
@@ -185,4 +191,4 @@ def add(program, told, shown, asked, scratch):
     untouched = made.netlist.untouched()
     line += f"; not compared: {untouched}" if untouched else ""
     shown.like = Likeness(asked.like, 1 if sure else UNDECIDED if doubt else 0, line, placed, its, untouched)
-    shown.found(sure, doubt, f"like {asked.like}: {line}")
+    shown.found(f"like {asked.like}", sure, doubt, f"like {asked.like}: {line}", tuple((it.name(), it.told(), it.places) for it in its))

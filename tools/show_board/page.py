@@ -13,8 +13,8 @@ import zlib
 from array import array
 from operator import sub
 
-from . import record_page
-from .lines import doubt
+from . import beside, record_page
+from .lines import cut, doubt
 from .words import counted, in_html, spoken
 
 HERE = os.path.dirname(os.path.abspath(__file__))
@@ -215,7 +215,7 @@ def source_hash(source):
 
 
 def notes(shown):
-    told = [*shown.notes, *([shown.flood] if shown.flood else []), *(hint.words for hint in shown.hints)]
+    told = [*shown.notes, *([shown.flood] if shown.flood else []), *(hint.words for hint in shown.hints), *cut(list(beside.lines(shown)), False)]
     return "".join(f'<p class="advice">{in_html(words)}</p>\n' for words in told)
 
 

@@ -15,6 +15,7 @@ from .program import TOOLS
 from .words import counted, spoken
 
 FORM = 1
+RECORD = "record"
 TOP = os.path.dirname(TOOLS)
 FEW = 8
 # What is compared beside files and reports, with the words for it.
@@ -195,7 +196,7 @@ def verify(program, told, shown, path):
         record, now = read(path), of(program, told, shown)
         found = list(differences(program, told, record, now))
     except Stop as why:
-        shown.lacks(f"not verified: {why}")
+        shown.lacks(RECORD, f"not verified: {why}")
         return
     other = {key: value for key, value in now["program"].items() if not isinstance(record.get("program"), dict) or record["program"].get(key) != value}
     if other:
@@ -203,4 +204,4 @@ def verify(program, told, shown, path):
     shown.notes += [f"unlike the record: {words}" for words in found]
     passes = f"its report passes the audit on {judged_as(told)}"
     sums = f"the record is of these files, and {passes if packages(told) else 'neither it nor today has a report'}"
-    shown.found(len(found), 0, sums if not found else f"unlike the record in {counted(len(found), 'point')}")
+    shown.found(RECORD, len(found), 0, sums if not found else f"unlike the record in {counted(len(found), 'point')}", tuple(("record", words, ()) for words in found))

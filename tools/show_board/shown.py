@@ -1,5 +1,6 @@
 """One board, from its files to its findings."""
 import os
+from typing import NamedTuple
 
 from . import FAULT, UNDECIDED, UNJUDGED, BadCopper, beside, fault_of, judged, mending, netlist, own_names, package, report, ties, unjudged
 from .board import Board
@@ -27,8 +28,8 @@ class Shown:
         self.wider = []
         # What was asked for beside: the netlist for a tester, the comparison with another board, the record.
         self.tester = self.like = self.record = self.gap_count = None
-        # Status and line of the netlist alone.
-        self.verdict = None
+        # Status and line of the netlist alone, and what became of all that was asked for besides.
+        self.verdict, self.besides = None, []
 
     def counts(self):
         """What the line counts: lines of the report, but for shorts that are declared ties, and apart the ties that no copper makes.
@@ -42,16 +43,33 @@ class Shown:
         sure = [it.sure is not False for it in self.findings if it.kind != "gap"]
         return {"certain": sum(sure) + len(ties.lost(self.ties, self.board.report)), "undecided": len(sure) - sum(sure)}
 
-    def lacks(self, why):
+    def lacks(self, what, why, details=()):
         """Something that was asked for is not known."""
         self.line = f"{self.line}; {why}"
         self.status = self.status or UNJUDGED
+        self.besides.append(Beside(what, UNJUDGED, why, details))
 
-    def found(self, certain, possible, words):
+    def found(self, what, certain, possible, words, details=()):
         """Something that was looked for beside the netlist, and how much of it there is."""
         self.line = f"{self.line}; {words}"
+        status = 1 if certain else UNDECIDED if possible else 0
         if self.status in (0, UNDECIDED):
-            self.status = 1 if certain else UNDECIDED if possible else self.status
+            self.status = status if certain or possible else self.status
+        self.besides.append(Beside(what, status, words, details))
+
+
+class Beside(NamedTuple):
+    """What was asked for beside the netlist: its name in lists of cases, its own status, what became of it, and (name, words, places) of
+    each thing that was found."""
+
+    what: str
+    status: int
+    words: str
+    details: tuple
+
+    def causes(self):
+        """Why its status is not 0, or nothing."""
+        return [*self.details] or [(self.what, self.words, ())] if self.status else []
 
 
 def shapes_of(program, told):

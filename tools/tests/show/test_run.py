@@ -227,6 +227,8 @@ class Answers(made.Case):
         refused = self.board({**GOOD, "top.gbr": "%FSLAX46Y46*%\n"}, "refused")
         self.show(refused, "--junit", "r.xml")
         self.assertIn("NotEnded", minidom.parseString(self.read("r.xml")).getElementsByTagName("error")[0].getAttribute("message"))
+        self.show(refused, "--rdb", "r.lyrdb")
+        self.assertIn("NotEnded", minidom.parseString(self.read("r.lyrdb")).getElementsByTagName("item")[0].toxml())
         # Where there is no such form, the standard error has the words.
         for name in ("--ipc", "--record", "--page", "--svg"):
             status, out, notes = self.show("nowhere", name, "-")

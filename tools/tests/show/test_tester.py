@@ -5,6 +5,7 @@ import re
 import shutil
 import types
 import unittest
+from xml.dom import minidom
 
 import common
 import made
@@ -269,6 +270,27 @@ class Likenesses(made.Case):
                 self.assertIn(f"like other: {line}{words}\n", out)
                 like = json.loads(self.show("board", "--like", "other", "--json", "-", program=program)[1])["boards"][0]["like"]
                 self.assertEqual(like["not_compared"], words[len("; not compared: "):])
+
+    def test_every_form(self):
+        """Each cause of a status that is not 0 is in every form: the comparison, what is unlike a record, what is not known."""
+        self.board(one(*spread(0, 0, (0, 1))))
+        self.board(one(*spread(0, 0, (0, 1), (2, 5))), "other")
+        self.assertEqual(self.show("other", "--record", "r.json")[0], 0)
+        forms = ("--json", "f.json", "--junit", "f.xml", "--rdb", "f.lyrdb", "--page", "f.html")
+        rows = [(("--like", "other"), 1, "failure", "parted-0", "NET1: U1 pin 5 (the one layer, 9.000, 4.000 mm) is not joined to U1 pin 2"),
+                (("--verify", "r.json"), 1, "failure", "record", "top.gbr is another file"), (("--verify", "none.json"), 12, "error", "record", "not verified: none.json"),
+                (("--like", "nowhere"), 12, "error", "like nowhere", "not compared with nowhere: ")]
+        for words, status, word, name, told in rows:
+            self.assertEqual(self.show("board", *words, *forms)[0], status)
+            (found,) = minidom.parse(self.path("f.xml")).getElementsByTagName(word)
+            self.assertEqual((found.getAttribute("message"), told in found.firstChild.data), (name, True), found.toxml())
+            self.assertEqual(minidom.parse(self.path("f.xml")).getElementsByTagName("testsuite")[0].getAttribute(f"{word}s"), "1")
+            items = [it for it in minidom.parse(self.path("f.lyrdb")).getElementsByTagName("item")]
+            self.assertTrue(items and told in items[0].toxml(), items)
+            self.assertIn(told, self.read("f.json"))
+            self.assertIn(told.replace('"', "&quot;"), self.read("f.html"))
+        self.assertEqual(self.show("board", "--like", "board", *forms)[0], 0)
+        self.assertEqual([len(minidom.parse(self.path(name)).getElementsByTagName(tag)) for name, tag in (("f.xml", "failure"), ("f.xml", "error"), ("f.lyrdb", "item"))], [0] * 3)
 
     def test_one_pad(self):
         """A board of one pad says nothing."""

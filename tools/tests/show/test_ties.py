@@ -100,6 +100,7 @@ class Ties(made.Case):
             found = [(it["id"], it["kind"], it["names"], it["points"]) for it in board["findings"]]
             self.assertEqual((found, board["findings"][0]["words"] in board["notes"]), ([("tie-0", "tie", words[1].split("="), [])], True))
             self.assertIn("is open", self.show("board", "-q", "--tie", "GND=AGND", *words)[1])
+            self.assertIn("is open", minidom.parse(self.path("b.lyrdb")).getElementsByTagName("item")[0].toxml())
 
     def test_no_tie(self):
         for words, text, what in ((["--tie", "GND"], None, "--tie: `GND`"), (["--tie", "GND=GND"], None, "--tie: "), (["--tie", "N/C=GND"], None, "--tie: "),
