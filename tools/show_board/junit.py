@@ -3,7 +3,7 @@ from typing import NamedTuple
 
 from .lines import doubt
 from .ties import lost
-from .words import escaped, for_xml
+from .words import escaped, for_xml, printable
 
 
 def quoted(text):
@@ -23,14 +23,14 @@ class Case(NamedTuple):
         head = f"  <testcase classname={quoted(title)} name={quoted(self.name)}"
         if not self.causes:
             return head + "/>"
-        told = escaped("\n".join(f"{name}: {words}" for name, words in self.causes))
+        told = "\n".join(escaped(printable(f"{name}: {words}")) for name, words in self.causes)
         message = quoted(", ".join(dict.fromkeys(name for name, _ in self.causes)))
         return f"{head}><{self.word} message={message}>{told}</{self.word}></testcase>"
 
 
 def whole(shown, status, line):
     """The one case of a board whose names are not told one by one: it passes, fails or is an error as the board's status says."""
-    return Case("check", [(line.split("\n")[0], line)] if status else [], "failure" if status == 1 else "error")
+    return Case("check", [(line, line)] if status else [], "failure" if status == 1 else "error")
 
 
 def of_names(shown):

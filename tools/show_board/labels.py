@@ -14,7 +14,7 @@ from .own_names import MADE
 from .side import words_of
 from .tree import Tree
 from .units import CODES
-from .words import at_most, counted, spoken
+from .words import at_most, counted, printable, spoken
 
 # Mode, X and Y of an operation, and its code.
 OPERATION = re.compile(r"(G0?[123])?(X[+-]?\d+)?(Y[+-]?\d+)?(?:I[+-]?\d+)?(?:J[+-]?\d+)?(?:D0?([123]))?")
@@ -60,7 +60,7 @@ def field(text):
         told = text.encode("latin-1").decode("utf-8")
     except UnicodeDecodeError:
         told = text
-    return "".join(c if c.isprintable() else f"\\u{ord(c):04x}" for c in told)
+    return printable(told)
 
 
 class Names:

@@ -15,7 +15,7 @@ from operator import sub
 
 from . import beside, record_page
 from .lines import cut, doubt
-from .words import counted, in_html, spoken
+from .words import counted, in_html, printable, spoken
 
 HERE = os.path.dirname(os.path.abspath(__file__))
 TITLES = {"open": "Opens", "short": "Shorts", "missing": "Points without copper", "gap": "Gaps"}
@@ -139,6 +139,13 @@ def wider_data(shown):
     return [[layer, [v for spot in corners for v in place(spot)]] for layer, corners in shown.wider]
 
 
+def in_page(value):
+    """The same data with texts as they are told."""
+    if isinstance(value, dict):
+        return {key: in_page(it) for key, it in value.items()}
+    return printable(value) if isinstance(value, str) else [in_page(it) for it in value] if isinstance(value, (list, tuple)) else value
+
+
 def block(board, findings, wider=()):
     """The data, packed."""
     manifest, (column, sides) = board.manifest, sides_of(findings, board.report.pieces)
@@ -148,11 +155,11 @@ def block(board, findings, wider=()):
     columns.add_steps("recordLines", (record.line for record in board.records))
     columns.add_steps("recordComponents", which_component)
     columns.add_steps("recordPins", which_pin)
-    head = json.dumps({
+    head = json.dumps(in_page({
         "files": manifest.files, "copper": manifest.layers, "netlist": manifest.netlist, "flattened": sorted(board.package.flattened),
         "layers": [manifest.layer_word(k + 1) for k in range(manifest.layers)], "names": board.report.names, "netCount": board.report.nets,
         "wider": list(wider), "components": components, "pins": pins, "findings": [finding_data(finding, sides) for finding in findings], "columns": columns.heads,
-    }, separators=(",", ":")).encode()
+    }), separators=(",", ":")).encode()
     raw = len(head).to_bytes(4, "little") + head + b"".join(columns.parts)
     return base64.b64encode(zlib.compress(raw, 9)).decode()
 

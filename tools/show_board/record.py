@@ -193,7 +193,7 @@ def judged_as(told):
 def verify(program, told, shown, path):
     """Tells whether a record is of these files."""
     try:
-        record, now = read(path), of(program, told, shown)
+        record, now = read(path), json.loads(text(of(program, told, shown)))
         found = list(differences(program, told, record, now))
     except Stop as why:
         shown.lacks(RECORD, f"not verified: {why}")
