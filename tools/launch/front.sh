@@ -199,9 +199,16 @@ is_tool() { case ${1-} in manifest | show) [ -f "$home/$1" ] ;; *) return 1 ;; e
 # Whether a tool runs the program.
 needs_program() { [ "$1" = show ] && [ -z "${BOARDNET-}" ]; }
 
+# Ends where Python, with which a command starts, is not there, too old, or does not start: its own end would look like a judgement.
+need_python() {
+  command -v python3 >/dev/null 2>&1 || { say "\`boardnet $1\` wants Python 3.8 or later, and there is no python3 on the PATH"; exit 127; }
+  python3 -S -c 'import sys; sys.exit(sys.version_info < (3, 8))' </dev/null >/dev/null 2>&1 ||
+    { say "\`boardnet $1\` wants Python 3.8 or later, and the python3 on the PATH is older or does not start"; exit 127; }
+}
+
 # Runs a tool with Python, which alone wants it; nothing but its own library, so that it starts sooner.
 tool() {
-  command -v python3 >/dev/null 2>&1 || { say "\`boardnet $1\` wants Python 3.8 or later, and there is no python3 on the PATH"; exit 127; }
+  need_python "$1"
   tool=$home/$1
   shift
   exec python3 -S "$tool" "$@"

@@ -3,7 +3,7 @@ import os
 import subprocess
 import sys
 
-from . import Stop, netlist
+from . import FAULT, Stop, netlist
 from .words import printable
 
 BUILDER = os.path.join(os.path.dirname(os.path.dirname(os.path.abspath(__file__))), "launch", "build.py")
@@ -41,4 +41,5 @@ def build(package, words):
         running.wait()
         raise
     if status:
-        raise Stop(status, "the program is not built")
+        # Signals as a shell says them; what else it ends with by a fault of its own is no status of a board.
+        raise Stop(128 - status if status < 0 else status if status >= FAULT else FAULT, "the program is not built")
