@@ -168,6 +168,7 @@ run() {
     check | x2 | between | trial) if can_pass_on; then pass_on "$@"; else "$program" "$@" || status=$?; pointless=unknown; fi ;;
     *) "$program" "$@" || status=$? ;;
   esac
+  case $1,$status in x2,[01]) tell_several_names "$2" ;; esac
   [ "$status" = 0 ] || return 0
   [ "$1" != audit ] || look_at "$3"
   case $pointless in
@@ -175,6 +176,17 @@ run() {
     unknown) say "look at the line \`points\` of the text: where it is \`points 0\` or \`points 1\`, nothing was judged" ;;
     *) warn_of_nothing "$1" "$2" ;;
   esac
+}
+
+# Says so where a copper file that a manifest names has an object of several nets: `x2` takes the first name alone.
+tell_several_names() {
+  [ -f "$1" ] && command -v grep >/dev/null 2>&1 || return 0
+  grep -o '"[^"]*"' -- "$1" 2>/dev/null | while IFS= read -r name; do
+    name=${name#?} name=${name%?}
+    if [ -f "$name" ] && LC_ALL=C grep -q '%TO\.N,[^,*%]\{1,\},[^*%]*[^,*%]' -- "$name" 2>/dev/null; then
+      say "$name has objects of several nets (TO.N,GND,AGND), of which x2 takes the first name alone; \`boardnet show\` has a point of each"
+    fi
+  done
 }
 
 # Goes to the folder of the files, sees to it that the program is there, and runs it.

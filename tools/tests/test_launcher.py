@@ -137,6 +137,17 @@ class Launcher(common.Case):
                 self.assertEqual((lines[0], len(lines)), ("boardnet: agrees", 2 if said else 1))
                 self.assertIn(said, notes)
 
+    def test_several_names(self):
+        """x2 takes the first name of an object alone, which is said of each copper file that has more."""
+        told = "t.gbr has objects of several nets (TO.N,GND,AGND), of which x2 takes the first name alone"
+        for text, is_told in (("%TO.N,GND,AGND*%", True), ("%TO.N,GND*%\n%TO.P,U1,1*%", False), ("%TO.N,GND,*%", False), ("%TO.N,*%", False), ("", False)):
+            self.write("here/there/t.gbr", text)
+            for status in ("0", "1", "3"):
+                done, _, notes = self.launch("x2", "there", STAND_IN_POINTS="2", STAND_IN_ENDS=status)
+                self.assertEqual((done, told in notes, len(notes.splitlines())), (int(status), is_told and status != "3", 1 + (is_told and status != "3")), notes)
+        self.write("here/there/t.gbr", "%TO.N,GND,AGND*%")
+        self.assertNotIn("several nets", self.launch("check", "there", STAND_IN_POINTS="2")[2])
+
     def test_what_passes_by_is_not_changed(self):
         """Every byte, also behind the last line feed, and of a text of megabytes."""
         for text in ("", "points 01", "a\n\n\x01\x80b", "points 0\r\nx", "line of a report\n" * 200_000):
