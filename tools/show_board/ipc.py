@@ -13,7 +13,7 @@ from .board import NO_NET
 from .exact import ceil_root
 from .padlist import VIA, front
 from .units import CODES, UNIT_WORDS
-from .words import at_most, counted, millimetres, spoken
+from .words import at_most, counted, millimetres, spoken, with_ends
 
 NAME = re.compile(r"(?!NNAME)[!-~]{1,14}")
 FEW = 6             # nets and pads that are named in a line
@@ -182,7 +182,7 @@ class Netlist:
                 lines.append(f"C the next record is {at_most(row.away(self.unit))} mm from the middle of its pad")
             lines.append(row.line(self.unit, self.names.field(it.net), self.drill(it)))
         head = [f"C boardnet show: the nets of the copper of {plain(self.title.replace(' ', '_'), 40)}", "P  VER IPC-D-356A", f"P  UNITS CUST {CODES[self.unit]}"]
-        aliases = [f"P  {alias}  {in_ascii(name)}" for name, alias in self.names.alias.items()]
+        aliases = [f"P  {alias}  {with_ends(in_ascii(name))}" for name, alias in self.names.alias.items()]
         none = [f"C net without a record: {self.net_word(net)}" for net in self.without()]
         return "\n".join([*head, *aliases, *lines, *none, "999", ""])
 

@@ -14,7 +14,7 @@ from .own_names import MADE
 from .side import words_of
 from .tree import Tree
 from .units import CODES
-from .words import at_most, counted, printable, spoken
+from .words import at_most, counted, printable, spoken, with_ends
 
 # Mode, X and Y of an operation, and its code.
 OPERATION = re.compile(r"(G0?[123])?(X[+-]?\d+)?(Y[+-]?\d+)?(?:I[+-]?\d+)?(?:J[+-]?\d+)?(?:D0?([123]))?")
@@ -275,7 +275,7 @@ def text_of(found, unit, places):
     """The netlist as a text."""
     names = named(list(dict.fromkeys(name for it in found for name in it.label.names)))
     lines = [MADE, f"P  UNITS CUST {CODES[unit]}"]
-    lines += [f"P  {alias}  {name}" for name, alias in names.items() if alias != name]
+    lines += [f"P  {alias}  {with_ends(name)}" for name, alias in names.items() if alias != name]
     for point, place in zip(found, places):
         for name in point.label.names or (netlist.NO_NET,) if place else ():
             lines += lines_of(point, place, names.get(name, netlist.NO_NET))

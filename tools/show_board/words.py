@@ -20,6 +20,13 @@ def numbered(code):
     return f"\\x{code - 0xdc00:02x}" if 0xdc80 <= code <= 0xdcff else f"\\u{code:04x}" if code <= 0xffff else f"\\U{code:08x}"
 
 
+def with_ends(text):
+    """A text whose blanks at its ends count, in a line where they would say nothing."""
+    inner = text.strip(" ")
+    before = len(text) - len(text.lstrip(" ")) if inner else len(text)
+    return numbered(32) * before + inner + numbered(32) * (len(text) - before - len(inner))
+
+
 def in_lines(text):
     """The same of a text of several lines."""
     return text if text.isprintable() else "\n".join(map(printable, text.split("\n")))

@@ -36,6 +36,10 @@ class Light(common.Case):
                              (told, words.printable(text.replace("\n", "")), {indented.whole(text): [indented.whole(text)]}))
             indented.whole(text).encode()
 
+    def test_ends(self):
+        for text, told in (("a b", "a b"), (" a", r"\u0020a"), ("a  ", r"a\u0020\u0020"), ("  ", r"\u0020\u0020"), ("", "")):
+            self.assertEqual(words.with_ends(text), told)
+
     def test_lengths(self):
         for text in ("0", "1", "-1", "+1.5", ".5", "-.25", "007.500", "0.0000001", "0.00000005", "-0.00000015", "0.00000025", "1.", "123456789.123456789"):
             exact = Fraction(Decimal(text)) * 10 ** 7
