@@ -18,12 +18,16 @@ import time
 
 sys.dont_write_bytecode = True
 sys.path.insert(0, os.path.dirname(os.path.abspath(__file__)))
-import children  # noqa: E402
-import kept  # noqa: E402
-import order  # noqa: E402
-from progress import Progress  # noqa: E402
-from proof import Failed, Proof  # noqa: E402
-from trial import Trial  # noqa: E402
+try:
+    import children  # noqa: E402
+    import kept  # noqa: E402
+    import order  # noqa: E402
+    from progress import Progress  # noqa: E402
+    from proof import Failed, Proof  # noqa: E402
+    from trial import Trial  # noqa: E402
+except Exception as fault:
+    print(f"boardnet: the program cannot be built: Python 3.8 or later with its whole library is wanted ({type(fault).__name__} {fault})", file=sys.stderr)
+    sys.exit(127)
 
 INTERRUPTED, FAILED = 130, 70
 # A check takes one to four gigabytes, as does a trial.
@@ -201,6 +205,9 @@ def main(words):
         return stop.status
     except OSError as error:
         say(f"{error.filename or top}: {error.strerror}")
+        return FAILED
+    except Exception as fault:
+        say(f"a fault of the launcher, which is no answer on the board ({type(fault).__name__} {fault})")
         return FAILED
 
 

@@ -96,8 +96,20 @@ find_report() {
     say "$report is no name of at most 200 printable ASCII characters: copy the report beside the manifest, or go to its folder"
 }
 
-# Runs the program and passes its output on as it comes; sets status, and pointless where the output is a report without a test
-# point. The program's line waits until all is passed on: where that cannot be written, the line is what the program would say.
+# Of a text the lines that tell of test points which cannot contradict one another: none, one alone, or all without net.
+few_points() { LC_ALL=C grep -x -e 'points [01]' -e 'names 1' -e 'name 0 N/C'; }
+
+# Sets pointless to what these lines say together.
+judge_points() {
+  case $1 in
+    *'points 0'*) pointless=none ;;
+    *'points 1'*) pointless=one ;;
+    *'names 1'*'name 0 N/C'*) pointless=unnamed ;;
+  esac
+}
+
+# Runs the program and passes its output on as it comes; sets status, and pointless where the output tells of such points.
+# The program's line waits until all is passed on: where that cannot be written, the line is what the program would say.
 pass_on() {
   exec 3>&1
   told=$(
@@ -105,22 +117,23 @@ pass_on() {
       {
         { "$program" "$@" 2>&4 3>&- 4>&- 5>&- 7>&-; printf '= ended %s\n' $? >&4; } |
           { tee /dev/fd/5 2>/dev/null >&7 7>&-; printf '= passed %s\n' $? >&4; }
-      } 4>&6 5>&1 6>&- | LC_ALL=C grep -cx 'points 0' | { read -r count; printf '= points %s\n' "$count"; } >&6
+      } 4>&6 5>&1 6>&- | few_points | while IFS= read -r line; do printf '= few %s\n' "$line"; done >&6
     } 6>&1 7>&3
   )
-  notes='' is_cut=''
+  notes='' is_cut='' few=''
   while IFS= read -r line; do
     case $line in
       '= ended '*) status=${line#= ended } ;;
-      '= passed 0' | '= points 0' | '') ;;
+      '= passed 0' | '') ;;
       '= passed '*) is_cut=1 ;;
-      '= points '*) pointless=1 ;;
+      '= few '*) few="$few${line#= few }, " ;;
       *) notes="${notes:+$notes
 }$line" ;;
     esac
   done <<END
 $told
 END
+  judge_points "$few"
   [ -z "$is_cut" ] || status=5 notes='boardnet: output cannot be written'
   [ -z "$notes" ] || printf '%s\n' "$notes" >&2
 }
@@ -130,33 +143,50 @@ can_pass_on() {
   { : >&1; } 2>/dev/null && [ -e /dev/fd/1 ] && command -v tee >/dev/null 2>&1 && command -v grep >/dev/null 2>&1
 }
 
-# Says so where a yes is about no test point at all.
+# Says so where a yes is about no two test points that could contradict one another.
 warn_of_nothing() {
-  case $1 in
-    x2) say "NOTHING WAS JUDGED: no copper file of $2 has a net label (TO.N), so this yes says nothing about the board" ;;
-    *) say "NOTHING WAS JUDGED: $2 names a netlist without test points (no 317 and no 327 record), so this yes says nothing about the board" ;;
+  case $pointless,$1 in
+    one,*) why="there is one test point alone" ;;
+    unnamed,*) why="all test points are without net (N/C)" ;;
+    *,x2) why="no copper file of $2 has a net label (TO.N)" ;;
+    *,trial) why="the made board has no test point" ;;
+    *) why="$2 names a netlist without test points (no 317 and no 327 record)" ;;
   esac
+  say "NOTHING WAS JUDGED: $why, so this yes says nothing about the board"
 }
 
 # Sets pointless by a report that was audited; a pipe is not given twice.
 look_at() {
-  if [ ! -f "$1" ]; then pointless=unknown; elif LC_ALL=C grep -qx 'points 0' -- "$1" 2>/dev/null; then pointless=1; fi
+  if [ ! -f "$1" ]; then pointless=unknown; else judge_points "$(few_points <"$1" 2>/dev/null)"; fi
 }
 
-# Runs the program with these words, once, and sets its status. A yes about no test point is known by the report that passes by,
-# or that was audited.
+# Runs the program with these words, once, and sets its status. A yes about no test point is known by the text that passes by,
+# or the report that was audited.
 run() {
   status=0 pointless=''
   case $1 in
-    check | x2) if can_pass_on; then pass_on "$@"; else "$program" "$@" || status=$?; pointless=unknown; fi ;;
+    check | x2 | between | trial) if can_pass_on; then pass_on "$@"; else "$program" "$@" || status=$?; pointless=unknown; fi ;;
     *) "$program" "$@" || status=$? ;;
   esac
+  case $1,$status in x2,[01]) tell_several_names "$2" ;; esac
   [ "$status" = 0 ] || return 0
   [ "$1" != audit ] || look_at "$3"
   case $pointless in
-    1) warn_of_nothing "$1" "$2" ;;
-    unknown) say "look at the line \`points\` of the report: where it is \`points 0\`, nothing was judged" ;;
+    '') ;;
+    unknown) say "look at the line \`points\` of the text: where it is \`points 0\` or \`points 1\`, nothing was judged" ;;
+    *) warn_of_nothing "$1" "$2" ;;
   esac
+}
+
+# Says so where a copper file that a manifest names has an object of several nets: `x2` takes the first name alone.
+tell_several_names() {
+  [ -f "$1" ] && command -v grep >/dev/null 2>&1 || return 0
+  grep -o '"[^"]*"' -- "$1" 2>/dev/null | while IFS= read -r name; do
+    name=${name#?} name=${name%?}
+    if [ -f "$name" ] && LC_ALL=C grep -q '%TO\.N,[^,*%]\{1,\},[^*%]*[^,*%]' -- "$name" 2>/dev/null; then
+      say "$name has objects of several nets (TO.N,GND,AGND), of which x2 takes the first name alone; \`boardnet show\` has a point of each"
+    fi
+  done
 }
 
 # Goes to the folder of the files, sees to it that the program is there, and runs it.
@@ -181,9 +211,16 @@ is_tool() { case ${1-} in manifest | show) [ -f "$home/$1" ] ;; *) return 1 ;; e
 # Whether a tool runs the program.
 needs_program() { [ "$1" = show ] && [ -z "${BOARDNET-}" ]; }
 
+# Ends where Python, with which a command starts, is not there, too old, or does not start: its own end would look like a judgement.
+need_python() {
+  command -v python3 >/dev/null 2>&1 || { say "\`boardnet $1\` wants Python 3.8 or later, and there is no python3 on the PATH"; exit 127; }
+  python3 -S -c 'import sys; sys.exit(sys.version_info < (3, 8))' </dev/null >/dev/null 2>&1 ||
+    { say "\`boardnet $1\` wants Python 3.8 or later, and the python3 on the PATH is older or does not start"; exit 127; }
+}
+
 # Runs a tool with Python, which alone wants it; nothing but its own library, so that it starts sooner.
 tool() {
-  command -v python3 >/dev/null 2>&1 || { say "\`boardnet $1\` wants Python 3.8 or later, and there is no python3 on the PATH"; exit 127; }
+  need_python "$1"
   tool=$home/$1
   shift
   exec python3 -S "$tool" "$@"

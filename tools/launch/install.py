@@ -28,7 +28,7 @@ front "$@"
 """
 
 # What is copied from tools/: the front, the words, and the tools with their modules.
-FILES = ("launch/front.sh", "manifest", "show")
+FILES = ("launch/front.sh", "manifest", "show", "start.py")
 FOLDERS = ("manifest_files", "mends", "show_board")
 # What a reader has of the checkout, and the boards of `selftest`.
 DOCUMENTS = ("README.md", "CHANGELOG.md", "docs", "examples")

@@ -18,6 +18,8 @@ NOT_TRIED = ("install",)
 # Names that the toolchain keeps for itself in the folder of a trial.
 TAKEN = ("program", "stdin", "stdout", "stderr")
 ENDED = re.compile(rb"^run=ended status=(\d+) .*proved=no\n\Z", re.M)
+# Lines of a text whose test points cannot contradict one another: none, one alone, or all without net.
+FEW_POINTS = re.compile(rb"^(?:points [01]|names 1\nname 0 N/C)$", re.M)
 NICE = "5"
 
 
@@ -72,7 +74,7 @@ class Trial:
     """A trial of the words in a folder; `told` gives its line once."""
 
     def __init__(self):
-        self.scratch = self.child = None
+        self.scratch = self.child = self.report = None
 
     def begin(self, sources, folder, words):
         """Begins it, where the toolchain can try such words and there is room for a copy of the sources."""
@@ -80,6 +82,7 @@ class Trial:
             return
         try:
             words, data = asked_of(words, folder)
+            self.report = data.get(words[2]) if words[0] == "audit" and len(words) > 2 else None
             self.scratch = tempfile.mkdtemp(prefix="boardnet-trial-")
             kept.copy_sources(sources, self.scratch)
             given = [word for name, path in data.items() for word in ("--data", f"{name}={path}")]
@@ -102,8 +105,8 @@ class Trial:
         if self.child is None or self.child.status() is None:
             return None
         try:
-            with open(self.path("err"), "rb") as notes, open(self.path("out"), "rb") as out:
-                return line_of(notes.read(), out.read())
+            with open(self.path("err"), "rb") as notes, open(self.report or self.path("out"), "rb") as text:
+                return line_of(notes.read(), text.read())
         except OSError:
             return None
         finally:
@@ -119,12 +122,14 @@ class Trial:
         self.scratch = self.child = None
 
 
-def line_of(notes, out):
-    """What is told of a trial that ended, or None where it gave no answer of the program."""
+def line_of(notes, text):
+    """What is told of a trial that ended, by its notes and its text or the report that it audited, or None where it gave no answer of the
+    program."""
     said = re.search(rb"^boardnet: (.*)$", notes, re.M)
-    if not said or not ENDED.search(notes):
+    ended = ENDED.search(notes)
+    if not said or not ended:
         return None
     answer = said.group(1).decode("utf-8", "replace")
-    if out.startswith(b"boardnet ") and re.search(rb"^points 0$", out, re.M):
-        answer += ", BUT NOTHING WAS JUDGED, since there is no test point"
+    if ended[1] == b"0" and FEW_POINTS.search(text):
+        answer += ", BUT NOTHING WAS JUDGED, since no two test points could contradict one another"
     return f"NOT PROVED YET: a trial build of these sources, with run-time checks and no proof, says: {answer}. The proved answer follows"

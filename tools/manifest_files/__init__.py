@@ -1,4 +1,5 @@
 """What tools/manifest knows of files: their kinds, copper layers, drill files, netlists, archives, and the package of all."""
+from show_board.words import printable
 
 
 class Refused(Exception):
@@ -16,4 +17,4 @@ def is_name(name):
 
 def shown(name):
     """A name as it can be printed wherever."""
-    return name.encode("ascii", "backslashreplace").decode("ascii")
+    return printable(name).encode("ascii", "backslashreplace").decode("ascii")

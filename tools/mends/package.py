@@ -1,15 +1,15 @@
 """The mends of a package's files, and of a folder's."""
 import os
 
-from . import copper_file, drill_file
+from . import copper_file, drill_file, netlist_file
 from .table import told
 
 MENDED = ".mended"
 
 
-def of_files(read, copper, drills):
+def of_files(read, copper, drills, netlist):
     """(name, data, mends) of each file that is mended, in order; `read` gives a file's bytes, or nothing where there are none."""
-    rows = [(name, copper_file.mended) for name in copper] + [(name, drill_file.mended) for name in drills]
+    rows = [(name, copper_file.mended) for name in copper] + [(name, drill_file.mended) for name in drills] + [(netlist, netlist_file.mended)]
     for name, mended in dict(rows).items():
         data = read(name)
         text, mends = mended(data) if data else (data, [])
@@ -33,4 +33,4 @@ def renamed(manifest, copies):
     """A manifest that names copies in place of files."""
     of = lambda name: copies.get(name, name)
     return {"copper": [of(name) for name in manifest["copper"]], "drills": [{**it, "file": of(it["file"])} for it in manifest["drills"]],
-            "netlist": manifest["netlist"]}
+            "netlist": of(manifest["netlist"])}

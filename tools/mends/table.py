@@ -12,6 +12,8 @@ class Row(namedtuple("Row", "kind sees writes why told")):
 
 # Drill files.
 PLATING, UNIT, FORM, ENDS, MACHINE, LIFT, FORCE = "plating", "unit", "unit form", "header's end", "machine", "lift", "in force"
+# Netlists.
+ALIAS = "alias"
 # Copper files.
 IDENTITY, STRAIGHT, STATE, FORMAT, END, UNUSED, LINES, TURN, CONTOUR = \
     "identity", "straight", "state", "format", "end", "unused", "macro lines", "macro turn", "contour"
@@ -46,6 +48,7 @@ ROWS = (
         "the value is what the parameter stands for", "has a rotation by its apertures' parameters: written by their values"),
     Row(CONTOUR, "a contour of more than 100,000 edges, in a file without clear polarity and steps", "several contours, parted by chords between two corners; the first in its place, "
         "the others at the file's end, with the net name of the contour", "a chord lies in the copper and meets no edge, and of two parts none enters the other", ""),
+    Row(ALIAS, "a netlist's names that stand for one whole name (`P  NNAME1 A`, `P  NNAME2 A`)", "one of them in all records", "equal whole names are one net", ""),
 )
 TOLD = {row.kind: row.told for row in ROWS}
 

@@ -9,7 +9,7 @@ import errno
 # Statuses of the program, and those beside: no package can be made of the files; the answer lies between two bounds; nothing was
 # judged; a fault of `show` itself.
 NOT_UNDERSTOOD, REFUSED, UNREADABLE, UNWRITABLE, NO_MEMORY = 2, 3, 4, 5, 6
-UNCLEAR, UNDECIDED, UNJUDGED, FAULT = 10, 11, 12, 70
+UNCLEAR, UNDECIDED, UNJUDGED, FAULT, NO_PYTHON = 10, 11, 12, 70, 127
 # What the system says where a file has no room.
 FULL = (errno.ENOSPC, errno.EDQUOT)
 
@@ -32,6 +32,8 @@ def fault_of(path, fault):
         return fault
     if isinstance(fault, MemoryError):
         return Stop(NO_MEMORY, f"{path}: out of memory")
+    if isinstance(fault, ImportError):
+        return Stop(NO_PYTHON, f"{path}: `show` wants Python's whole library ({fault})")
     if isinstance(fault, OSError) and fault.errno in FULL:
         return Stop(UNWRITABLE, f"{path}: {fault.strerror}")
     step = fault.__traceback__

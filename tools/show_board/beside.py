@@ -2,7 +2,7 @@
 
 Modules are loaded where they are wanted: most boards want none of them, and loading takes longer than a small board.
 """
-from . import UNJUDGED
+GAPS = "gaps between nets"
 
 
 def wants_copper(asked):
@@ -22,7 +22,7 @@ def add(program, told, shown, asked, scratch):
         from . import tester
         shown.tester = tester.made(program, told, shown.title, shown.board)
         if shown.tester.text is None:
-            shown.status = shown.status or UNJUDGED
+            shown.lacks("netlist for a tester", "no netlist for a tester", tuple(("netlist", words, ()) for words in shown.tester.lines))
     if asked.record or asked.verify:
         from . import record
     if asked.record:
@@ -36,7 +36,7 @@ def lines(shown):
     if shown.like:
         yield f"like {shown.like.path}: {shown.like.line}" + (f" ({shown.like.placed})" if shown.like.placed else "")
         for it in shown.like.differences:
-            yield f"  {it.id if it.sure else f'undecided {it.id}'}: {it.words}" + (f" {it.there[0].upper()}{it.there[1:]}." if it.there else "")
+            yield f"  {it.name()}: {it.told()}"
     if shown.tester:
         first, *rest = shown.tester.lines
         yield f"netlist for a tester: {first}"

@@ -3,8 +3,10 @@ from bisect import bisect_left
 from collections import defaultdict
 
 from . import BadCopper, Stop, gaps_between
+from .beside import GAPS
 from .board import NO_NET
 from .findings import Finding
+from .lines import doubt
 from .nearest import Gap
 from .spacing import STEP, spacings
 from .tester import copper_of, with_copper
@@ -95,7 +97,7 @@ def add(program, told, shown, u):
         board = copper_of(program, told, shown.board)
         found, words = of_bounds(program, told, board, u) if told.package.between else of_board(program, board, u)
     except (Stop, BadCopper) as why:
-        shown.lacks(f"gaps are not known: {why}")
+        shown.lacks(GAPS, f"gaps are not known: {why}")
         return
     shown.findings += found
     shown.notes.append(words)
@@ -103,5 +105,5 @@ def add(program, told, shown, u):
         shown.bounds.findings.extend((it.kind, it.sure, it.words[:-1], [(*it.gap.place, it.gap.layer)]) for it in found)
     possible = sum(it.sure is False for it in found)
     shown.gap_count = len(found) - possible
-    shown.found(shown.gap_count, possible, f"{counted(shown.gap_count, 'gap') if shown.gap_count else 'no gap'} under {millimetres(u)} mm"
-                + (f" and {counted(possible, 'possible one')}" if possible else ""))
+    words = f"{counted(shown.gap_count, 'gap') if shown.gap_count else 'no gap'} under {millimetres(u)} mm" + (f" and {counted(possible, 'possible one')}" if possible else "")
+    shown.found(GAPS, shown.gap_count, possible, words, tuple((doubt(it) + it.id, it.text(), ()) for it in found))

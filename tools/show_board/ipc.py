@@ -13,7 +13,7 @@ from .board import NO_NET
 from .exact import ceil_root
 from .padlist import VIA, front
 from .units import CODES, UNIT_WORDS
-from .words import at_most, counted, millimetres, spoken
+from .words import at_most, counted, millimetres, spoken, with_ends
 
 NAME = re.compile(r"(?!NNAME)[!-~]{1,14}")
 FEW = 6             # nets and pads that are named in a line
@@ -158,7 +158,7 @@ class Netlist:
     """The netlist of a board's pads and holes, and what is to be told of it."""
 
     def __init__(self, padlist, title):
-        self.board, self.title = padlist.board, title
+        self.board, self.title, self.objects = padlist.board, title, padlist.objects
         shapes, layers = self.board.shapes, self.board.manifest.layers
         self.names = Names(self.board, padlist.objects)
         self.unit, found = on_grid(padlist.places, shapes) or points.settled([pad_of(it, shapes) for it in padlist.places])
@@ -182,7 +182,7 @@ class Netlist:
                 lines.append(f"C the next record is {at_most(row.away(self.unit))} mm from the middle of its pad")
             lines.append(row.line(self.unit, self.names.field(it.net), self.drill(it)))
         head = [f"C boardnet show: the nets of the copper of {plain(self.title.replace(' ', '_'), 40)}", "P  VER IPC-D-356A", f"P  UNITS CUST {CODES[self.unit]}"]
-        aliases = [f"P  {alias}  {in_ascii(name)}" for name, alias in self.names.alias.items()]
+        aliases = [f"P  {alias}  {with_ends(in_ascii(name))}" for name, alias in self.names.alias.items()]
         none = [f"C net without a record: {self.net_word(net)}" for net in self.without()]
         return "\n".join([*head, *aliases, *lines, *none, "999", ""])
 
@@ -194,6 +194,20 @@ class Netlist:
     def without(self):
         """The nets that no record is of."""
         return sorted(set(range(self.board.report.nets)) - self.nets())
+
+    def areas(self):
+        """How many pieces of outer layers that may be pads, on nets that have records, have none: contours without a pin, and draws with one."""
+        nets, outer = self.nets(), (0, self.board.manifest.layers - 1)
+        its = zip(self.objects, self.board.report.sources, self.board.report.net_of)
+        return sum(it is not None and file in outer and net in nets and (it.kind == "contour" and not it.part or it.kind == "draw" and bool(it.part))
+                   for it, (file, *_), net in its)
+
+    def untouched(self):
+        """What has no record, in few words."""
+        none, areas, pads = self.without(), self.areas(), len(self.unplaced)
+        told = [f"{counted(len(none), 'net')} without a record, first {self.net_word(none[0])}"] if none else []
+        told += [f"{counted(count, word)} {why}" for count, word, why in ((areas, "area", "that no file calls a pad"), (pads, "pad", "without a place on the grid")) if count]
+        return ", ".join(told)
 
     def lines(self):
         holes = sum(row.place.hole is not None for row in self.rows)

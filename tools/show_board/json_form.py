@@ -2,7 +2,7 @@
 from . import indented, ties
 from .board import NO_NET
 
-FORM = 1
+FORM = 2
 # As many points of a part of an open are told.
 MOST_OF_A_PART = 12
 
@@ -67,7 +67,7 @@ def absent_ties(shown):
 def like_of(it):
     """The comparison with another board."""
     places = lambda its: [place((x, y), layer) for x, y, layer in its]
-    return {"path": it.path, "status": it.status, "line": it.line, "placed": it.placed, "differences": [
+    return {"path": it.path, "status": it.status, "line": it.line, "placed": it.placed, "not_compared": it.untouched, "differences": [
         {**each._asdict(), "places": places(each.places), "places_there": places(each.places_there)} for each in it.differences]}
 
 
@@ -92,7 +92,7 @@ def board_of(shown):
     return {**told, "audit": shown.audit, "copper": board.manifest.copper, "drills": [name for name, _, _ in board.manifest.drills],
             "netlist": board.manifest.netlist, "own_names": bool(board.package.own), "ties": list(ties.told_of(board.ties, board.report)),
             "pieces": board.report.pieces, "points": len(board.report.points), "unnamed_points": unnamed,
-            **shown.counts(), "flood": shown.flood, "findings": [*(finding(board, it) for it in shown.findings), *absent_ties(shown)]}
+            **shown.counts(), **shown.found_counts(), "flood": shown.flood, "findings": [*(finding(board, it) for it in shown.findings), *absent_ties(shown)]}
 
 
 def text(all_shown):

@@ -1,7 +1,9 @@
 """The findings as JUnit's XML: a suite a board, a case a net name, which fails where a finding is listed under it."""
-from .lines import doubt, summary
+from typing import NamedTuple
+
+from .lines import doubt
 from .ties import lost
-from .words import escaped, for_xml
+from .words import escaped, for_xml, printable
 
 
 def quoted(text):
@@ -10,37 +12,51 @@ def quoted(text):
     return f'"{told}"' if '"' not in told else f"'{told}'" if "'" not in told else '"' + told.replace('"', "&quot;") + '"'
 
 
-def case(shown, name, failures):
-    """`failures` are names of findings with their words."""
-    told = "\n".join(f"{name}: {words}" for name, words in failures)
-    head = f'  <testcase classname={quoted(shown.title)} name={quoted(name)}'
-    if not failures:
-        return head + "/>"
-    message = quoted(f"{', '.join(name for name, _ in failures)}")
-    return f"{head}><failure message={message}>{escaped(told)}</failure></testcase>"
+class Case(NamedTuple):
+    """A case, with what is amiss: names with their words; `word` is XML's for it."""
+
+    name: str
+    causes: list
+    word: str = "failure"
+
+    def row(self, title):
+        head = f"  <testcase classname={quoted(title)} name={quoted(self.name)}"
+        if not self.causes:
+            return head + "/>"
+        told = "\n".join(escaped(printable(f"{name}: {words}")) for name, words in self.causes)
+        message = quoted(", ".join(dict.fromkeys(name for name, _ in self.causes)))
+        return f"{head}><{self.word} message={message}>{told}</{self.word}></testcase>"
 
 
-def whole(shown):
-    """A suite of one case, where names are not told one by one: it passes, fails or is an error as the board's status says."""
-    word = {0: "", 1: "failure"}.get(shown.status, "error")
-    head = f'<testsuite name={quoted(shown.title)} tests="1" failures="{int(word == "failure")}" errors="{int(word == "error")}">'
-    inner = f"<{word} message={quoted(summary(shown))}>{escaped(shown.line)}</{word}>" if word else ""
-    return [head, f'  <testcase classname={quoted(shown.title)} name="check">{inner}</testcase>', "</testsuite>"]
+def whole(shown, status, line):
+    """The one case of a board whose names are not told one by one: it passes, fails or is an error as the board's status says."""
+    return Case("check", [(line, line)] if status else [], "failure" if status == 1 else "error")
 
 
-def suite(shown):
-    if not shown.board or shown.status not in (0, 1):
-        return whole(shown)
-    failures, nowhere = {}, [("tie", words) for words in lost(shown.ties, shown.board.report)]
-    gaps = [(doubt(it) + it.id, it.text()) for it in shown.findings if it.kind == "gap"]
+def of_names(shown):
+    """A case for each net name, and one for ties that have no place."""
+    failures = {}
     for it in shown.findings:
         for name in it.names if it.kind != "gap" else ():
             failures.setdefault(name, []).append((doubt(it) + it.id, it.text()))
-    cases = [case(shown, name, failures.get(number, [])) for number, name in enumerate(shown.board.report.names)]
-    cases += [case(shown, "ties", nowhere)] if nowhere else []
-    cases += [case(shown, "gaps between nets", gaps)] if shown.gap_count is not None else []
-    failed = len(failures) + bool(nowhere) + bool(gaps)
-    return [f'<testsuite name={quoted(shown.title)} tests="{len(cases)}" failures="{failed}" errors="0">', *cases, "</testsuite>"]
+    nowhere = [("tie", words) for words in lost(shown.ties, shown.board.report)]
+    cases = [Case(name, failures.get(number, [])) for number, name in enumerate(shown.board.report.names)]
+    return cases + ([Case("ties", nowhere)] if nowhere else [])
+
+
+def cases_of(shown):
+    """All cases: no status but 0 is without one that fails or is an error."""
+    status, line = shown.verdict or (shown.status, shown.line)
+    cases = of_names(shown) if shown.board and status in (0, 1) else [whole(shown, status, line)]
+    cases += [Case(it.what, [cause[:2] for cause in it.causes()], "failure" if it.status == 1 else "error") for it in shown.besides]
+    return cases if not shown.status or any(it.causes for it in cases) else [*cases, whole(shown, shown.status, shown.line)]
+
+
+def suite(shown):
+    cases = cases_of(shown)
+    failed, errors = (sum(bool(it.causes) and it.word == word for it in cases) for word in ("failure", "error"))
+    head = f'<testsuite name={quoted(shown.title)} tests="{len(cases)}" failures="{failed}" errors="{errors}">'
+    return [head, *(it.row(shown.title) for it in cases), "</testsuite>"]
 
 
 def text(all_shown):

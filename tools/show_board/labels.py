@@ -1,8 +1,9 @@
 """A netlist of the names that the copper files give their own pads (Gerber Layer Format Specification, 5.6: .P, .N and .C).
 
-One test point for each flash and each contour of a region with a pin, on the layer of its file; where no file names a pin, one for
-each with a net. A pad of several nets has a point of each and declares that they are tied. What is known so are opens and shorts
-against the copper's own names: that these are the right ones nothing says.
+One test point for each flash, draw and contour of a region with a pin, on the layer of its file; where no file names a pin, one for
+each flash and contour with a net. What the flash of a block makes has a point for each object of the block, by its own attributes or those
+of the flash. A pad of several nets has a point of each and declares that they are tied. What is known so are opens and shorts against the
+copper's own names: that these are the right ones nothing says.
 """
 import re
 from typing import NamedTuple
@@ -13,10 +14,10 @@ from .own_names import MADE
 from .side import words_of
 from .tree import Tree
 from .units import CODES
-from .words import at_most, counted, spoken
+from .words import at_most, counted, printable, spoken, with_ends
 
-# Mode, X and Y of an operation, and its code where it is no draw.
-OPERATION = re.compile(r"(G0?[123])?(X[+-]?\d+)?(Y[+-]?\d+)?(?:I[+-]?\d+)?(?:J[+-]?\d+)?(?:D0?(?:1|([23])))?")
+# Mode, X and Y of an operation, and its code.
+OPERATION = re.compile(r"(G0?[123])?(X[+-]?\d+)?(Y[+-]?\d+)?(?:I[+-]?\d+)?(?:J[+-]?\d+)?(?:D0?([123]))?")
 COMMENT = re.compile(r"G04 #@! ?(T[OD].*)")
 NO_NAMES = "the copper files do not say of which pins or nets their pads are (TO.P, TO.N): export Gerber X2 with net attributes"
 
@@ -28,12 +29,29 @@ class Label(NamedTuple):
     pin: str
     names: tuple
 
+    def within(self, outer):
+        """That of an object of a block whose flash has another: its own, and what it lacks is the flash's."""
+        component, pin = self[:2] if self.pin else outer[:2]
+        return Label(component, pin, self.names or outer.names)
+
+
+NONE = Label("", "", ())
+
 
 class Point(NamedTuple):
+    """A labelled object; `why` it is no test point where it is none, and so has no pad."""
+
     layer: int
     label: Label
     pad: points.Pad
     is_known: bool      # whether the pad's copper is known, and not only bounded from above
+    why: str = ""
+
+
+DRAWN = "it is drawn and has a net alone, as tracks have"
+NEGATIVE = "its file is negative"
+CLEAR = "it takes copper away"
+NO_COPPER = "it makes no copper"
 
 
 def field(text):
@@ -42,7 +60,7 @@ def field(text):
         told = text.encode("latin-1").decode("utf-8")
     except UnicodeDecodeError:
         told = text
-    return "".join(c if c.isprintable() else f"\\u{ord(c):04x}" for c in told)
+    return printable(told)
 
 
 class Names:
@@ -67,56 +85,70 @@ class Names:
 
 
 class Pads:
-    """The words of a copper file with its labelled flashes and regions alone: walking all copper of a board would take long.
+    """The words of a copper file with its labelled objects and its blocks alone: walking all copper of a board would take long.
 
-    `labels` are those of the commands of the new text that end a flash or a region. Draws and other regions leave their last place,
-    as what comes next may go on from it; where the file erases copper all words stay.
+    `labels` are those of the commands of the new text that end an object, `tracks` the draws with a net of their own and no pin, `drawn`
+    the labels of such outside of blocks where nets are wanted. Other draws and regions leave their last place, as what comes next may
+    go on from it; where the file erases copper all words stay.
     """
 
     def __init__(self, text, wants_pins):
         self.wants_pins, self.stays = wants_pins, "LPC*" in text
         self.names, self.words, self.labels, self.region = Names(), [], {}, None
+        self.tracks, self.drawn, self.depth, self.last = set(), [], 0, None
         for extended, word, first in words_of(text):
             comment = None if extended else COMMENT.fullmatch(word)
             if comment or extended and word.startswith(("TO", "TD")):
                 self.names.word(comment[1] if comment else word)
             elif extended:
                 self.words.append((True, word, first))
+                self.depth += (word[:3] == "ABD") - (word == "AB")
             else:
                 self.plain(word)
 
     def plain(self, word):
         operation = OPERATION.fullmatch(word) if word and word not in two_sides.MODES else None
+        code = operation and (operation[4] or self.last)
+        self.last = code or self.last
         if word == "G36":
             self.region = len(self.words)
         if word == "G37" and self.region is not None:
             self.end_region()
-        elif operation and self.region is None and not operation[4]:
+        elif operation and self.region is None and code not in ("2", "3"):
             self.draw(word, operation)
         else:
-            self.words.append((False, word, True))
-            if operation and operation[4] == "3":
+            # The code is written, as words before may be gone.
+            self.words.append((False, word + "D03" if code == "3" and not operation[4] else word, True))
+            if code == "3":
                 self.label()
 
     def label(self):
-        """Notes the label of the command that was last; answers whether it is wanted."""
+        """Notes the label of the command that was last; answers whether it may be wanted."""
         found = self.names.label()
-        if found.pin or found.names and not self.wants_pins:
+        if found.pin or found.names:
             self.labels[len(self.words)] = found
-            return True
-        return False
+        return self.is_wanted(found)
+
+    def is_wanted(self, label):
+        return bool(label.pin or label.names and not self.wants_pins)
 
     def draw(self, word, operation):
         mode, x, y, _ = operation.groups()
-        if self.stays:
+        label = self.names.label()
+        if self.is_wanted(label) and not label.pin and not self.depth:
+            self.drawn.append(label)
+        if self.stays or self.depth or label.pin:
             self.words.append((False, word, True))
+            self.label()
+            if not label.pin and label.names:
+                self.tracks.add(len(self.words))
         else:
             self.words += [(False, each, True) for each in (mode, (x or "") + (y or "") + "D02") if each]
 
     def end_region(self):
         first, self.region = self.region, None
         self.words.append((False, "G37", True))
-        if self.label() or self.stays:
+        if self.label() or self.stays or self.depth:
             return
         inner, self.words[first:] = [word for _, word, _ in self.words[first:]], []
         found = [match.groups() for match in map(OPERATION.fullmatch, inner) if match]
@@ -142,20 +174,59 @@ def erased(objects):
     return near
 
 
+class Objects(two_sides.Copper):
+    """What a copper file makes, the contours of a region each as an object, since they may stand apart. A tag is the number of the
+    command, and before it of an object in a block those of the flashes that make it."""
+
+    def __init__(self, text):
+        self.inner, self.regions = None, []
+        super().__init__(text, cuts=True)
+
+    def contour(self, contour):
+        made = super().contour(contour)
+        self.regions.append(made)
+        return made
+
+    def flash_block(self, block):
+        self.inner = iter([it.tag for it in block.objects])
+        super().flash_block(block)
+        self.inner = None
+
+    def stays_as(self, dark, both, areas=None):
+        tag = (self.number, *(next(self.inner) if self.inner else ()))
+        for each in self.contours_of() if self.regions else [both]:
+            super().stays_as(dark, each, areas)
+            self.objects[-1] = self.objects[-1]._replace(tag=tag)
+
+    def contours_of(self):
+        """Both sides of the contours of the region that ends."""
+        made, self.regions = self.regions, []
+        areas = lambda runs: [("area", run[:-1]) for run in runs]
+        return [(areas(it.runs[0]), areas(it.runs[1]) + it.grown) for it in made]
+
+
+def label_of(pads, tag):
+    """The label of an object that is a test point, or None."""
+    label = NONE
+    for command in tag:
+        label = pads.labels.get(command, NONE).within(label)
+    return None if tag[-1] in pads.tracks and not label.pin or not pads.is_wanted(label) else label
+
+
 def points_of(text, layer, wants_pins):
-    """The labelled flashes and regions of a copper file."""
+    """The labelled objects of a copper file."""
     # Breaks within words say nothing of copper: `check` judges them.
     pads = Pads(text.replace("\r", "").replace("\n", ""), wants_pins)
-    copper = two_sides.Copper(pads.text(), cuts=True)
+    copper = Objects(pads.text())
     near = erased(copper.objects)
-    # What a negative file makes is where there is no copper.
-    for at, it in enumerate(copper.objects if not copper.negative else ()):
-        if it.dark and it.tag in pads.labels:
-            # The contours of a region may stand apart.
-            is_region = it.both[0] and pads.words[it.tag - 1][1] == "G37"
-            for pieces in [[piece] for piece in it.both[0]] if is_region else [it.both[0] or it.both[1]]:
-                if pieces:
-                    yield Point(layer, pads.labels[it.tag], pad_of(pieces, near, at), bool(it.both[0]))
+    yield from (Point(layer, label, None, False, DRAWN) for label in pads.drawn)
+    for at, it in enumerate(copper.objects):
+        label = label_of(pads, it.tag)
+        if label:
+            pieces = it.both[0] or it.both[1]
+            # What a negative file makes is where there is no copper.
+            why = NEGATIVE if copper.negative else CLEAR if not it.dark else "" if pieces else NO_COPPER
+            yield Point(layer, label, None if why else pad_of(pieces, near, at), bool(it.both[0]), why)
 
 
 def pad_of(pieces, near, at):
@@ -204,15 +275,15 @@ def text_of(found, unit, places):
     """The netlist as a text."""
     names = named(list(dict.fromkeys(name for it in found for name in it.label.names)))
     lines = [MADE, f"P  UNITS CUST {CODES[unit]}"]
-    lines += [f"P  {alias}  {name}" for name, alias in names.items() if alias != name]
+    lines += [f"P  {alias}  {with_ends(name)}" for name, alias in names.items() if alias != name]
     for point, place in zip(found, places):
         for name in point.label.names or (netlist.NO_NET,) if place else ():
             lines += lines_of(point, place, names.get(name, netlist.NO_NET))
     return "\n".join([*lines, "999", ""]).encode()
 
 
-def notes_of(package, found, unit, places):
-    """What was taken, and which pads are no test points or not at their middles."""
+def notes_of(package, found, lost, unit, places):
+    """What was taken, which labelled objects are no test points and which points are not at the middles of their pads."""
     kept = [(point, place) for point, place in zip(found, places) if place]
     names, files = {name for it, _ in kept for name in it.label.names}, sorted({it.layer for it in found})
     count = sum(max(1, len(it.label.names)) for it, _ in kept)
@@ -229,6 +300,9 @@ def notes_of(package, found, unit, places):
             ("it is of several nets, so they are declared to be tied: a test point of each is there", [it for it, _ in kept if len(it.label.names) > 1])):
         if some:
             told.append(f"names: {counted(len(some), 'pad')}, first {pin_of(package, some[0])}: {words}")
+    for why in dict.fromkeys(it.why for it in lost):
+        some = [it for it in lost if it.why == why]
+        told.append(f"names: {counted(len(some), 'labelled object')}, first {pin_of(package, some[0])}: {why}, and is no test point")
     return told
 
 
@@ -258,7 +332,8 @@ def need_holes(package, found):
 
 def use(package, may_lack_holes):
     """Has the package judged by a netlist of the copper's own names; answers the notes."""
-    found = all_points(package)
+    labelled = all_points(package)
+    found, lost = [it for it in labelled if it.pad], [it for it in labelled if not it.pad]
     if not found:
         raise Stop(UNCLEAR, NO_NAMES)
     if package.is_made and not may_lack_holes:
@@ -269,4 +344,4 @@ def use(package, may_lack_holes):
     package.put(package.own, text_of(found, unit, places))
     package.put(package.name, package.manifest.text().encode())
     package.ties = list(tied(package, [it for it, place in zip(found, places) if place]))
-    return notes_of(package, found, unit, places)
+    return notes_of(package, found, lost, unit, places)

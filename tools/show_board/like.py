@@ -6,7 +6,7 @@ hints, and what is told is what `check` says of the moved netlist.
 import os
 from typing import NamedTuple
 
-from . import UNDECIDED, BadCopper, Stop, between, bounds, copper, findings, judged, labels, mending, netlist, package, tester
+from . import UNDECIDED, UNJUDGED, BadCopper, Stop, between, bounds, copper, findings, judged, labels, mending, netlist, package, tester
 from .distances import from_line
 from .hints import Trials, best_placement
 from .nearest import gap_of_lines
@@ -31,13 +31,22 @@ class Difference(NamedTuple):
     places: list
     places_there: list
 
+    def name(self):
+        return self.id if self.sure else f"undecided {self.id}"
+
+    def told(self):
+        return self.words + (f" {self.there[0].upper()}{self.there[1:]}." if self.there else "")
+
 
 class Likeness(NamedTuple):
+    """`untouched` is what of the other board was not compared, or empty."""
+
     path: str
     status: int
     line: str
     placed: str
     differences: list
+    untouched: str
 
 
 class Move:
@@ -170,12 +179,16 @@ def add(program, told, shown, asked, scratch):
         made, text = reference(program, asked.like, asked, scratch, shown.board)
         answer, placed = checked(program, told, text, shown.ties.allowed())
         its = differences(program, shown.board and shown.board.shapes, answer, made.netlist, text)
+        if len(made.netlist.rows) < 2 and not its:
+            raise Stop(UNJUDGED, "it has one pad alone that can be compared")
     except (Stop, BadCopper) as why:
-        shown.lacks(f"not compared with {asked.like}: {why}")
+        shown.lacks(f"like {asked.like}", f"not compared with {asked.like}: {why}")
         return
     sure = sum(it.sure for it in its)
     counts = [counted(sum(it.kind == kind for it in its), word) for kind, word in (("parted", "parted net"), ("joined", "joined net"), ("missing", "missing pad"))]
     doubt = len(its) - sure + (not made.is_whole)
     line = f"joins what {'it' if made.is_whole else 'its lower bound'} joins" if not its else ", ".join(word for word in counts if not word.startswith("0 "))
-    shown.like = Likeness(asked.like, 1 if sure else UNDECIDED if doubt else 0, line, placed, its)
-    shown.found(sure, doubt, f"like {asked.like}: {line}")
+    untouched = made.netlist.untouched()
+    line += f"; not compared: {untouched}" if untouched else ""
+    shown.like = Likeness(asked.like, 1 if sure else UNDECIDED if doubt else 0, line, placed, its, untouched)
+    shown.found(f"like {asked.like}", sure, doubt, f"like {asked.like}: {line}", tuple((it.name(), it.told(), it.places) for it in its))

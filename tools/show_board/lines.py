@@ -12,7 +12,7 @@ def heading(shown):
 
 def summary(shown):
     """One line of a batch."""
-    return heading(shown).split("\n")[0]
+    return heading(shown)
 
 
 def notes(shown):

@@ -1,8 +1,8 @@
 """Mended copies in the scratch folder, and how the answer says that they were judged."""
 import os
 
+from mends import netlist_file, ways
 from mends import package as mends
-from mends import ways
 from mends.plating import unplated_hole
 
 from . import REFUSED, UNJUDGED, Stop
@@ -16,7 +16,10 @@ def mend(package, progress):
     progress.begin("looking for what to mend")
     drills = [name for name, _, _ in package.manifest.drills]
     need_plated(package, drills)
-    for name, data, told in mends.of_files(lambda name: bytes_of(package, name), package.manifest.copper, drills):
+    netlist = package.manifest.netlist
+    need_names(package, netlist)
+    # A copy of a netlist that lies elsewhere cannot stand under its name, which is said where one is wanted.
+    for name, data, told in mends.of_files(lambda name: (read if name == netlist else bytes_of)(package, name), package.manifest.copper, drills, netlist):
         package.put(name, data)
         package.mends += told
 
@@ -31,12 +34,24 @@ def need_plated(package, drills):
                                 f"missing, so that hole would join layers; to export: {ways.way('MixedPlating', ways.tool_of(data))}")
 
 
-def bytes_of(package, name):
-    """The bytes of a file beside the manifest; none where it cannot be read, which `check` says."""
+def need_names(package, name):
+    """Refuses a netlist of which it is not known which records are of one net."""
+    why = netlist_file.unclear(read(package, name))
+    if why:
+        raise Stop(REFUSED, f"{name}: {why}: have each name stand for one net, and each net have one name")
+
+
+def read(package, name):
+    """The bytes of a file; none where it cannot be read, which `check` says."""
     try:
-        return b"" if os.path.isabs(name) else package.read(name)
+        return package.read(name)
     except OSError:
         return b""
+
+
+def bytes_of(package, name):
+    """The bytes of a file beside the manifest."""
+    return b"" if os.path.isabs(name) else read(package, name)
 
 
 def say(package, shown):

@@ -3,11 +3,12 @@ import re
 from collections import namedtuple
 from functools import lru_cache
 
+from mends.netlist_file import LINE as ALIAS
+
 from .units import CUSTOM
 
 UNITS = re.compile(rb"^P +UNITS +CUST +([01])[ \t\r]*$", re.M)
-# Names that are too long for their columns, and pins, as parameters and as comments that we write before a record.
-ALIAS = re.compile(rb"^P +(NNAME[0-9]+)[ \t]+([^\r\n]*)", re.M)
+# Pins that are too long for their columns, as comments that we write before a record.
 PIN = b"C PIN,"
 NO_NET = "N/C"
 UNPRINTABLE = re.compile("[^ -~]")
@@ -57,9 +58,14 @@ def pin_of(line, before):
     return fields if len(fields) == 2 else (printable(line[20:26]), printable(line[27:31]))
 
 
+def aliases(data):
+    """The whole names that a netlist's names stand for."""
+    return {alias.decode(): name.decode("utf-8", "replace").strip() for alias, name in ALIAS.findall(data)}
+
+
 def spoken(names, data):
     """The names of a report, aliases of the netlist as what they stand for, as long as all are distinct."""
-    whole = {alias.decode(): name.decode("utf-8", "replace").strip() for alias, name in ALIAS.findall(data)}
+    whole = aliases(data)
     taken, told = set(names), []
     for name in names:
         said = whole.get(name) or name

@@ -13,9 +13,9 @@ import zlib
 from array import array
 from operator import sub
 
-from . import record_page
-from .lines import doubt
-from .words import counted, in_html
+from . import beside, record_page
+from .lines import cut, doubt
+from .words import counted, in_html, printable, spoken
 
 HERE = os.path.dirname(os.path.abspath(__file__))
 TITLES = {"open": "Opens", "short": "Shorts", "missing": "Points without copper", "gap": "Gaps"}
@@ -23,6 +23,7 @@ TITLES = {"open": "Opens", "short": "Shorts", "missing": "Points without copper"
 SIGNS = {"open": "\u2296", "short": "\u2715", "missing": "\u25a1", "gap": "\u21d4"}
 # So many findings of a kind stand open, the further ones in folds; their suggestions stand in the data alone, which is packed.
 OPEN, FOLD = 300, 500
+FEW = 6             # files that are named
 SCRIPTS = ("data", "words", "view", "paint", "draw", "marks", "chosen", "list", "search", "move", "act")
 
 
@@ -138,6 +139,13 @@ def wider_data(shown):
     return [[layer, [v for spot in corners for v in place(spot)]] for layer, corners in shown.wider]
 
 
+def in_page(value):
+    """The same data with texts as they are told."""
+    if isinstance(value, dict):
+        return {key: in_page(it) for key, it in value.items()}
+    return printable(value) if isinstance(value, str) else [in_page(it) for it in value] if isinstance(value, (list, tuple)) else value
+
+
 def block(board, findings, wider=()):
     """The data, packed."""
     manifest, (column, sides) = board.manifest, sides_of(findings, board.report.pieces)
@@ -147,11 +155,11 @@ def block(board, findings, wider=()):
     columns.add_steps("recordLines", (record.line for record in board.records))
     columns.add_steps("recordComponents", which_component)
     columns.add_steps("recordPins", which_pin)
-    head = json.dumps({
+    head = json.dumps(in_page({
         "files": manifest.files, "copper": manifest.layers, "netlist": manifest.netlist, "flattened": sorted(board.package.flattened),
         "layers": [manifest.layer_word(k + 1) for k in range(manifest.layers)], "names": board.report.names, "netCount": board.report.nets,
         "wider": list(wider), "components": components, "pins": pins, "findings": [finding_data(finding, sides) for finding in findings], "columns": columns.heads,
-    }, separators=(",", ":")).encode()
+    }), separators=(",", ":")).encode()
     raw = len(head).to_bytes(4, "little") + head + b"".join(columns.parts)
     return base64.b64encode(zlib.compress(raw, 9)).decode()
 
@@ -175,30 +183,27 @@ def list_of(kind, findings):
     if not findings:
         return ""
     folds = "".join(fold(kind, findings[at:at + FOLD]) for at in range(OPEN, len(findings), FOLD))
-    head = f'<h2><i aria-hidden="true">{SIGNS[kind]}</i> {TITLES[kind]} <span>{len(findings)}</span></h2>'
+    # Between bounds a finding may be several opens of the report.
+    count = len(findings) if findings[0].sure is None else counted(len(findings), "finding")
+    head = f'<h2><i aria-hidden="true">{SIGNS[kind]}</i> {TITLES[kind]} <span>{count}</span></h2>'
     return f"<section>{head}\n{rows(findings[:OPEN], True)}\n{folds}</section>\n"
 
 
 def verdict(shown):
-    status, line = shown.verdict or (shown.status, shown.line)
-    besides = shown.line[len(line):].lstrip("; ")
-    more = f" Besides: {besides}." if besides else ""
-    if shown.bounds:
-        return shown.line[:1].upper() + shown.line[1:]
-    if status == 0:
-        made = shown.ties.words(len(shown.ties.ties)) if shown.ties.ties else ""
-        what = "to which its own files give one name" if shown.board.package.own else "that the netlist joins"
-        return f"Agrees{made}: the copper joins exactly the points {what}{' or the ties do' if made else ''}.{more}"
-    if not shown.findings:
-        return shown.line
-    counts = shown.counts()
-    told = [counted(counts["opens"], "open"), counted(counts["shorts"], "short"),
-            counted(counts["missing"], "point without copper", "points without copper")]
-    return "Differs: " + ", ".join(words for words in told if not words.startswith("0 ")) + f".{more}"
+    """The words of the terminal, and what they mean where the board agrees."""
+    words = f"{shown.line[:1].upper()}{shown.line[1:]}"
+    if shown.bounds or (shown.verdict or (shown.status,))[0] != 0:
+        return words
+    what = "to which its own files give one name" if shown.board.package.own else "that the netlist joins"
+    return f"{words}. The copper joins exactly the points {what}{' or the ties do' if shown.ties.ties else ''}."
 
 
 def audited(shown):
-    return f"The report was audited: it is true of these files{', and has each declared tie as a short' if shown.ties.ties else ''}."
+    """What the audit is of: the files, or copies in place of some."""
+    copies = dict.fromkeys(it.file for it in shown.mends)
+    words = [*(f"{name} (mended)" for name in copies), *(f"{name} (flattened)" for name in sorted(shown.board.package.flattened))]
+    of = f"these files, with copies in place of {spoken(words, FEW)}" if words else "these files"
+    return f"The report was audited: it is true of {of}{', and has each declared tie as a short' if shown.ties.ties else ''}."
 
 
 def facts(shown):
@@ -217,7 +222,7 @@ def source_hash(source):
 
 
 def notes(shown):
-    told = [*shown.notes, *([shown.flood] if shown.flood else []), *(hint.words for hint in shown.hints)]
+    told = [*shown.notes, *([shown.flood] if shown.flood else []), *(hint.words for hint in shown.hints), *cut(list(beside.lines(shown)), False)]
     return "".join(f'<p class="advice">{in_html(words)}</p>\n' for words in told)
 
 
@@ -228,7 +233,7 @@ def text(shown):
         "POLICY": f"default-src 'none'; script-src {source_hash(code)}; style-src {source_hash(style)}; base-uri 'none'; form-action 'none'",
         "TITLE": in_html(shown.title), "STYLE": style, "SCRIPT": code, "STATE": "agrees" if shown.status == 0 else "differs",
         "VERDICT": in_html(verdict(shown)), "FACTS": in_html(facts(shown)), "ADVICE": notes(shown),
-        "FINDINGS": lists or '<p class="none">No open, no short, no point without copper.</p>', "DATA": block(shown.board, shown.findings, wider_data(shown)),
+        "FINDINGS": lists or f'<p class="none">{"No finding" if shown.status else "No open, no short, no point without copper"}.</p>', "DATA": block(shown.board, shown.findings, wider_data(shown)),
         "RECORD": record_page.section(shown.record),
     }
     parts = asset("page.html").split("@@")

@@ -2,6 +2,8 @@
 import sys
 import time
 
+from .words import printable
+
 
 class Progress:
     """Tells on standard error; `quiet` tells nothing."""
@@ -12,7 +14,7 @@ class Progress:
         self.says, self.width, self.started = "", 0, time.monotonic()
 
     def begin(self, words):
-        self.says = words
+        self.says = printable(words)
         self.tell()
 
     def tell(self):

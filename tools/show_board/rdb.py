@@ -1,9 +1,13 @@
 """The findings as a marker database of KLayout (*.lyrdb): lengths are micrometres."""
+from . import UNDECIDED
+from .beside import GAPS
 from .lines import doubt
+from .ties import lost
 from .words import escaped, for_xml
 
 KINDS = {"open": "Parts of a name that no copper joins", "short": "Names that copper joins", "missing": "Test points without copper",
-         "gap": "Nets that are too close", "wider": "Copper that the upper of two bounds has and the lower one has not"}
+         "gap": "Nets that are too close", "wider": "Copper that the upper of two bounds has and the lower one has not",
+         "tie": "Declared ties of names that no test point has", "beside": "What was asked for besides", "board": "Why the board is not judged"}
 # Half the side of the box round a place, in u.
 HALF = 1_000_000
 
@@ -47,11 +51,18 @@ def item(kind, name, marked):
 
 
 def items_of(shown):
-    """The findings of a board, and where one that lies between two bounds is wider above."""
-    if not shown.board:
-        return []
-    wider = [item("wider", f"{shown.board.manifest.layer_word(layer)}", [f"polygon: ({';'.join(map(at, corners))})"]) for layer, corners in shown.wider]
-    return [item(finding.kind, doubt(finding) + finding.id, values(shown.board, finding)) for finding in shown.findings] + wider
+    """Every cause of a status that is not 0, and where a board that lies between two bounds is wider above."""
+    its, wider = items_of_board(shown) if shown.board else ([], [])
+    its += [item("beside", name, [*(box(place[:2]) for place in places), quoted(words)])
+            for beside in shown.besides if beside.what != GAPS or beside.status not in (1, UNDECIDED) for name, words, places in beside.causes()]
+    return (its if its or not shown.status else [item("board", f"status {shown.status}", [quoted(shown.line)])]) + wider
+
+
+def items_of_board(shown):
+    board = shown.board
+    its = [item(finding.kind, doubt(finding) + finding.id, values(board, finding)) for finding in shown.findings]
+    its += [item("tie", "tie", [quoted(words)]) for words in lost(shown.ties, board.report)]
+    return its, [item("wider", f"{board.manifest.layer_word(layer)}", [f"polygon: ({';'.join(map(at, corners))})"]) for layer, corners in shown.wider]
 
 
 def text(shown):

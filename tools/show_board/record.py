@@ -15,6 +15,7 @@ from .program import TOOLS
 from .words import counted, spoken
 
 FORM = 1
+RECORD = "record"
 TOP = os.path.dirname(TOOLS)
 FEW = 8
 # What is compared beside files and reports, with the words for it.
@@ -182,17 +183,25 @@ def told_of(value):
     return spoken([str(it) for it in value], FEW) if isinstance(value, list) and value else "none" if value in ([], None) else str(value)
 
 
+def judged_as(told):
+    """What the reports are of."""
+    if told.package.between:
+        return "both bounds"
+    return "the copies that were judged" if told.package.mends or told.package.flattened else "them"
+
+
 def verify(program, told, shown, path):
     """Tells whether a record is of these files."""
     try:
-        record, now = read(path), of(program, told, shown)
+        record, now = read(path), json.loads(text(of(program, told, shown)))
         found = list(differences(program, told, record, now))
     except Stop as why:
-        shown.lacks(f"not verified: {why}")
+        shown.lacks(RECORD, f"not verified: {why}")
         return
     other = {key: value for key, value in now["program"].items() if not isinstance(record.get("program"), dict) or record["program"].get(key) != value}
     if other:
         shown.notes.append(f"the record of {record.get('date')} is by another program: now " + ", ".join(f"{key} {value}" for key, value in other.items()))
     shown.notes += [f"unlike the record: {words}" for words in found]
-    sums = f"the record is of these files, and {'its report passes the audit' if packages(told) else 'neither it nor today has a report'}"
-    shown.found(len(found), 0, sums if not found else f"unlike the record in {counted(len(found), 'point')}")
+    passes = f"its report passes the audit on {judged_as(told)}"
+    sums = f"the record is of these files, and {passes if packages(told) else 'neither it nor today has a report'}"
+    shown.found(RECORD, len(found), 0, sums if not found else f"unlike the record in {counted(len(found), 'point')}", tuple(("record", words, ()) for words in found))

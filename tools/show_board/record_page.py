@@ -1,4 +1,5 @@
 """A record for people: a part of the board's page, or a page of its own where no picture can be drawn."""
+from . import beside
 from .words import in_html
 
 SIDES = (("came", "SHA-256 as it came"), ("judged", "as it was judged"), ("lower", "lower bound"), ("upper", "upper bound"))
@@ -40,7 +41,7 @@ def section(record):
 
 def page(shown):
     """The record and what is told of the board, without a picture."""
-    told = "".join(f"<p>{in_html(words)}</p>\n" for words in [shown.line, *shown.notes])
+    told = "".join(f"<p>{in_html(words)}</p>\n" for words in [shown.line, *shown.notes, *beside.lines(shown)])
     return (f'<!DOCTYPE html>\n<html lang="en">\n<head>\n<meta charset="utf-8">\n'
             f'<meta http-equiv="Content-Security-Policy" content="default-src \'none\'">\n<title>{in_html(shown.title)}: boardnet</title>\n</head>\n'
             f"<body>\n<h1>{in_html(shown.title)}</h1>\n{told}{section(shown.record)}</body>\n</html>\n")

@@ -8,6 +8,7 @@ from .program import TOOLS, Program, found
 from .progress import Progress
 from .scratch import Scratch
 from .shown import show
+from .words import printable
 
 SIGNALS = (signal.SIGINT, signal.SIGTERM, signal.SIGHUP)
 ONE_BOARD = ("rdb", "page", "svg", "keep", "ipc", "record", "verify")
@@ -57,7 +58,7 @@ def told(asked, all_shown):
         rows = [lines.summary(shown) for shown in all_shown]
     else:
         rows = lines.reader(all_shown[0], asked.all)
-    return "".join(row + "\n" for row in rows)
+    return "".join(printable(row) + "\n" for row in rows)
 
 
 def forms(asked, all_shown):
@@ -88,7 +89,7 @@ def pictures(asked, shown):
             yield asked.page, shown.record and record_page.page(shown)
         if asked.svg:
             yield asked.svg, None
-        print(f"boardnet: no picture is drawn, since the copper of {shown.path} is not known", file=sys.stderr)
+        print(f"boardnet: no picture is drawn, since the copper of {printable(shown.path)} is not known", file=sys.stderr)
         return
     from . import page, svg
     if asked.page:
@@ -155,7 +156,7 @@ def main(given):
         asked = words(given)
         return run(asked)
     except Stop as stop:
-        print(f"boardnet: {stop}", file=sys.stderr)
+        print(f"boardnet: {printable(str(stop))}", file=sys.stderr)
         return stop.status
     except Interrupted as why:
         # Python's own end would give signals their default back, so that one more of them changed the status.
@@ -165,5 +166,5 @@ def main(given):
         return UNWRITABLE
     except Exception as fault:
         stop = fault_of(asked.paths[0] if asked else "show", fault)
-        print(f"boardnet: {stop}", file=sys.stderr)
+        print(f"boardnet: {printable(str(stop))}", file=sys.stderr)
         return stop.status

@@ -23,9 +23,8 @@ def pins_of(package, name):
 
 def whole_names(package, name, pins):
     """The same with aliases as what they stand for."""
-    names = sorted(set().union(*pins.values())) if pins else []
-    whole = dict(zip(names, netlist.spoken(names, package.read(name))))
-    return {pin: {whole[each] for each in its} for pin, its in pins.items()}
+    whole = netlist.aliases(package.read(name))
+    return {pin: {whole.get(each) or each for each in its} for pin, its in pins.items()}
 
 
 def alone(pins):

@@ -1,12 +1,13 @@
 """One board, from its files to its findings."""
 import os
+from typing import NamedTuple
 
 from . import FAULT, UNDECIDED, UNJUDGED, BadCopper, beside, fault_of, judged, mending, netlist, own_names, package, report, ties, unjudged
 from .board import Board
 
 NO_PLACES = "this program writes reports of version 1, which do not say where copper is from: what is told is the report and the netlist alone"
 
-COUNTED = {"opens": "open", "shorts": "short", "missing": "missing"}
+COUNTED = ("opens", "shorts", "missing", "open_ties")
 
 
 class Shown:
@@ -20,33 +21,55 @@ class Shown:
         self.path, self.status, self.line, self.audit = path, 0, "", ""
         self.title = os.path.basename(os.path.normpath(path)) or path
         self.board, self.findings, self.hints, self.bounds = None, [], [], None
+        # The report, twice, or those of a lower and an upper board.
+        self.reports = ()
         self.notes, self.flood, self.report, self.ties, self.mends = [], "", b"", ties.Ties(), []
         # What an upper board has beyond a lower one, as (layer, corners).
         self.wider = []
         # What was asked for beside: the netlist for a tester, the comparison with another board, the record.
         self.tester = self.like = self.record = self.gap_count = None
-        # Status and line of the netlist alone.
-        self.verdict = None
+        # Status and line of the netlist alone, and what became of all that was asked for besides.
+        self.verdict, self.besides = None, []
 
     def counts(self):
-        """What counts: a short that is a declared tie does not, a tie that the copper does not have is an open; between two bounds
-        what is sure."""
-        if self.bounds:
-            told = {word: sum(it.sure and it.kind == kind for it in self.findings) for word, kind in COUNTED.items()}
-            return {**told, "opens": told["opens"] + len(ties.lost(self.ties, self.board.report))}
-        opens, shorts, missing, parted = self.ties.counts(self.board.report)
-        return {"opens": opens + parted, "shorts": shorts, "missing": missing}
+        """What the line counts: lines of the report, but for shorts that are declared ties, and apart the ties that no copper makes.
+        Between two bounds these are of the board that makes them certain: shorts of the lower one, all else of the upper one."""
+        low, high = self.reports
+        above = self.ties.counts(high)
+        return dict(zip(COUNTED, (above[0], self.ties.counts(low)[1], *above[2:])))
 
-    def lacks(self, why):
+    def found_counts(self):
+        """How many findings are certain, with ties of names that no test point has, and how many are undecided."""
+        sure = [it.sure is not False for it in self.findings if it.kind != "gap"]
+        return {"certain": sum(sure) + len(ties.lost(self.ties, self.board.report)), "undecided": len(sure) - sum(sure)}
+
+    def lacks(self, what, why, details=()):
         """Something that was asked for is not known."""
         self.line = f"{self.line}; {why}"
         self.status = self.status or UNJUDGED
+        self.besides.append(Beside(what, UNJUDGED, why, details))
 
-    def found(self, certain, possible, words):
+    def found(self, what, certain, possible, words, details=()):
         """Something that was looked for beside the netlist, and how much of it there is."""
         self.line = f"{self.line}; {words}"
+        status = 1 if certain else UNDECIDED if possible else 0
         if self.status in (0, UNDECIDED):
-            self.status = 1 if certain else UNDECIDED if possible else self.status
+            self.status = status if certain or possible else self.status
+        self.besides.append(Beside(what, status, words, details))
+
+
+class Beside(NamedTuple):
+    """What was asked for beside the netlist: its name in lists of cases, its own status, what became of it, and (name, words, places) of
+    each thing that was found."""
+
+    what: str
+    status: int
+    words: str
+    details: tuple
+
+    def causes(self):
+        """Why its status is not 0, or nothing."""
+        return [*self.details] or [(self.what, self.words, ())] if self.status else []
 
 
 def shapes_of(program, told):
@@ -93,7 +116,7 @@ def look(program, told, shown, wants_picture):
     if shown.ties.shorts(told.report):
         named = labels_of(program, told)
     program.progress.begin("looking for the places")
-    shown.board = Board(told.package, told.report, records, shapes, named, shown.ties)
+    shown.board, shown.reports = Board(told.package, told.report, records, shapes, named, shown.ties), (told.report, told.report)
     if shown.status or not told.report.agrees:
         from . import findings
         shown.findings, shown.flood = findings.all_findings(shown.board), findings.flood(told.report)
@@ -178,7 +201,7 @@ def look_between(program, files, shown, asked):
     shapes, why = shapes_of(program, low) if answer.findings or wants_picture or beside.wants_copper(asked) else (None, "")
     named = labels_of(program, low) if shown.ties.shorts(low.report) else None
     program.progress.begin("looking for the places")
-    shown.audit = low.audit
+    shown.audit, shown.reports = low.audit, (low.report, high.report)
     shown.board = between.board_of(low, answer.sides[0], shapes, named, shown.ties)
     shown.findings, shown.flood = between.Findings(shown.board).of(answer), findings.flood(high.report)
     shown.notes += [*unjudged.unnamed_notes(shown.board), *([why] if why else [])]

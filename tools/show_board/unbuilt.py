@@ -3,7 +3,8 @@ import os
 import subprocess
 import sys
 
-from . import Stop, netlist
+from . import FAULT, Stop, netlist
+from .words import printable
 
 BUILDER = os.path.join(os.path.dirname(os.path.dirname(os.path.abspath(__file__))), "launch", "build.py")
 
@@ -31,7 +32,7 @@ def known(package):
 def build(package, words):
     """Builds the program; meanwhile the words are tried in the package's folder."""
     for line in known(package):
-        print(f"boardnet: {package.home or package.name}: {line}", file=sys.stderr, flush=True)
+        print(printable(f"boardnet: {package.home or package.name}: {line}"), file=sys.stderr, flush=True)
     running = subprocess.Popen([sys.executable, BUILDER, "--only", checkout(), *words], cwd=package.folder, stdin=subprocess.DEVNULL)
     try:
         status = running.wait()
@@ -40,4 +41,5 @@ def build(package, words):
         running.wait()
         raise
     if status:
-        raise Stop(status, "the program is not built")
+        # Signals as a shell says them; what else it ends with by a fault of its own is no status of a board.
+        raise Stop(128 - status if status < 0 else status if status >= FAULT else FAULT, "the program is not built")

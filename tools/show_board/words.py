@@ -9,9 +9,32 @@ def for_xml(text):
     return re.sub(NOT_XML, "\ufffd", text)
 
 
+def printable(text):
+    """A text as it is told wherever: controls, marks of direction, other ends of lines and halves of characters, which names in files may
+    have, are written by their numbers, since on a terminal or a page they hide or turn round what stands beside them."""
+    return text if text.isprintable() else "".join(it if it.isprintable() else numbered(ord(it)) for it in text)
+
+
+def numbered(code):
+    """A character by its number; a byte of a name that is no UTF-8 by that."""
+    return f"\\x{code - 0xdc00:02x}" if 0xdc80 <= code <= 0xdcff else f"\\u{code:04x}" if code <= 0xffff else f"\\U{code:08x}"
+
+
+def with_ends(text):
+    """A text whose blanks at its ends count, in a line where they would say nothing."""
+    inner = text.strip(" ")
+    before = len(text) - len(text.lstrip(" ")) if inner else len(text)
+    return numbered(32) * before + inner + numbered(32) * (len(text) - before - len(inner))
+
+
+def in_lines(text):
+    """The same of a text of several lines."""
+    return text if text.isprintable() else "\n".join(map(printable, text.split("\n")))
+
+
 def escaped(text):
     """A text as XML has it outside marks."""
-    return text.replace("&", "&amp;").replace("<", "&lt;").replace(">", "&gt;")
+    return in_lines(text).replace("&", "&amp;").replace("<", "&lt;").replace(">", "&gt;")
 
 
 def in_html(text):

@@ -1,10 +1,14 @@
 """Boards for the tests of `show`'s page and picture, looked at once by the stand-in and in this process."""
+import base64
 import copy
 import functools
+import json
 import os
+import re
 import shutil
 import tempfile
 import types
+import zlib
 
 import made
 from made import draw, flash, gerber, manifest, netlist, record, region
@@ -90,3 +94,16 @@ def discs(across, up):
     shown = Shown("discs")
     shown.board, shown.line = bare(shapes), "agrees"
     return shown
+
+
+def unpacked(text):
+    """The head and the columns of a page's data."""
+    raw = zlib.decompress(base64.b64decode(re.search(r'<script id="data"[^>]*>([^<]*)<', text)[1]))
+    size = int.from_bytes(raw[:4], "little")
+    head, at, columns = json.loads(raw[4:4 + size]), 4 + size, {}
+    for name, width, count, _ in head["columns"]:
+        planes = [raw[at + k * count:at + (k + 1) * count] for k in range(width)]
+        at += width * count
+        columns[name] = [int.from_bytes(bytes(plane[i] for plane in planes), "little", signed=True) for i in range(count)]
+    assert at == len(raw)
+    return head, columns

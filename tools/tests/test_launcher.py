@@ -102,27 +102,51 @@ class Launcher(common.Case):
         os.mkfifo(self.path("here", "pipe"))
         rows = [
             # words, points of the report, what the program answers, what is said
-            (["check", "there"], "1", "0", ""),
+            (["check", "there"], "2", "0", ""),
+            (["check", "there"], "10", "0", ""),
             (["check", "there"], "0", "0", f"{LOUD}: m.json names a netlist without test points"),
+            (["check", "there"], "1", "0", f"{LOUD}: there is one test point alone, so this yes says nothing about the board"),
+            (["check", "there"], "1", "1", ""),
+            (["check", "there"], "3\nnames 1\nname 0 N/C", "0", f"{LOUD}: all test points are without net (N/C), so this yes says nothing about the board"),
+            (["check", "there"], "3\nnames 2\nname 0 N/C", "0", ""),
+            (["check", "there"], "3\nnames 1\nname 0 N/CX", "0", ""),
+            (["between", "m.json", "l.json", "u.json", "c.txt"], "2\ncertain", "0", ""),
+            (["between", "m.json", "l.json", "u.json", "c.txt"], "1\ncertain", "0", f"{LOUD}: there is one test point alone"),
+            (["between", "m.json", "l.json", "u.json", "c.txt"], "0\ncertain", "0", f"{LOUD}: m.json names a netlist without test points"),
             (["check", "there"], "0", "3", ""),
             (["x2", "there"], "2", "0", ""),
+            (["x2", "there"], "1", "0", f"{LOUD}: there is one test point alone"),
             (["x2", "there"], "0", "0", f"{LOUD}: no copper file of m.json has a net label"),
-            (["audit", "there", "r.txt"], "1", "0", ""),
+            (["audit", "there", "r.txt"], "2", "0", ""),
+            (["audit", "there", "r.txt"], "1", "0", f"{LOUD}: there is one test point alone"),
+            (["audit", "there", "r.txt"], "3\nnames 1\nname 0 N/C", "0", f"{LOUD}: all test points are without net"),
             (["audit", "there", "r.txt"], "0", "0", f"{LOUD}: m.json names a netlist without test points"),
             (["audit", "there", "r.txt"], "0", "1", ""),
-            (["audit", "there", "pipe"], "1", "0", "look at the line `points` of the report"),
+            (["audit", "there", "pipe"], "1", "0", "look at the line `points` of the text"),
             (["audit", "there", "pipe"], "1", "1", ""),
-            (["trial", "1", "2"], "0", "0", ""),
+            (["trial", "1", "2"], "2", "0", ""),
+            (["trial", "1", "2"], "0", "0", f"{LOUD}: the made board has no test point, so this yes says nothing about the board"),
         ]
         for words, points, status, said in rows:
             with self.subTest(words=words, points=points, status=status):
                 self.write("here/r.txt", f"boardnet 2\nname 0 points 0\npoints {points}\nagrees\n")
                 self.write("calls", "")
                 told, out, notes = self.launch(*words, STAND_IN_POINTS=points, STAND_IN_ENDS=status, STAND_IN_CALLS=self.path("calls"))
-                self.assertEqual((told, out.splitlines()[1], self.read("calls")), (int(status), f"points {points}", "asked\n"))
+                self.assertEqual((told, out.splitlines()[1], self.read("calls")), (int(status), f"points {points}".split("\n")[0], "asked\n"))
                 lines = notes.splitlines()
                 self.assertEqual((lines[0], len(lines)), ("boardnet: agrees", 2 if said else 1))
                 self.assertIn(said, notes)
+
+    def test_several_names(self):
+        """x2 takes the first name of an object alone, which is said of each copper file that has more."""
+        told = "t.gbr has objects of several nets (TO.N,GND,AGND), of which x2 takes the first name alone"
+        for text, is_told in (("%TO.N,GND,AGND*%", True), ("%TO.N,GND*%\n%TO.P,U1,1*%", False), ("%TO.N,GND,*%", False), ("%TO.N,*%", False), ("", False)):
+            self.write("here/there/t.gbr", text)
+            for status in ("0", "1", "3"):
+                done, _, notes = self.launch("x2", "there", STAND_IN_POINTS="2", STAND_IN_ENDS=status)
+                self.assertEqual((done, told in notes, len(notes.splitlines())), (int(status), is_told and status != "3", 1 + (is_told and status != "3")), notes)
+        self.write("here/there/t.gbr", "%TO.N,GND,AGND*%")
+        self.assertNotIn("several nets", self.launch("check", "there", STAND_IN_POINTS="2")[2])
 
     def test_what_passes_by_is_not_changed(self):
         """Every byte, also behind the last line feed, and of a text of megabytes."""

@@ -1,8 +1,6 @@
 """tools/manifest on the examples and on made packages, in the manner of several tools."""
 import contextlib
 import errno
-import importlib.machinery
-import importlib.util
 import io
 import json
 import os
@@ -10,19 +8,9 @@ import zipfile
 from unittest import mock
 
 import common
+from manifest_files import run
 
 MANIFEST = os.path.join(common.TOOLS, "manifest")
-
-
-def load():
-    """The script as a module: most tests call it in this process."""
-    loader = importlib.machinery.SourceFileLoader("manifest_script", MANIFEST)
-    module = importlib.util.module_from_spec(importlib.util.spec_from_loader("manifest_script", loader))
-    loader.exec_module(module)
-    return module
-
-
-SCRIPT = load()
 
 
 def copper(function="", head=""):
@@ -69,7 +57,7 @@ class Manifest(common.Case):
         os.chdir(self.scratch)
         try:
             with contextlib.redirect_stdout(out), contextlib.redirect_stderr(notes):
-                status = SCRIPT.main(list(words))
+                status = run.main(list(words))
         except SystemExit as end:
             status = end.code
         finally:
@@ -335,11 +323,11 @@ class Manifest(common.Case):
         self.make(two(m_json="before"))
         with mock.patch("os.replace", side_effect=OSError(errno.ENOSPC, "No room")):
             self.assertEqual(self.manifest("board"), (1, "", "manifest: board/m.json: No room: cannot be written\n"))
-        with mock.patch.object(SCRIPT.package, "gather", side_effect=KeyboardInterrupt):
+        with mock.patch.object(run.package, "gather", side_effect=KeyboardInterrupt):
             self.assertEqual(self.manifest("board"), (130, "", ""))
         with zipfile.ZipFile(self.path("b.zip"), "w") as made:
             made.writestr("n.ipc", NET)
-        with mock.patch.object(SCRIPT.archives, "write", side_effect=OSError(errno.ENOSPC, "No room")):
+        with mock.patch.object(run.archives, "write", side_effect=OSError(errno.ENOSPC, "No room")):
             self.assertEqual(self.manifest("b.zip"), (1, "", "manifest: b.zip: No room\n"))
         self.assertEqual((self.read("board/m.json"), sorted(os.listdir(self.path("board"))), os.path.exists(self.path("b"))), ("before", sorted([*TWO, "m.json"]), False))
 

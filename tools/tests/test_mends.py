@@ -3,9 +3,10 @@ import json
 import os
 import random
 import time
+import unittest
 
 import common
-from mends import chords, copper_file, drill_file, package, plating, table, ways
+from mends import chords, copper_file, drill_file, netlist_file, package, plating, table, ways
 
 HEAD = "%FSLAX46Y46*%\n%MOMM*%\n"
 PADS = "%ADD10C,1.0*%\nD10*\nX0Y0D03*\nX5000000Y0D03*\n"
@@ -358,3 +359,37 @@ class Contours(common.Case):
         for change in (b"%LPC*%\n", b"%SRX2Y1I5.0J0.0*%\n"):
             other = text.replace(b"G36", change + b"G36")
             self.assertEqual(copper_file.mended(other), (other, []))
+
+
+class Netlists(unittest.TestCase):
+    """Names that stand for one whole name are one net."""
+
+    def told(self, *rows):
+        """The names that are written, and what is told; rows are lines of parameters, or names of records."""
+        lines = [row if row.startswith("P") else f"327{row:<14}   U1    -1          A01X+000000Y+000000" for row in rows]
+        text = "\r\n".join(["P  UNITS CUST 1", *lines, "999", ""]).encode()
+        data, mends = netlist_file.mended(text)
+        self.assertEqual((len(data), netlist_file.mended(data)), (len(text), (data, [])))
+        names = [line[3:17].strip().decode() for line in data.split(b"\n") if line[:3] == b"327"]
+        return names, [(it.line, it.text, it.more) for it in mends], netlist_file.unclear(text)
+
+    def test_one_name(self):
+        two = ["P  NNAME1  a whole name", "P  NNAME2  a whole name ", "P\tNNAME3\tGND"]
+        self.assertEqual(self.told(*two, "NNAME1", "NNAME2", "X", "NNAME2"), (["NNAME1", "NNAME1", "X", "NNAME1"], [(6, "NNAME2", 1)], ""))
+        self.assertEqual(self.told(*two, "NNAME3", "GND"), (["GND", "GND"], [(5, "NNAME3", 0)], ""))
+        self.assertEqual(self.told("P  NNAME1 N/C", "NNAME1"), (["N/C"], [(3, "NNAME1", 0)], ""))
+
+    def test_stays(self):
+        """Other letters, an alias that no record or one alone has, none, and one that is called like another."""
+        for rows in (["P  NNAME1 a name", "P  NNAME2 A name", "NNAME1", "NNAME2"], ["P  NNAME1 a", "P  NNAME2 a", "NNAME1", "NNAME1"],
+                     ["P  NNAME1", "P  NNAME2", "NNAME1", "NNAME2"], ["P  NNAME1 NNAME2", "P  NNAME2 X", "NNAME1", "NNAME2"], ["NNAME1", "NNAME2"],
+                     ["P  NNAME1 \u00e4", "P  NNAME2 \u00f6", "NNAME1", "NNAME2"]):
+            self.assertEqual(self.told(*rows), ([row for row in rows if not row.startswith("P")], [], ""))
+
+    def test_unclear(self):
+        long = "x" * 62
+        for rows, why in ((["P  NNAME1 a", "P  NNAME1 b", "NNAME1"], "NNAME1 stands for two names"),
+                          ([f"P  NNAME1 {long}", f"P  NNAME2 {long}", "NNAME1", "NNAME2"], "NNAME1 and NNAME2 stand for one name that fills its line, so that it may be cut"),
+                          (["P  NNAME1 NNAME2", "NNAME1", "NNAME2"], "NNAME1 and NNAME2 look like one name, but no line says what NNAME2 stands for")):
+            self.assertEqual(self.told(*rows), ([row for row in rows if not row.startswith("P")], [], why))
+        self.assertEqual(self.told(f"P  NNAME1 {long}", "NNAME1")[2], "")

@@ -1,4 +1,5 @@
 """Forms of copper files between bounds, one by one at places that are reckoned by hand; and what is not foreseen."""
+import json
 import os
 import time
 import unittest
@@ -102,6 +103,25 @@ class Unforeseen(made.Case):
         with mock.patch("show_board.json_form.text", side_effect=KeyError("x")):
             status, out, notes = self.show("good", "--json", "-")
             self.assertEqual((status, out, notes.startswith("boardnet: good: a fault of `show` itself")), (70, "", True), notes)
+
+    def test_counts(self):
+        """Opens, shorts and missing are those of the line in every form; findings are counted apart. A name in three parts is two opens
+        and one finding; what the upper bound alone joins is undecided."""
+        arc = ["D10*", "X20000000Y0D02*", "G03X18000000Y0I-1000000J0D01*", "G01*"]
+        flashes = [f"X{x}000000Y5000000D03*" for x in (0, 3, 6, 9)]
+        self.board("board", *arc, *flashes, "X0Y5000000D02*", "X0Y7000000D01*")
+        points = [record("A", f"J1.{k}", 3 * k, 5) for k in range(3)] + [record("B", "J2.1", 0, 7), record("C", "J2.2", 9, 5), record("C", "J2.3", 12, 5)]
+        self.write("board/n.ipc", netlist(*points))
+        for program in self.over_both():
+            status, out, _ = self.show("board", "--json", "b.json", "--page", "b.html", "--junit", "b.xml", "--rdb", "b.lyrdb", program=program)
+            line = "(lower differs, opens 2, shorts 1, missing 1; upper differs, opens 2, shorts 1, missing 1)"
+            self.assertEqual((status, line in out, "3 findings certain" in out), (1, True, True), out)
+            board = json.loads(self.read("b.json"))["boards"][0]
+            words = ("opens", "shorts", "missing", "open_ties", "certain", "undecided")
+            self.assertEqual([board[word] for word in words], [2, 1, 1, 0, 3, 0])
+            self.assertEqual(len(board["findings"]), 3)
+            self.assertTrue("Opens <span>1 finding</span>" in self.read("b.html") and line in self.read("b.html"))
+            self.assertIn(line, self.read("b.lyrdb"))
 
     def test_no_memory(self):
         self.assertEqual(fault_of("x", MemoryError()).status, 6)

@@ -74,9 +74,9 @@ class Gaps(made.Case):
         self.assertEqual([line.split(" ")[1] for line in out.splitlines()[:2]], ["gap-0:", "gap-1:"])
         cases = minidom.parse(self.path("j.xml")).getElementsByTagName("testcase")
         self.assertEqual([(it.getAttribute("name"), len(it.getElementsByTagName("failure"))) for it in cases], [("A", 0), ("B", 0), ("gaps between nets", 1)])
-        self.assertEqual([it.firstChild.data for it in minidom.parse(self.path("r.xml")).getElementsByTagName("category")[5:]], ["gap", "gap"])
+        self.assertEqual([it.firstChild.data for it in minidom.parse(self.path("r.xml")).getElementsByTagName("category")[8:]], ["gap", "gap"])
         page = self.read("p.html")
-        self.assertIn("Agrees: the copper joins exactly the points that the netlist joins. Besides: 2 gaps under 0.400 mm.", page)
+        self.assertIn("Agrees; 2 gaps under 0.400 mm. The copper joins exactly the points that the netlist joins.", page)
         self.assertIn('<li id="gap-1">', page)
         self.assertIn("<desc>A and B are 0.300 mm apart on bottom", self.read("s.svg"))
 

@@ -4,7 +4,7 @@ import os
 import unittest
 
 import made
-from made import draw, drill, flash, gerber, label, manifest, netlist, record
+from made import draw, drill, flash, gerber, label, manifest, netlist, record, region
 from show_board import labels, netlist as read, points, same_pins
 
 LONG = "Net-(R1-Pad2) of sheet 2"
@@ -116,6 +116,46 @@ class Labels(made.Case):
             status, out, board = self.told({"one.gbr": layer(1, "Top", *lines)}, program=program)
             self.assertEqual((status, out.startswith(f"board: {FIRST}agrees, between two bounds ")), (0, True), out)
             self.assertEqual((board["points"], "its copper" in out), (3, False), out)
+
+    def test_blocks_and_modal_flashes(self):
+        """Pads that are blocks with regions and draws, and a flash by its coordinates alone: what stands apart from the track is open."""
+        block = ["%ABD30*%", *region((0, 0), (1, 0), (1, 1), (0, 1)), "%AB*%"]
+        drawn = ["%ABD30*%", *draw(12, (0, 0), (0.5, 0)), "%AB*%"]
+        nested = ["%ABD31*%", *region((0, 0), (1, 0), (1, 1), (0, 1)), "%AB*%", "%ABD30*%", *flash(31, (0, 0)), "%AB*%"]
+        modal = ["D10*", "X0Y0D03*", *pin("U1", "2", "GND"), "X5000000Y0*"]
+        rows = [(defined, [*pin("U1", "2", "GND"), *flash(30, (5, 0))]) for defined in (block, drawn, nested)] + [([], modal)]
+        rows.append(([], [*pin("U1", "2", "GND"), *draw(10, (5, 0), (5.5, 0))]))
+        arcs = ["G36*", "X41000000Y0D02*", "G75*", "G03X41000000Y0I-1000000J0D01*", "G01*", "G37*"]
+        for number, (defined, pad) in enumerate(rows):
+            for end, status in ((2, 1), (5, 0)):
+                lines = [*arcs, *defined, *pin("U1", "1", "GND"), *flash(10, (0, 0)), *pad, "%TD*%", *draw(11, (0, 0), (end, 0))]
+                for program in self.over_both():
+                    told, out, board = self.told({"one.gbr": layer(1, "Top", *lines)}, program=program, folder=f"row{number}")
+                    self.assertEqual((told, board["points"], board["opens"]), (status, 2 + (pad == modal), status), out)
+
+    def test_each_labelled_object(self):
+        """Each object of a block has its own names, or those of the flash; what is no test point is told with why."""
+        def points(*lines, wants_pins=True):
+            return [(it.label, it.pad and it.pad.middle, it.why) for it in labels.points_of(gerber(*lines), 1, wants_pins)]
+        first, second, bare = (labels.Label(*it) for it in (("U1", "1", ("GND",)), ("U1", "2", ("VCC",)), ("", "", ("GND",))))
+        inner = ["%ABD30*%", *pin("U1", "2", "VCC"), *flash(10, (1, 0)), "%TD*%", *flash(10, (3, 0)), *draw(11, (5, 0), (7, 0)), "%AB*%"]
+        parts = [(second, (10_000_000, 0), ""), (first, (30_000_000, 0), ""), (first, (60_000_000, 0), "")]
+        self.assertEqual(points(*inner, *pin("U1", "1", "GND"), *flash(30, (0, 0))), parts)
+        self.assertEqual(points(*inner, "%TD*%", *flash(30, (0, 0))), parts[:1])
+        self.assertEqual(points(*pin("U1", "1", "GND"), "%LPC*%", *flash(10, (0, 0))), [(first, None, labels.CLEAR)])
+        self.assertEqual(points("%ADD20C,0*%", *pin("U1", "1", "GND"), *flash(20, (0, 0))), [(first, None, labels.NO_COPPER)])
+        self.assertEqual(points("%IPNEG*%", *pin("U1", "1", "GND"), *flash(10, (0, 0))), [(first, None, labels.NEGATIVE)])
+        self.assertEqual(points(*pin("U1", "1", "GND"), *draw(10, (0, 0), (2, 0))), [(first, (10_000_000, 0), "")])
+        track = [*label("GND"), *draw(10, (0, 0), (2, 0))]
+        self.assertEqual([points(*track, wants_pins=it) for it in (True, False)], [[], [(bare, None, labels.DRAWN)]])
+        self.assertEqual(points(*label("GND"), *flash(10, (0, 0)), "D11*", "X4000000*", "Y0D02*", "X8000000D01*", "X9000000*", wants_pins=False),
+                         [(bare, None, labels.DRAWN)] * 2 + [(bare, (x, 0), "") for x in (0, 40_000_000)])
+
+    def test_no_silence(self):
+        """Labelled objects that are no test points are noted."""
+        lines = [*TOP, "%ADD20C,0*%", *pin("R9", "1", "GND"), *flash(20, (3, 3))]
+        _, out, _ = self.told({**FILES, "top.gbr": layer(1, "Top", *lines)})
+        self.assertIn("names: 1 labelled object, first R9 pin 1 (top): it makes no copper, and is no test point", out)
 
     @unittest.skipUnless(made.built(), "the program is not built")
     def test_erased(self):

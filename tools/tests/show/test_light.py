@@ -1,5 +1,6 @@
 """What stands in place of the library's own, since that takes longer to load than a small board: it answers the same."""
 import html
+import json
 import os
 from decimal import Decimal
 from fractions import Fraction
@@ -8,9 +9,9 @@ from xml.sax import saxutils
 
 import common
 from mends.copper_words import in_u
-from show_board import junit, options, placement, scratch, words
+from show_board import indented, junit, options, placement, scratch, words
 
-TEXTS = ("", "plain", "a<b>&amp;", "it's", 'say "so"', """both ' and " """, "line\nfeed\r\tand tab")
+TEXTS = ("", "plain", "a<b>&amp;", "it's", 'say "so"', """both ' and " """, "line\nfeed")
 READ = ([], ["--help"], ["a"], ["", "b", "-q"], ["-q", "a", "--all"], ["--page", "-", "a"], ["a", "--tie", "A=B", "--tie", "C=D"],
         ["--json", "x", "--json", "y", "a"], ["a", "--no-drills", "--yes", "--labels", "--gaps", "0.1"])
 LEFT = (["a", "-q", "b"], ["--js", "-", "a"], ["--json=x", "a"], ["a", "--json"], ["--json", "-q", "a"], ["--", "a"], ["-"], ["-x y"], ["--tie", "-a", "b"])
@@ -26,6 +27,18 @@ class Light(common.Case):
     def test_marks(self):
         for text in TEXTS:
             self.assertEqual((words.escaped(text), words.in_html(text), junit.quoted(text)), (saxutils.escape(text), html.escape(text), saxutils.quoteattr(text)))
+
+    def test_unprintable(self):
+        """C0, C1, DEL, marks of direction, ends of lines, halves of characters and bytes that are no UTF-8; letters and signs stay."""
+        for text, told in (("a\x1b[2Jb", r"a\u001b[2Jb"), ("\r\n\t\x7f\x9b", r"\u000d\u000a\u0009\u007f\u009b"), ("\u202ea\u2066\u200f", r"\u202ea\u2066\u200f"),
+                           ("\u2028\u2029\x85", r"\u2028\u2029\u0085"), ("\ud800a\udc9b", r"\ud800a\x9b"), ("\U000e0001", r"\U000e0001"), ("/\xe4\u03a9\u4e2d \\ 1", "/\xe4\u03a9\u4e2d \\ 1")):
+            self.assertEqual((words.printable(text), words.escaped(text.replace("\n", "")), json.loads(indented.text({text: [text]}))),
+                             (told, words.printable(text.replace("\n", "")), {indented.whole(text): [indented.whole(text)]}))
+            indented.whole(text).encode()
+
+    def test_ends(self):
+        for text, told in (("a b", "a b"), (" a", r"\u0020a"), ("a  ", r"a\u0020\u0020"), ("  ", r"\u0020\u0020"), ("", "")):
+            self.assertEqual(words.with_ends(text), told)
 
     def test_lengths(self):
         for text in ("0", "1", "-1", "+1.5", ".5", "-.25", "007.500", "0.0000001", "0.00000005", "-0.00000015", "0.00000025", "1.", "123456789.123456789"):

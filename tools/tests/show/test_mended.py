@@ -38,6 +38,20 @@ class Answers(made.Case):
             self.assertEqual(told["mends"], [{"file": "p.drl", "line": 3, "kind": "plating", "words": TOLD}])
         self.assertEqual(self.read("board/p.drl"), DRILL)
 
+    def test_page_and_record(self):
+        """The page begins with the words of the terminal, and says that copies were judged; so does the verification of a record."""
+        self.board(BOARD)
+        for program in self.over_both():
+            _, out, _ = self.show("board", "--page", "p.html", "--record", "r.json", program=program)
+            page = self.read("p.html")
+            self.assertIn('<p class="verdict">Agrees, after 1 mend. The copper joins exactly the points that the netlist joins.</p>', page)
+            self.assertIn("The report was audited: it is true of these files, with copies in place of p.drl (mended). ", page)
+            self.assertIn("<td>agrees, after 1 mend (status 0)</td>", page)
+            self.assertIn("the record is of these files, and its report passes the audit on the copies that were judged", self.show("board", "--verify", "r.json", program=program)[1])
+        self.board({**BOARD, "p.drl": DRILL.replace("MixedPlating", "Plated").replace("T2\nX5.0Y0.0\n", "")})
+        self.show("board", "--page", "p.html")
+        self.assertTrue('<p class="verdict">Agrees. The copper joins ' in self.read("p.html") and "it is true of these files. " in self.read("p.html"))
+
     def test_differs(self):
         """A hole of an unplated tool joins nothing, and lines are those of the file as it is."""
         middle = gerber(*flash(10, (0, 0), (10, 0), (5, 0)))
@@ -84,3 +98,25 @@ class Answers(made.Case):
             status, out, _ = self.show("board", program=made.built())
             self.assertEqual(status, 3)
             self.assertIn(words, out.splitlines()[0])
+
+    def test_one_whole_name(self):
+        """Two aliases of one name: pads that stand apart are open, joined ones agree; what is unclear is refused."""
+        aliases = "P  NNAME1  the whole name\nP  NNAME2  the whole name\n"
+        apart, joined = gerber(*flash(10, (0, 0), (5, 0))), gerber(*flash(10, (0, 0), (5, 0)), *draw(11, (0, 0), (5, 0)))
+        points = aliases + netlist(record("NNAME1", "U1.1", 0, 0), record("NNAME2", "U1.2", 5, 0))
+        told = "mended: n.ipc: line 5, `NNAME2`, stands for the same name as NNAME1: written as that"
+        for program in self.over_both():
+            for number, (text, status, line) in enumerate(((apart, 1, "differs, opens 1, shorts 0, missing 0"), (joined, 0, "agrees"))):
+                self.board({"m.json": manifest(), "top.gbr": text, "n.ipc": points}, f"row{number}")
+                done, out, _ = self.show(f"row{number}", program=program)
+                self.assertEqual((done, out.splitlines()[:2]), (status, [f"row{number}: {line}, after 1 mend (audit true)", told]))
+            self.assertIn("the whole name is in 2 parts", self.show("row0", program=program)[1])
+        self.write("row0/n.ipc", points.replace("NNAME2  the", "NNAME1  the other"))
+        self.assertEqual(self.show("row0")[:2], (3, "row0: n.ipc: NNAME1 stands for two names: have each name stand for one net, and each net have one name\n"))
+
+    def test_a_netlist_elsewhere(self):
+        """A netlist that a manifest names by its whole path has no copy under that name."""
+        points = "P  NNAME1  A\nP  NNAME2  A\n" + netlist(record("NNAME1", "U1.1", 0, 0), record("NNAME2", "U1.2", 5, 0))
+        path = self.write("else/n.ipc", points)
+        self.board({"m.json": manifest().replace("n.ipc", path), "top.gbr": gerber(*flash(10, (0, 0), (5, 0)))})
+        self.assertNotEqual(self.show("board")[0], 0)

@@ -2,12 +2,10 @@
 import base64
 import hashlib
 import html
-import json
 import os
 import random
 import re
 import unittest
-import zlib
 from collections import Counter
 from html.parser import HTMLParser
 from xml.dom import minidom
@@ -15,21 +13,8 @@ from xml.dom import minidom
 import made
 import pages
 from made import netlist, record
-from pages import BOARD, IDS
+from pages import BOARD, IDS, unpacked
 from show_board import Stop, copper, page, svg
-
-
-def unpacked(text):
-    """The head and the columns of a page's data."""
-    raw = zlib.decompress(base64.b64decode(re.search(r'<script id="data"[^>]*>([^<]*)<', text)[1]))
-    size = int.from_bytes(raw[:4], "little")
-    head, at, columns = json.loads(raw[4:4 + size]), 4 + size, {}
-    for name, width, count, _ in head["columns"]:
-        planes = [raw[at + k * count:at + (k + 1) * count] for k in range(width)]
-        at += width * count
-        columns[name] = [int.from_bytes(bytes(plane[i] for plane in planes), "little", signed=True) for i in range(count)]
-    assert at == len(raw)
-    return head, columns
 
 
 class Reader(HTMLParser):
@@ -65,7 +50,7 @@ class Files(made.Case):
         self.assertEqual((columns["counts"], columns["radii"][-3:]), ([1] * 6 + [2] + [1] * 2, [100_000, 200_000, 200_000]))
         self.assertEqual(([it["id"] for it in head["findings"]], re.findall(r'<li id="([^"]+)"', text.split("<script")[0])), (IDS, IDS))
         self.assertEqual(head["findings"][1]["sides"], ["GND", "VCC"])
-        self.assertIn("Differs: 1 open, 1 short, 1 point without copper.", text)
+        self.assertIn("Differs, opens 1, shorts 1, missing 1", text)
         self.assertEqual(self.show("board", "--svg", "f.svg", "--at", "open-7")[::2], (2, "boardnet: --at open-7: there is no such finding\n"))
 
     def test_names_of_folders(self):
@@ -76,7 +61,7 @@ class Files(made.Case):
         for form in ("svg", "xml", "rdb"):
             minidom.parse(self.path("p." + form))
         with open(self.path("p.html"), "rb") as file:
-            self.assertIn(b"<title>" + os.fsencode(name) + b": boardnet</title>", file.read())
+            self.assertIn(rb"<title>a\xff\u0001b: boardnet</title>", file.read())
 
     def test_nothing_to_draw(self):
         # A board without pieces has a picture all the same; one that was refused has none, which is said.

@@ -13,6 +13,7 @@ from xml.dom import minidom
 import common
 import made
 from made import draw, flash, gerber, label, manifest, netlist, record
+from pages import unpacked
 from show_board import indented
 from show_board.progress import Progress
 from show_board.run import SIGNALS
@@ -227,11 +228,36 @@ class Answers(made.Case):
         refused = self.board({**GOOD, "top.gbr": "%FSLAX46Y46*%\n"}, "refused")
         self.show(refused, "--junit", "r.xml")
         self.assertIn("NotEnded", minidom.parseString(self.read("r.xml")).getElementsByTagName("error")[0].getAttribute("message"))
+        self.show(refused, "--rdb", "r.lyrdb")
+        self.assertIn("NotEnded", minidom.parseString(self.read("r.lyrdb")).getElementsByTagName("item")[0].toxml())
         # Where there is no such form, the standard error has the words.
         for name in ("--ipc", "--record", "--page", "--svg"):
             status, out, notes = self.show("nowhere", name, "-")
             self.assertEqual((status, out, notes.split("\n")[0]), (4, "", "nowhere: cannot be read: No such file or directory"), name)
         self.assertIn("<description>nowhere: cannot be read: No such file", self.show("nowhere", "--rdb", "-")[1])
+
+    def test_controls(self):
+        """What hides or turns round text reaches no form as it is: of aliases, pins, file names, names of pads, ties."""
+        bad = "\x1b[2J\u202e\u2028\x9b\x07"
+        points = [record("NNAME1", "J1.1", 0, 0), f"C PIN,U{bad},1{bad}", record("NNAME1", "J1.2", 5, 5), record("VCC", "J1.3", 8, 8)]
+        own = {"one.gbr": gerber("%TF.FileFunction,Copper,L1,Top*%", f"%TO.P,U{bad},1*%", f"%TO.N,A{bad}*%", *flash(10, (0, 0), (5, 5)))}
+        files = {"m.json": manifest(), "top.gbr": gerber(*flash(10, (0, 0), (5, 5), (8, 8))), "n.ipc": f"P  NNAME1  GND{bad}\n" + netlist(*points)}
+        self.board(files, f"a{bad}")
+        self.board({**own, f"x{bad}.txt": "text"}, "own")
+        self.board({**files, "m.json": manifest([f"t{bad}.gbr"])}, "refused")
+        forms = ("--json", "f.json", "--junit", "f.xml", "--rdb", "f.lyrdb", "--page", "f.html", "--svg", "f.svg", "--record", "f.record")
+        for path, words in ((f"a{bad}", ()), (f"a{bad}", ("-q",)), ("own", ("--yes",)), ("own", ("-q",)), ("refused", ()), (f"nowhere{bad}", ())):
+            status, out, notes = self.show(path, *words, *forms)
+            self.assertIn(status, (1, 3, 4, 10))
+            texts = [out, notes, *(self.read(name) for name in (forms[1::2] if status == 1 else forms[1:6:2]))]
+            for text in [*texts, *(unpacked(text)[0]["names"] for text in texts if "<script id=" in text)]:
+                self.assertFalse(set(bad) - set("[2J") & set("".join(text)), path)
+        self.assertIn("GND\\u001b[2J\\u202e\\u2028\\u009b\\u0007 is in 2 parts", self.show(f"a{bad}")[1])
+        names = [it["names"] for it in json.loads(self.show(f"a{bad}", "--json", "-")[1])["boards"][0]["findings"]]
+        self.assertEqual(names, [[f"GND{bad}"]])
+        self.board({f"x{bad}.txt": "text", f"y{bad}.gbr": gerber("%TF.FileFunction,Copper,L1,Top*%")}, "made")
+        done = self.run_words([os.path.join(common.TOOLS, "manifest"), "made"])
+        self.assertFalse(set(bad) - set("[2J") & set("".join(done[1:])), done)
 
     def test_output_that_cannot_be_written(self):
         self.board(BAD)

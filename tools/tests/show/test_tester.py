@@ -1,9 +1,11 @@
 """The netlist for a tester, and a board against another one, over the stand-in and over the built program."""
+import json
 import os
 import re
 import shutil
 import types
 import unittest
+from xml.dom import minidom
 
 import common
 import made
@@ -231,7 +233,7 @@ class Likenesses(made.Case):
                 self.board(board)
                 told, out, _ = self.show("board", "--like", "other", *words, program=made.built() or made.STAND_IN)
                 self.assertEqual(told, status, out)
-                for line in (f"like other: {lines[0]}\n", *lines[1:]):
+                for line in (f"like other: {lines[0]}; not compared: 1 net without a record, first NET", *lines[1:]):     # that of the arc
                     self.assertIn(line, out)
 
     def test_moved_and_panel(self):
@@ -246,6 +248,55 @@ class Likenesses(made.Case):
                 self.assertIn(words, out)
                 if status:
                     self.assertIn("There top.gbr command 39 is near that place, the one layer (top.gbr) at 1.500, 0.500 mm", out)
+
+    def test_what_is_not_compared(self):
+        """Nets without a pad, areas that no file calls a pad, pads that are drawn: what has no record is told; with a pin it is compared."""
+        square = lambda x: region((x, 0), (x + 1, 0), (x + 1, 1), (x, 1))
+        pads = [*flash(10, (30, 0), (35, 0))]
+        areas = [*square(0), *square(5)]
+        rows = [
+            ([*areas, *draw(11, (0, 0), (5, 0)), *pads], [*areas, *pads], 0, "; not compared: 1 net without a record, first NET0 (top.gbr command 12)"),
+            ([*flash(10, (0, 0)), *square(5), *draw(11, (0, 0), (5, 0)), *pads], [*flash(10, (0, 0)), *square(5), *pads], 0, "; not compared: 1 area that no file calls a pad"),
+            (["%TO.P,U1,1*%", *square(0), "%TO.P,U1,2*%", *square(5), "%TD*%", *draw(11, (0, 0), (5, 0)), *pads], [*areas, *pads], 1, ""),
+            (pads, pads, 0, ""),
+            (["%TO.P,U1,1*%", *draw(10, (30, 0), (30, 1)), "%TD*%", *pads], pads, 0, "; not compared: 1 area that no file calls a pad"),
+        ]
+        for other, board, status, words in rows:
+            files = lambda lines: {"m.json": manifest(), "top.gbr": gerber(*lines), "n.ipc": netlist(record("A", "J.1", 30, 0), record("B", "J.2", 35, 0))}
+            for program in self.over_both():
+                told, out, _ = self.compared(files(board), files(other), program=program)
+                line = "1 parted net" if status else "joins what it joins"
+                self.assertEqual(told, status, out)
+                self.assertIn(f"like other: {line}{words}\n", out)
+                like = json.loads(self.show("board", "--like", "other", "--json", "-", program=program)[1])["boards"][0]["like"]
+                self.assertEqual(like["not_compared"], words[len("; not compared: "):])
+
+    def test_every_form(self):
+        """Each cause of a status that is not 0 is in every form: the comparison, what is unlike a record, what is not known."""
+        self.board(one(*spread(0, 0, (0, 1))))
+        self.board(one(*spread(0, 0, (0, 1), (2, 5))), "other")
+        self.assertEqual(self.show("other", "--record", "r.json")[0], 0)
+        forms = ("--json", "f.json", "--junit", "f.xml", "--rdb", "f.lyrdb", "--page", "f.html")
+        rows = [(("--like", "other"), 1, "failure", "parted-0", "NET1: U1 pin 5 (the one layer, 9.000, 4.000 mm) is not joined to U1 pin 2"),
+                (("--verify", "r.json"), 1, "failure", "record", "top.gbr is another file"), (("--verify", "none.json"), 12, "error", "record", "not verified: none.json"),
+                (("--like", "nowhere"), 12, "error", "like nowhere", "not compared with nowhere: ")]
+        for words, status, word, name, told in rows:
+            self.assertEqual(self.show("board", *words, *forms)[0], status)
+            (found,) = minidom.parse(self.path("f.xml")).getElementsByTagName(word)
+            self.assertEqual((found.getAttribute("message"), told in found.firstChild.data), (name, True), found.toxml())
+            self.assertEqual(minidom.parse(self.path("f.xml")).getElementsByTagName("testsuite")[0].getAttribute(f"{word}s"), "1")
+            items = [it for it in minidom.parse(self.path("f.lyrdb")).getElementsByTagName("item")]
+            self.assertTrue(items and told in items[0].toxml(), items)
+            self.assertIn(told, self.read("f.json"))
+            self.assertIn(told.replace('"', "&quot;"), self.read("f.html"))
+        self.assertEqual(self.show("board", "--like", "board", *forms)[0], 0)
+        self.assertEqual([len(minidom.parse(self.path(name)).getElementsByTagName(tag)) for name, tag in (("f.xml", "failure"), ("f.xml", "error"), ("f.lyrdb", "item"))], [0] * 3)
+
+    def test_one_pad(self):
+        """A board of one pad says nothing."""
+        other = {**one(*flash(10, (0, 0)))}
+        status, out, _ = self.compared(one(*spread()), {**other, "n.ipc": netlist(record("A", "J.1", 0, 0))})
+        self.assertEqual((status, "not compared with other: " in out), (12, True), out)
 
     def test_what_cannot_be_compared(self):
         incremental = {**one(*spread()), "top.gbr": "%FSLAX46Y46*%\n%MOMM*%\nG91*\nM02*\n"}

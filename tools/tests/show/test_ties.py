@@ -82,7 +82,7 @@ class Ties(made.Case):
     def test_a_tie_that_is_not_there(self):
         for program in self.over_both():
             status, out, board = self.tied(words=["--tie", "GND=AGND", "--tie", "GND=VCC"], program=program)
-            self.assertEqual((status, board["opens"], [it["net"] for it in board["ties"]]), (1, 1, [0, None]))
+            self.assertEqual((status, board["opens"], board["open_ties"], [it["net"] for it in board["ties"]]), (1, 0, 1, [0, None]))
             found = board["findings"][0]
             self.assertEqual((found["id"], found["kind"], found["gap"]["distance"], sorted(found["names"])), ("open-0", "open", 4, ["GND", "VCC"]))
             self.assertTrue(found["words"].startswith("GND and VCC are declared to be tied (--tie) and no copper joins them: "), found["words"])
@@ -95,11 +95,12 @@ class Ties(made.Case):
     def test_a_name_that_is_not_there(self):
         for words in (["--tie", "GND=AGMD"], ["--tie", "A=B"]):
             status, out, board = self.tied(words=["--tie", "GND=AGND", *words])
-            self.assertEqual((status, board["opens"], self.failures()), (1, 1, ["ties"]))
+            self.assertEqual((status, board["opens"], board["open_ties"], self.failures()), (1, 0, 1, ["ties"]))
             self.assertIn(f"the tie {words[1]} (--tie) is open: no test point has the name ", out)
             found = [(it["id"], it["kind"], it["names"], it["points"]) for it in board["findings"]]
             self.assertEqual((found, board["findings"][0]["words"] in board["notes"]), ([("tie-0", "tie", words[1].split("="), [])], True))
             self.assertIn("is open", self.show("board", "-q", "--tie", "GND=AGND", *words)[1])
+            self.assertIn("is open", minidom.parse(self.path("b.lyrdb")).getElementsByTagName("item")[0].toxml())
 
     def test_no_tie(self):
         for words, text, what in ((["--tie", "GND"], None, "--tie: `GND`"), (["--tie", "GND=GND"], None, "--tie: "), (["--tie", "N/C=GND"], None, "--tie: "),
@@ -122,7 +123,7 @@ class Ties(made.Case):
         """A page and a marker database of a board whose shorts are all ties."""
         self.tied()
         self.assertEqual(self.show("board", "--tie", "GND=AGND", "--page", "p.html", "--rdb", "p.lyrdb")[0], 0)
-        self.assertIn("Agrees, with 1 declared tie: the copper joins exactly the points that the netlist joins or the ties do.", self.read("p.html"))
+        self.assertIn("Agrees, with 1 declared tie; the report itself says: differs, opens 0, shorts 1, missing 0. The copper joins exactly the points that the netlist joins or the ties do.", self.read("p.html"))
         self.assertEqual(len(minidom.parseString(self.read("p.lyrdb")).getElementsByTagName("item")), 0)
 
     def test_kept(self):
@@ -141,7 +142,7 @@ class Ties(made.Case):
             told = self.tied(arc, words=["--tie", "GND=AGND", "--tie", "GND=AGMD"], program=program)
             self.assertEqual((told[0], "the tie GND=AGMD (--tie) is open: no test point has the name AGMD" in told[1]), (1, True), told[1])
             board = json.loads(self.show("board", "--tie", "GND=AGND", "--tie", "GND=AGMD", "--json", "-", program=program)[1])["boards"][0]
-            self.assertEqual([board[word] for word in ("opens", "shorts", "missing")], [1, 0, 0])
+            self.assertEqual([board[word] for word in ("opens", "shorts", "missing", "open_ties", "certain", "undecided")], [0, 0, 0, 1, 1, 0])
             self.assertEqual([(it["id"], it["sure"]) for it in board["findings"]], [("tie-0", True)])
 
 
