@@ -2,7 +2,7 @@
 from types import SimpleNamespace
 
 FLAGS = ("-q", "--all", "--labels", "--yes", "--no-drills", "--help", "-h")
-WITH_VALUES = ("--page", "--svg", "--at", "--json", "--junit", "--rdb", "--keep", "--netlist", "--ipc", "--like", "--gaps", "--record", "--verify")
+WITH_VALUES = ("--page", "--svg", "--at", "--json", "--junit", "--sarif", "--rdb", "--format", "--keep", "--netlist", "--ipc", "--like", "--gaps", "--record", "--verify")
 OFTEN = ("--tie",)
 USAGE = "boardnet show PATH.. [OPTION ..]; boardnet show --help prints all"
 

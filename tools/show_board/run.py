@@ -39,6 +39,8 @@ def words(given):
     if asked.gaps is not None:
         from . import spacing
         asked.gaps = spacing.asked_distance(asked.gaps) or options.wrong("--gaps wants millimetres, over 0 and at most 10, with at most seven decimals")
+    if asked.format not in (None, "text", "github"):
+        options.wrong("--format is text or github")
     if asked.at and not asked.svg:
         options.wrong("--at says which finding --svg draws")
     return asked
@@ -52,7 +54,10 @@ def status_of(all_shown):
 
 def told(asked, all_shown):
     """What is printed."""
-    if asked.q:
+    if asked.format == "github":
+        from . import annotations
+        rows = [row for shown in all_shown for row in annotations.rows(shown)]
+    elif asked.q:
         rows = [row for shown in all_shown for row in lines.quiet(shown)]
     elif len(all_shown) > 1:
         rows = [lines.summary(shown) for shown in all_shown]
@@ -70,6 +75,9 @@ def forms(asked, all_shown):
     if asked.junit:
         from . import junit
         yield asked.junit, junit.text(all_shown)
+    if asked.sarif:
+        from . import sarif
+        yield asked.sarif, sarif.text(all_shown)
     if asked.rdb:
         from . import rdb
         yield asked.rdb, rdb.text(first)
