@@ -4,19 +4,20 @@ The box is that of the centre lines of the profile file, where the folder has on
 all objects of all copper files. Outside it nothing is dark.
 """
 import os
-import re
+
+from mends import attributes
 
 from .clear import Object, box
 from .exact import Refused
 
-PROFILE = re.compile(r"%TF\.FileFunction,Profile\b")
 HEAD = 4096         # bytes of a file in which its function is looked for
 FRAME = 10 ** 7     # how far beyond the box and all objects what lies outside is taken away
 
 
 def is_negative(word):
-    """Whether a word says that a file is one."""
-    return word == "IPNEG" or word.startswith("TF.FilePolarity,") and word.split(",")[1].strip() == "Negative"
+    """Whether a word says that a file is one, also in a comment, or with blanks and small letters."""
+    said = attributes.said_by(word.encode("latin-1")).decode("latin-1") if word.startswith("G04") else word
+    return word == "IPNEG" or said.startswith("TF.FilePolarity,") and said.split(",")[1].strip().lower() == "negative"
 
 
 def centre_lines(piece):
@@ -38,7 +39,7 @@ def profile_of(folder):
         try:
             if os.path.isfile(path):
                 with open(path, "rb") as file:
-                    if PROFILE.search(file.read(HEAD).decode("latin-1")):
+                    if any(it.fields[1:2] == [b"Profile"] for it in attributes.functions(file.read(HEAD))):
                         file.seek(0)
                         return file.read().decode("latin-1")
         except OSError:
