@@ -52,6 +52,17 @@ def negatives(data: bytes) -> List[Attribute]:
     return [it for it in of_file(data, b"TF.FilePolarity") if it.is_named(b".FilePolarity") and b"".join(it.fields[1:2]).strip().lower() == NEGATIVE]
 
 
-def has_names(data: bytes, field: bytes) -> bool:
-    """Whether a file has an attribute of objects of this name, as `.N`, with something in it."""
-    return any(it.kind == b"TO" and it.is_named(field) and len(it.fields) > 1 for it in of_file(data, b"TO" + field))
+def has_names(data: bytes, name: bytes, field: int = 1) -> bool:
+    """Whether a file has an attribute of objects of this name, as `.N`, with something in a field behind it."""
+    return any(it.kind == b"TO" and it.is_named(name) and b"".join(it.fields[field:field + 1]).strip() for it in of_file(data, b"TO" + name))
+
+
+def written(data: bytes) -> bytes:
+    """A file with its attributes in comments written as those that they are, which keeps the numbers of commands."""
+    parts, at = [], 0
+    for it in holding(data, b"#@!"):
+        said = b"" if it.inside else said_by(it.text)
+        if said:
+            parts += [data[at:it.start], b"%" + said + b"*%"]
+            at = it.end + 1
+    return b"".join([*parts, data[at:]])

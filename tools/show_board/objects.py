@@ -7,6 +7,8 @@ import re
 from fractions import Fraction as Q
 from typing import NamedTuple
 
+from mends import attributes
+
 from .drawn import OPERATION
 from .exact import DECIMAL, Refused
 from .macros import Expression
@@ -109,6 +111,9 @@ class Walk:
         found = PLACED.fullmatch(word)
         if found:       # most words
             self.operation(*found.groups())
+            return
+        if word.startswith("G04"):
+            self.attributes.word(attributes.said_by(word.encode("latin-1")).decode("latin-1"))
             return
         picked = PICKED.fullmatch(word)
         if picked and int(picked[1]) >= 10:

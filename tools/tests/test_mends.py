@@ -288,6 +288,9 @@ def is_in(contour, x, y):
     return within
 
 
+COMB = [(0, 0), (0, 9), (2, 9), (2, 2), (4, 2), (4, 9), (6, 9), (6, 2), (8, 2), (8, 9), (10, 9), (10, 0), (0, 0)]
+
+
 class Contours(common.Case):
     """Contours cut at a lower limit: the parts' copper is compared with the whole's at many places, on edges and beside them."""
 
@@ -341,14 +344,40 @@ class Contours(common.Case):
         self.assertIsNone(chords.cut([ring[5 * k % 11] for k in range(11)]))
         self.assertIsNone(chords.cut([(k, 0) for k in range(12)]))
 
+    def test_words_and_not_bytes(self):
+        """A comment that ends with a region's words begins and ends none, and one with a word that erases is no such word."""
+        from mends import long_contours
+        for module in (copper_file, long_contours):
+            self.addCleanup(setattr, module, "MOST_EDGES", module.MOST_EDGES)
+            module.MOST_EDGES = 8
+        edges = "X0Y0D02*\n" + "".join(f"X{1000 * x}Y{1000 * y}D01*\n" for x, y in COMB[1:])
+        small = "G36*\nX0Y0D02*\nX1000Y0D01*\nX1000Y1000D01*\nX0Y0D01*\nG37*\n"
+        for head, foot in (("G04 a G36*\n", "G04 b G37*\n"), ("G04 a G36*\n", small), ("G04G36*\n", "G04 a*G04 G37*\n"), ("G37*\n", "G37*\n")):
+            text = (HEAD + PADS + head + edges + foot + END).encode()
+            self.assertEqual(copper_file.mended(text), (text, []), head)
+        for body in (edges, "G04 G37*\n" + edges, edges.replace("D01*\n", "D01*\nG04 LPC*\n", 1), edges + "G04 G03*\n"):
+            text = (HEAD + "G04 no LPC*\nG04*\nG04 SRX2*\n" + "G36*\n" + body + "G37*\n" + PADS + END).encode()
+            data, mends = copper_file.mended(text)
+            self.assertEqual([it.kind for it in mends], [table.CONTOUR], body)
+            self.assertTrue(data.endswith(b"G37*\nM02*\n"))
+        ends = (HEAD + "G36*\n" + edges + "G37*\n" + PADS + "M02*\nG04 M02*\n").encode()
+        self.assertEqual(copper_file.mended(ends), (ends, []))
+
+    def test_the_name_in_force(self):
+        """The other parts have the net name in force behind the contour, by the words that give one."""
+        from mends import long_contours
+        names = "%TO.N,A*%\nG04 TO.N,B*\n%INTO.N,C*%\n"
+        for text, name in ((names, b"A"), (names + "%TO.P,U1,1*%\n", b"A"), (names + "%TD.P*%\n", b"A"), (names + "%TD*%\n", b""), (names + "%TD.N*%\n", b""),
+                           (names + "%TO.N,D*TO.P,U1,2*%\n", b"D"), (names + "%TD.N*TO.N,E,F*%\n", b"E,F"), ("G04 TD*\n", b"")):
+            self.assertEqual(long_contours.name_before(text.encode() + b"%TO.N,Z*%", len(text)), b"%TD*%\n" + (b"%TO.N," + name + b"*%\n" if name else b""), text)
+
     def test_file(self):
         """The first part stays in its words, the others follow at the end with the net name of the contour."""
         from mends import long_contours
         for module in (copper_file, long_contours):
             self.addCleanup(setattr, module, "MOST_EDGES", module.MOST_EDGES)
             module.MOST_EDGES = 8
-        comb = [(0, 0), (0, 9), (2, 9), (2, 2), (4, 2), (4, 9), (6, 9), (6, 2), (8, 2), (8, 9), (10, 9), (10, 0), (0, 0)]
-        text = (HEAD + "%TO.N,GND*%\nG36*\nX0Y0D02*\n" + "".join(f"X{1000 * x}Y{1000 * y}D01*\n" for x, y in comb[1:]) + "G37*\n%TO.N,SIG*%\n" + PADS + END).encode()
+        text = (HEAD + "%TO.N,GND*%\nG36*\nX0Y0D02*\n" + "".join(f"X{1000 * x}Y{1000 * y}D01*\n" for x, y in COMB[1:]) + "G37*\n%TO.N,SIG*%\n" + PADS + END).encode()
         data, mends = copper_file.mended(text)
         self.assertEqual([(it.kind, it.line) for it in mends], [(table.CONTOUR, 6)])
         before, after = data.split(b"%TD*%\n%TO.N,GND*%\nG01*\nG36*\n")
