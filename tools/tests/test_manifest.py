@@ -190,6 +190,25 @@ class Manifest(common.Case):
         self.taken(files, WRITTEN, words=["--yes"])
         self.taken({**TWO, "x.drl": drill("", ";TYPE=NON_PLATED\n")}, WRITTEN, "TYPE=NON_PLATED, so its holes join nothing")
 
+    def test_a_word_counts_for_what_stands_behind_it(self):
+        """Of two tools the one is called unplated: the file is not left out, and what is not said is asked for."""
+        two_tools = "T2C1.0\n%\nT1\nX0.0Y0.0\nT2\nX3.0Y0.0\nM30\n"
+        for text, word in [
+            (drill("", "").replace("%\nT1\nX0.0Y0.0\nM30\n", ";TYPE=NON_PLATED\n" + two_tools), "p.drl: line 10 makes a hole that the file itself calls unplated"),
+            (drill("", "").replace("M30", ";TYPE=NON_PLATED\nX3.0Y0.0\nM30"), "p.drl: line 8 makes a hole that the file itself calls unplated"),
+            (drill("", ";T01 Holesize 1. = 63.0 Tolerance = +0.0/-0.0 PLATED MILS\n;T02 Holesize 2. = 63.0 NON_PLATED MILS\n"), "say --yes"),
+            (drill("", "").replace("M30", ";TYPE=NON_PLATED\nM30"), "say --yes"),
+            (";TYPE=PLATED\n" + drill("", ";TYPE=OTHER\n"), "say --yes"),
+        ]:
+            with self.subTest(text=text):
+                self.refused(two(p_drl=text), word)
+        for text in (drill("", ";T01 Holesize 1. = 63.0 Tolerance = +0.0/-0.0 NON_PLATED MILS\n"), "; NON-PLATED HOLES START AT T1\n" + drill(),
+                     drill("", "").replace("X0.0", ";TYPE=NON_PLATED\nX0.0"), drill("", ";TYPE=NON_PLATED\n"), drill("", "; #@! TA.AperFunction,NonPlated\n").replace("C0.4", "C+0.4")):
+            with self.subTest(text=text):
+                self.taken({**TWO, "q.drl": text}, WRITTEN, "left out: q.drl: ", "so its holes join nothing")
+        notes = self.taken(two(p_drl=drill("", ";TYPE=PLATED\n").replace("%", ";TYPE=X\nT2C1.0\n%", 1)), WRITTEN, words=["--yes"])
+        self.assertIn("p.drl: it says of some of its tools that they are plated, nothing of others (T2)", notes)
+
     def test_copper_by_other_evidence(self):
         name = "%LN{}*%\n"
         rows = [
