@@ -5,6 +5,7 @@ all objects of all copper files. Outside it nothing is dark.
 """
 import os
 
+from manifest_files import MOST_BYTES
 from mends import attributes
 
 from .clear import Object, box
@@ -37,7 +38,7 @@ def profile_of(folder):
     """The text of the profile file of a folder, or None; a file that cannot be read says nothing."""
     for path in (os.path.join(folder, name) for name in sorted(os.listdir(folder))):
         try:
-            if os.path.isfile(path):
+            if os.path.isfile(path) and os.path.getsize(path) <= MOST_BYTES:
                 with open(path, "rb") as file:
                     if any(it.fields[1:2] == [b"Profile"] for it in attributes.functions(file.read(HEAD))):
                         file.seek(0)

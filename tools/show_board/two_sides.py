@@ -105,10 +105,11 @@ class Copper(Settings, Definitions, Operations, Regions):
         """Ends a block, whose objects give way to their copies, and may open one."""
         if self.copies:
             first, columns, rows, x, y = self.copies
-            once = self.objects[first:]
+            # Copies of nothing are none, however many: `check` takes them.
+            once = [it for it in self.objects[first:] if any(it.both)]
             if len(once) * columns * rows > MOST_OBJECTS:
                 raise Refused("too many copies")
-            self.objects[first:] = [it.moved(i * x, j * y) for i in range(columns) for j in range(rows) for it in once]
+            self.objects[first:] = [it.moved(i * x, j * y) for i in range(columns) for j in range(rows) for it in once] if once else []
         step = self.step(word)
         self.copies = (len(self.objects), *step) if step else None
 
