@@ -1,6 +1,10 @@
 """What copper files say of themselves is judged for their place: before macros are flattened, and in comments, which `check` passes over."""
+import re
+
 import made
-from made import draw, flash, gerber, manifest, netlist, record
+from made import draw, flash, gerber, label, manifest, netlist, record
+from mends import attributes
+from show_board import objects
 
 MACRO = ["%AMRound*\n1,1,1.0,0,0*%", "%ADD13Round*%"]
 NAMES = ("top.gbr", "in1.gbr", "in2.gbr", "bot.gbr")
@@ -72,6 +76,37 @@ class Said(made.Case):
                 answers.add((status, out.splitlines()[-1]))
         (status, line), = answers
         self.assertEqual((status, line.split(",")[:2]), (1, ["board: differs", " between two bounds: 2 findings certain (lower differs"]), line)
+
+    def commented(self, lines):
+        """Lines whose attributes are comments."""
+        return [re.sub(r"^%(T[AOD][^*]*)\*%$", r"G04 #@! \1*", line) for line in lines]
+
+    def test_names_in_comments(self):
+        """Pads are named by comments as by attributes: for a board without a netlist, for a short's labels, and for what stands on a layer."""
+        pads = ["%TA.AperFunction,SMDPad*%", "%ADD14C,1.0*%", "%TO.P,U1,1*%", *label("GND"), *flash(14, (0, 0)), "%TO.P,U1,2*%", *label("VCC"), *flash(14, (10, 0)), "%TD*%", *draw(11, (0, 0), (10, 0))]
+        answers = set()
+        for lines in (pads, self.commented(pads)):
+            self.board({"top.gbr": said("TF.FileFunction,Copper,L1,Top", lines != pads) + gerber(*lines)}, f"board{len(answers)}")
+            status, out, _ = self.show(f"board{len(answers)}", "--no-drills")
+            answers.add((status, out.replace(f"board{len(answers)}", "board").split("names: ")[0], "By the files' labels" in out))
+        self.assertEqual([(status, is_labelled) for status, _, is_labelled in answers], [(1, True)], answers)
+        found = [objects.objects_of(gerber(*lines).encode()) for lines in (pads, self.commented(pads))]
+        self.assertEqual(found[0], found[1])
+        self.assertEqual([(it.function, it.net, it.part, it.pin) for it in found[1]], [("SMDPad", "GND", "U1", "1"), ("SMDPad", "VCC", "U1", "2"), ("", "", "", "")])
+
+    def test_comments_that_name_nothing(self):
+        """A comment that only speaks of pins is none of an attribute: pads of nets stay test points."""
+        for comment in ("G04 without TO.P, here*", "G04 TO.P,U1,1*", "G04 #@ TO.P,U1,1*", "%TF.Part,TO.P,U1,1*%"):
+            lines = [comment, *label("GND"), *flash(10, (0, 0)), *label("GND"), *flash(10, (10, 0)), "%TD*%", *draw(11, (0, 0), (10, 0))]
+            self.board({"top.gbr": said("TF.FileFunction,Copper,L1,Top", False) + gerber(*lines)})
+            status, out, _ = self.show("board", "--no-drills")
+            self.assertEqual((status, "names: 2 test points of 1 net" in out), (0, True), out)
+
+    def test_written(self):
+        """A file with its attributes in comments, as the attributes that they are; the numbers of its words stay."""
+        rows = [(b"G04 #@! TO.N,GND*", b"%TO.N,GND*%"), (b"G04 #@!TD*\nG04 a*", b"%TD*%\nG04 a*"), (b"G04 a #@! TO.N,GND*", None), (b"%INa #@! TO.N,GND*%", None), (b"G04 #@! XX*", None)]
+        for text, wanted in rows:
+            self.assertEqual(attributes.written(text), wanted or text)
 
     def test_negative_twice(self):
         self.board({**board(), "in1.gbr": copper(2, more="%TF.FilePolarity,Negative*%\nG04 #@! TF.FilePolarity,Negative*\n")})
