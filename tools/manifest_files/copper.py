@@ -17,6 +17,8 @@ INNER = re.compile(r"in(\d+)[._]cu|\.g(\d+)$|\.gl(\d+)$|inner[._ -]?(?:layer)?[.
 # What the numbers of INNER count: those from 1 alone, those that may be layers of the board, and groups of pcb-rnd, which have gaps.
 INNER_KINDS = ("inner from 1", "inner from 1", "inner", "inner", "intern", "inner from 1")
 PLANE = re.compile(r"\.gp(\d+)$", re.I)
+BY_HAND = "write the manifest by hand, or export Gerber X2"
+RANK = {"top": 0, "inner from 1": 1, "inner": 1, "intern": 1, "group": 1, "layer": 1, "plane": 1, "order": 1, "bottom": 2}
 # A layer's name of gEDA pcb, which writes a file for each group of layers.
 GROUP = re.compile(r"group(\d+)$", re.I)
 NUMBERED = re.compile(r"(?:^|[._ -])(?:l|layer)[._ -]?0*([1-9]\d?)(?:[._ -]|$)", re.I)
@@ -43,10 +45,12 @@ def layer_name_of(data):
     return next((it.text[2:].decode("ascii", "replace") for it in holding(data, b"LN") if it.inside and it.text.startswith(b"LN")), "")
 
 
-def order_of(data):
+def order_of(name, data):
     """The number that a file's comment gives its copper among that of the board, or None."""
-    found = {int(match[1]) for match in (ORDER.fullmatch(it.text) for it in holding(data, b"Layer_Physical_Order") if not it.inside) if match}
-    return found.pop() if len(found) == 1 else None
+    found = sorted({int(match[1]) for match in (ORDER.fullmatch(it.text) for it in holding(data, b"Layer_Physical_Order") if not it.inside) if match})
+    if len(found) > 1:
+        raise Refused(f"{name} says Layer_Physical_Order={found[0]} and {found[1]}: {BY_HAND}")
+    return found[0] if found else None
 
 
 def layer_of(name, function):
@@ -92,19 +96,16 @@ def named(name, data):
 def guess_of(name, data):
     """What a file without an attribute may be by other evidence, and which; nothing where that is no copper."""
     place, what = named(name, data) or (None, "")
-    order = order_of(data)
+    order = order_of(name, data)
     if order is not None:
         return ("order", order, place), f"its comment says Layer_Physical_Order={order}"
     return (place, what) if place else None
 
 
 def is_named_otherwise(name, data):
-    """Whether a name says that a file is no copper."""
-    return named(name, data) is not None and guess_of(name, data) is None
-
-
-RANK = {"top": 0, "inner from 1": 1, "inner": 1, "intern": 1, "group": 1, "layer": 1, "plane": 1, "order": 1, "bottom": 2}
-BY_HAND = "write the manifest by hand, or export Gerber X2"
+    """Whether a name says that a file is no copper, and none that it is an inner layer besides, as where a board's own name has such a word."""
+    is_inner = any(pattern.search(text) for pattern in (INNER, PLANE, NUMBERED) for text in (name, layer_name_of(data)))
+    return named(name, data) is not None and not is_inner
 
 
 def in_order(guesses):

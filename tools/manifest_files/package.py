@@ -18,6 +18,8 @@ class Package:
     def __init__(self):
         self.layers, self.guesses, self.drills, self.netlists = [], [], [], []
         self.left_out, self.origins, self.board_layers = [], {}, None
+        # What is left out, although it may be copper by what it says.
+        self.doubtful = []
         # Files that count and cannot stand as they are.
         self.amiss = {}
         # Whether a Gerber file says of which nets or pins its objects are.
@@ -73,7 +75,10 @@ class Package:
         elif function.startswith(("Plated,", "NonPlated,", "MixedPlating,")):
             self.leave_out(name, "it is a drill file in the Gerber format: export it in the Excellon format")
         else:
-            self.leave_out(name, f"its function is {function}")
+            why = f"its function is {shown(function)}"
+            self.leave_out(name, why)
+            if any(it.strip().lower().startswith("copper") for it in said):
+                self.doubtful.append((name, why))
 
     def copper(self):
         """The copper layers in order, said or guessed."""
@@ -136,7 +141,7 @@ class Plan:
         if not package.is_whole(layers):
             # A name may say that a file is no copper where names say what is; where attributes do, and one is missing, no name counts.
             doubtful = (NO_COPPER,) if layers[0].why else (NO_COPPER, OTHERWISE)
-            self.guessed += [(name, "no copper, left out", why) for name, why in package.left_out if why in doubtful]
+            self.guessed += [(name, "no copper, left out", why) for name, why in package.left_out if why in doubtful or (name, why) in package.doubtful]
         self.has_points = netlist.records > 0
         self.netlist = netlist.name
         self.manifest = {

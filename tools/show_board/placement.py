@@ -71,7 +71,7 @@ def moved(text, form, by):
 
 
 def other_unit(text):
-    return re.sub(r"^(P +UNITS +CUST +)([01])", lambda m: m[1] + ("1" if m[2] == "0" else "0"), text, count=1, flags=re.M)
+    return re.sub(r"^(P[ \t]*UNITS[ \t]+CUST[ \t]+)([01])", lambda m: m[1] + ("1" if m[2] == "0" else "0"), text, count=1, flags=re.M)
 
 
 # ---- centres

@@ -266,6 +266,7 @@ class Manifest(common.Case):
         for files, word in [
             (board(1, 2, 3, 5), "copper layers 1, 2, 3, 5 by Layer_Physical_Order are not 1 to 5 without a gap"),
             (board(2, 3, 4), "are not 1 to 4 without a gap"),
+            (board("1*\nG04 Layer_Physical_Order=2", 2, 3, 4), "a.GTL says Layer_Physical_Order=1 and 2"),
             (board(1, 2, 2, 3), "both look like the same copper layer"),
             (board(4, 2, 3, 1), "d.GBL says Layer_Physical_Order=1 of 4, and its name says another place"),
             (board(1, 2, 3, names=("a.GTL", "b.G1", "c.G2")), "c.G2 says Layer_Physical_Order=3 of 3, and its name says another place"),
@@ -298,6 +299,9 @@ class Manifest(common.Case):
         self.assertIn("would be taken as no copper, left out: mystery.gbr: ", notes)
         self.assertNotIn("would be taken as no copper, left out: x.gts", notes)
         self.taken({**names, "mystery.gbr": copper()}, written, "taken as no copper, left out: mystery.gbr", words=["--yes"])
+        for name, text in (("x-mask-In1_Cu.gbr", copper()), ("keep_l2.gbr", copper()), ("y.gbr", copper("Copper,2,Inr")), ("y.gbr", copper("copper,L2")),
+                           ("z.gbr", " " * 100_000 + copper())):
+            self.assertIn(f"would be taken as no copper, left out: {name}: ", self.refused({**names, name: text}, "say --yes"))
         notes = self.refused({**names, "mystery.gbr": copper(), "x.gbrjob": '{"GeneralSpecs": {"LayerNumber": 2}}'}, "say --yes")
         self.assertNotIn("mystery.gbr: it is a Gerber file without the attribute TF.FileFunction, and no name says that it is copper\nwould", notes)
         self.assertNotIn("would be taken as no copper", notes)
