@@ -1,18 +1,26 @@
-"""Copper layers: by the attribute that says so, else by the layer name or the file name, which is a guess."""
+"""Copper layers: by the attribute that says so, else by the order in a comment, the layer name or the file name, which is a guess."""
 import re
+
+from mends import attributes
+from mends.copper_words import holding
 
 from . import Refused, shown
 
-FUNCTION = re.compile(rb"(?:%|G04 #@! ?)TF\.FileFunction,([^*\r\n]*)")
 COPPER = re.compile(r"Copper,L([1-9][0-9]{0,8})(?:,(Top|Inr|Bot))?(?:,|$)")
-ORIGIN = re.compile(rb"(?:%|G04 #@! ?)TF\.SameCoordinates(?:,([^*\r\n]*))?\*")
-LAYER_NAME = re.compile(rb"%LN([^*%\r\n]*)\*")
+# Altium and Protel count the copper layers of a board, from 1 at the top.
+ORDER = re.compile(rb"G04[ \t]*Layer_Physical_Order[ \t]*=[ \t]*([0-9]{1,9})[ \t]*")
 # Names that have a side and are no copper.
 NO_COPPER = re.compile(r"mask|paste|silk|legend|outline|assy|assembly|court|fab|adhes|drill|boundary|edge|keep|\.gt[spo]$|\.gb[spo]$|\.gm\d*$|\.gko$", re.I)
 TOP = re.compile(r"f[._]cu|\.gtl$|\.cmp$|\.top$|(?:^|[._ -])(?:top|front|component)(?:[._ -]|$)|top[._ -]?(?:copper|layer)|copper[._ -]?top", re.I)
 BOTTOM = re.compile(r"b[._]cu|\.gbl$|\.sol$|\.bot$|(?:^|[._ -])(?:bot|bottom|back|solder)(?:[._ -]|$)|bot(?:tom)?[._ -]?(?:copper|layer)|copper[._ -]?bot", re.I)
-INNER = re.compile(r"in(\d+)[._]cu|\.gl?(\d+)$|inner[._ -]?(?:layer)?[._ -]?(\d+)|intern.*?(\d+)(?:\.\w+)?$|mid[._ -]?(?:layer)?[._ -]?(\d+)", re.I)
+INNER = re.compile(r"in(\d+)[._]cu|\.g(\d+)$|\.gl(\d+)$|inner[._ -]?(?:layer)?[._ -]?(\d+)|intern.*?(\d+)(?:\.\w+)?$|mid[._ -]?(?:layer)?[._ -]?(\d+)", re.I)
+# What the numbers of INNER count: those from 1 alone, those that may be layers of the board, and groups of pcb-rnd, which have gaps.
+INNER_KINDS = ("inner from 1", "inner from 1", "inner", "inner", "intern", "inner from 1")
 PLANE = re.compile(r"\.gp(\d+)$", re.I)
+BY_HAND = "write the manifest by hand, or export Gerber X2"
+RANK = {"top": 0, "inner from 1": 1, "inner": 1, "intern": 1, "group": 1, "layer": 1, "plane": 1, "order": 1, "bottom": 2}
+# A layer's name of gEDA pcb, which writes a file for each group of layers.
+GROUP = re.compile(r"group(\d+)$", re.I)
 NUMBERED = re.compile(r"(?:^|[._ -])(?:l|layer)[._ -]?0*([1-9]\d?)(?:[._ -]|$)", re.I)
 
 
@@ -23,14 +31,26 @@ class Layer:
         self.name, self.number, self.side, self.why = name, number, side, why
 
 
-def function_of(data):
-    found = FUNCTION.search(data)
-    return found.group(1).decode("ascii", "replace") if found else None
+def functions_of(data):
+    """What a file says that it is, each once."""
+    return list(dict.fromkeys(it.text() for it in attributes.functions(data)))
 
 
 def origin_of(data):
-    found = ORIGIN.search(data)
-    return None if not found else (found.group(1) or b"").decode("ascii", "replace")
+    return next((it.text() for it in attributes.of_file(data, b"TF.SameCoordinates") if it.is_named(b".SameCoordinates")), None)
+
+
+def layer_name_of(data):
+    """The layer's name that a file gives itself."""
+    return next((it.text[2:].decode("ascii", "replace") for it in holding(data, b"LN") if it.inside and it.text.startswith(b"LN")), "")
+
+
+def order_of(name, data):
+    """The number that a file's comment gives its copper among that of the board, or None."""
+    found = sorted({int(match[1]) for match in (ORDER.fullmatch(it.text) for it in holding(data, b"Layer_Physical_Order") if not it.inside) if match})
+    if len(found) > 1:
+        raise Refused(f"{name} says Layer_Physical_Order={found[0]} and {found[1]}: {BY_HAND}")
+    return found[0] if found else None
 
 
 def layer_of(name, function):
@@ -39,49 +59,106 @@ def layer_of(name, function):
     return Layer(name, int(found.group(1)), found.group(2) or "") if found else None
 
 
+def one_layer(name, functions):
+    """The layer that the functions of a file say, if it is one of copper; refuses a file that says several things, one of them copper."""
+    layers = [layer_of(name, function) for function in functions]
+    if any(layers) and len({layer and layer.number for layer in layers}) > 1:
+        raise Refused(f"{name} says of itself that it is {' and '.join(map(shown, functions))}: keep the file whose function is one, or write the manifest by hand")
+    return layers[0]
+
+
 def place_of(text):
     """What a layer's or file's name says: top, bottom, or a number with inner or layer; or nothing."""
     if NO_COPPER.search(text):
         return None
-    for pattern, what in ((PLANE, "plane"), (INNER, "inner"), (NUMBERED, "layer")):
-        found = pattern.search(text)
+    for pattern, kinds in ((PLANE, ("plane",)), (INNER, INNER_KINDS), (GROUP, ("group",)), (NUMBERED, ("layer",))):
+        found = pattern.match(text) if pattern is GROUP else pattern.search(text)
         if found:
-            digits = next(filter(None, found.groups()))
-            return (what, int(digits)) if len(digits) < 10 else None
+            digits = found[found.lastindex]
+            return (kinds[found.lastindex - 1], int(digits)) if len(digits) < 10 else None
     if TOP.search(text):
         return "top", 0
     return ("bottom", 0) if BOTTOM.search(text) else None
 
 
-def guess_of(name, data):
-    """What a file without an attribute may be by its names, and which name says so."""
-    found = LAYER_NAME.search(data)
-    said = found.group(1).decode("ascii", "replace") if found else ""
+def named(name, data):
+    """What the layer's name or the file's says that a file is, its place or that it is no copper, and which of them says so; or nothing."""
+    said = layer_name_of(data)
     for text, what in ((said, f"its layer name is {shown(said)}"), (name, "its name looks so")):
-        place = place_of(text) if text else None
-        if place:
+        if not text:
+            continue
+        place = place_of(text)
+        if place or NO_COPPER.search(text):
             return place, what
-        if text and NO_COPPER.search(text):
-            return None
     return None
+
+
+def guess_of(name, data):
+    """What a file without an attribute may be by other evidence, and which; nothing where that is no copper."""
+    place, what = named(name, data) or (None, "")
+    order = order_of(name, data)
+    if order is not None:
+        return ("order", order, place), f"its comment says Layer_Physical_Order={order}"
+    return (place, what) if place else None
+
+
+def is_named_otherwise(name, data):
+    """Whether a name says that a file is no copper, and none that it is an inner layer besides, as where a board's own name has such a word."""
+    is_inner = any(pattern.search(text) for pattern in (INNER, PLANE, NUMBERED) for text in (name, layer_name_of(data)))
+    return named(name, data) is not None and not is_inner
 
 
 def in_order(guesses):
     """The layers that the guesses make, each a file, its place and why: top first, inner ones by number, bottom last."""
-    rank = {"top": 0, "inner": 1, "layer": 1, "plane": 1, "bottom": 2}
-    listed = sorted(guesses, key=lambda it: (rank[it[1][0]], it[1][1], it[0]))
+    listed = sorted(guesses, key=lambda it: (RANK[it[1][0]], it[1][1], it[0]))
     for one, other in zip(listed, listed[1:]):
-        if one[1] == other[1]:
+        if one[1][:2] == other[1][:2]:
             raise Refused(f"{one[0]} and {other[0]} both look like the same copper layer: keep one of them in the folder")
+    kinds = {it[1][0] for it in listed}
     plane = next((it[0] for it in listed if it[1][0] == "plane"), None)
     if plane:
         raise Refused(f"{plane} looks like an inner plane, whose place among the layers no name says: export Gerber X2, or write the manifest by hand")
+    if "order" in kinds:
+        need_order(listed)
     numbered = [it for it in listed if it[1][0] == "layer"]
     if numbered and (len(numbered) < len(listed) or [it[1][1] for it in numbered] != list(range(1, len(numbered) + 1))):
-        raise Refused(f"the copper files {', '.join(it[0] for it in listed)} are not layers 1 to {len(listed)} by their names: write the manifest by hand, or export Gerber X2")
-    if any(it[1][0] == "inner" for it in listed) and [listed[0][1][0], listed[-1][1][0]] != ["top", "bottom"]:
+        raise Refused(f"the copper files {', '.join(it[0] for it in listed)} are not layers 1 to {len(listed)} by their names: {BY_HAND}")
+    inner = [it for it in listed if RANK[it[1][0]] == 1 and it[1][0] not in ("layer", "order")]
+    if inner and [listed[0][1][0], listed[-1][1][0]] != ["top", "bottom"]:
         raise Refused("there are inner copper layers, and no top or no bottom one: export all copper layers, as Gerber X2")
+    need_inner(inner)
     return [Layer(name, number, "", why) for number, (name, _, why) in enumerate(listed, 1)]
+
+
+def need_order(listed):
+    """Refuses layers by the order that comments say, where not all have one, some are missing, or a name says another side."""
+    names, last = ", ".join(it[0] for it in listed), len(listed)
+    if any(it[1][0] != "order" for it in listed):
+        raise Refused(f"of the copper files {names} not all say their Layer_Physical_Order: {BY_HAND}")
+    numbers = [it[1][1] for it in listed]
+    if numbers != list(range(1, last + 1)):
+        raise Refused(f"copper layers {', '.join(map(str, numbers))} by Layer_Physical_Order are not 1 to {max(numbers)} without a gap: export every copper layer, "
+                      "or write the manifest by hand")
+    for name, (_, number, place), _ in listed:
+        if place and last > 1 and not is_there(number, place, last):
+            raise Refused(f"{name} says Layer_Physical_Order={number} of {last}, and its name says another place: {BY_HAND}")
+
+
+def is_there(number, place, last):
+    """Whether a layer's number fits what a name says of its place; those of inner layers count in another order."""
+    return (place[0] == "top") == (number == 1) and (place[0] == "bottom") == (number == last) if place[0] != "layer" else place[1] == number
+
+
+def need_inner(inner):
+    """Refuses inner layers whose numbers count different things, or leave some out."""
+    if not inner:
+        return
+    kinds, numbers, names = {it[1][0] for it in inner}, [it[1][1] for it in inner], ", ".join(it[0] for it in inner)
+    if len({kind.split()[0] for kind in kinds}) > 1:
+        raise Refused(f"the numbers of the inner layers {names} are of different kinds: {BY_HAND}")
+    most = 1 if "inner from 1" in kinds else 2 if "inner" in kinds else numbers[0]
+    if "intern" not in kinds and (numbers != list(range(numbers[0], numbers[-1] + 1)) or numbers[0] > most):
+        raise Refused(f"the inner layers {names} have the numbers {', '.join(map(str, numbers))}, so one is missing: export every copper layer, or write the manifest by hand")
 
 
 def judge(layers):

@@ -3,10 +3,8 @@ import re
 
 from mends.plating import Plating, unplated_hole
 
-from . import Refused
+from . import Refused, shown
 
-FUNCTION = re.compile(rb"^[ \t]*; ?#@! ?TF\.FileFunction,([^\r\n]*)", re.M)
-TYPE = re.compile(rb"^[ \t]*; ?TYPE ?= ?(PLATED|NON[_-]?PLATED)", re.M | re.I)
 UNPLATED_NAME = re.compile(r"npth|non?[._ -]?plated|un[._ -]?plated", re.I)
 PLATED_NAME = re.compile(r"pth|plated|(?:^|[._ -])via", re.I)
 APART = ("write plated and unplated holes to files of their own "
@@ -28,11 +26,6 @@ def need_told(name, data, said):
         raise Refused(f"{name} {said}{unsaid}: {APART}")
 
 
-def is_unplated_alone(data):
-    """Whether a file says by comments TYPE alone that its holes are not plated: it is left out."""
-    return not FUNCTION.search(data) and {it.upper().startswith(b"NON") for it in TYPE.findall(data)} == {True}
-
-
 def of_attribute(name, function, data):
     """What the attribute says: a file of plated holes, or a reason to leave it out."""
     fields = function.strip().split(",")
@@ -50,32 +43,31 @@ def of_attribute(name, function, data):
 
 def of(name, data):
     """What a drill file is: a file of plated holes, or a reason to leave it out."""
-    line = unplated_hole(data)
-    if line and not is_unplated_alone(data):
+    plating, line = Plating(data), unplated_hole(data)
+    if line and not plating.is_unplated_alone():
         raise Refused(f"{name}: line {line} makes a hole that the file itself calls unplated, and what it says of the others does not fit or is missing: {APART}")
-    said = {it.strip().decode("ascii", "replace") for it in FUNCTION.findall(data)}
+    said = list(dict.fromkeys(",".join(fields) for _, fields, _ in plating.functions))
     if len(said) > 1:
-        raise Refused(f"{name} has several comments TF.FileFunction ({'; '.join(sorted(said))}): {APART}")
+        raise Refused(f"{name} has several comments TF.FileFunction ({'; '.join(map(shown, sorted(said)))}): {APART}")
     if said:
-        return of_attribute(name, said.pop(), data)
-    types = {it.upper().startswith(b"NON") for it in TYPE.findall(data)}
-    if len(types) > 1:
-        need_told(name, data, "has holes of TYPE=PLATED and of TYPE=NON_PLATED")
-    if types == {True}:
-        return None, "its comment says TYPE=NON_PLATED, so its holes join nothing"
-    if False in types:
-        return Drills(name, None, "its comment says TYPE=PLATED, and not which layers the holes span"), ""
-    tools = set(Plating(data).tools.values())
-    if tools == {False}:
-        return None, "each of its tools says that it is not plated, so its holes join nothing"
+        return of_attribute(name, said[0], data)
+    if plating.is_unplated_alone():
+        return None, "its comment says TYPE=NON_PLATED, so its holes join nothing" if False in plating.types else "each of its tools says that it is not plated, so its holes join nothing"
+    return Drills(name, *by_other_evidence(name, plating)), ""
+
+
+def by_other_evidence(name, plating):
+    """The span, (0, 0) of unplated holes, and the evidence for it; it is told and confirmed as other guesses are."""
+    tools = set(plating.tools.values())
     if tools and None not in tools:
-        return Drills(name, None, "its tools say whether they are plated, and nothing which layers the holes span"), ""
+        return None, ("its comment says TYPE=PLATED, and not which layers the holes span" if plating.types == {True} else
+                      "its tools say whether they are plated, and nothing which layers the holes span")
+    if True in tools:
+        return None, f"it says of some of its tools that they are plated, nothing of others (T{plating.unsaid()[0]}), and not which layers the holes span"
     if UNPLATED_NAME.search(name):
-        # Left out only as a guess: it is said and confirmed as the others are.
-        return Drills(name, (0, 0), "its name says that its holes are not plated"), ""
-    word = "its name says that its holes are plated, and nothing which layers they span" if PLATED_NAME.search(name) else \
-        "nothing says whether its holes are plated and which layers they span"
-    return Drills(name, None, word), ""
+        return (0, 0), "its name says that its holes are not plated"
+    return None, ("its name says that its holes are plated, and nothing which layers they span" if PLATED_NAME.search(name) else
+                  "nothing says whether its holes are plated and which layers they span")
 
 
 def judge(drills, layers):

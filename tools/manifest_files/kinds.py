@@ -5,7 +5,7 @@ MARKS = ((b"\xef\xbb\xbf", "a byte order mark"), (b"\xff\xfe", "a byte order mar
 GERBER = re.compile(rb"%(?:FS|MO|AD|TF|LN|IN|AM|LP)|^G04|^G0?1\*", re.M)
 DRILL = re.compile(rb"\A(?:[ \t\r]*(?:;[^\n]*|%[ \t\r]*)?\n)*[ \t]*M48")
 RECORD = re.compile(rb"^(?:317|327)", re.M)
-UNITS = re.compile(rb"^P +UNITS", re.M)
+UNITS = re.compile(rb"^P[ \t]*UNITS", re.M)
 END = re.compile(rb"^999", re.M)
 OTHERS = (
     (b"PK\x03\x04", "it is a zip archive; give the archive itself in place of the folder"),
@@ -56,6 +56,6 @@ def kind_of(text):
         return "drill"
     if RECORD.search(text) and (UNITS.search(text) or END.search(text)) or UNITS.search(text) and END.search(text):
         return "netlist"
-    if GERBER.search(text[:65536]) and b"*" in text:
+    if GERBER.search(text.lstrip()[:65536]) and b"*" in text:
         return "gerber"
     return "other"

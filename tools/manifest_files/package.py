@@ -2,6 +2,7 @@
 import json
 import os
 
+from mends import attributes
 from mends import package as mends
 
 from . import MOST_BYTES, Refused, copper, drills, is_name, kinds, netlists, shown
@@ -10,12 +11,15 @@ from . import MOST_BYTES, Refused, copper, drills, is_name, kinds, netlists, sho
 # What is ours in a folder: the manifest, and the ties that `show` reads.
 OURS = ("m.json", "ties.txt")
 NO_COPPER = "it is a Gerber file without the attribute TF.FileFunction, and no name says that it is copper"
+OTHERWISE = "it is a Gerber file without the attribute TF.FileFunction, and its name says that it is no copper"
 
 
 class Package:
     def __init__(self):
         self.layers, self.guesses, self.drills, self.netlists = [], [], [], []
         self.left_out, self.origins, self.board_layers = [], {}, None
+        # What is left out, although it may be copper by what it says.
+        self.doubtful = []
         # Files that count and cannot stand as they are.
         self.amiss = {}
         # Whether a Gerber file says of which nets or pins its objects are.
@@ -55,23 +59,26 @@ class Package:
             pass
 
     def add_gerber(self, name, data):
-        function = copper.function_of(data)
-        self.has_names = self.has_names or b"TO.P," in data or b"TO.N," in data
-        if function is None:
+        said = copper.functions_of(data)
+        self.has_names = self.has_names or attributes.has_names(data, b".P") or attributes.has_names(data, b".N")
+        if not said:
             guess = copper.guess_of(name, data)
             if guess:
                 self.guesses.append((name, *guess))
             else:
-                self.leave_out(name, NO_COPPER)
+                self.leave_out(name, OTHERWISE if copper.is_named_otherwise(name, data) else NO_COPPER)
             return
-        layer = copper.layer_of(name, function)
+        function, layer = said[0], copper.one_layer(name, said)
         if layer:
             self.layers.append(layer)
             self.origins.setdefault(copper.origin_of(data), name)
         elif function.startswith(("Plated,", "NonPlated,", "MixedPlating,")):
             self.leave_out(name, "it is a drill file in the Gerber format: export it in the Excellon format")
         else:
-            self.leave_out(name, f"its function is {function}")
+            why = f"its function is {shown(function)}"
+            self.leave_out(name, why)
+            if any(it.strip().lower().startswith("copper") for it in said):
+                self.doubtful.append((name, why))
 
     def copper(self):
         """The copper layers in order, said or guessed."""
@@ -131,8 +138,10 @@ class Plan:
         self.guessed = [(it.name, f"copper layer {it.number}", it.why) for it in layers if it.why]
         self.guessed += [(it.name, f"plated holes from layer {it.span[0]} to {it.span[1]}", it.why) for it in plated if it.why]
         self.guessed += [(it.name, "unplated holes, left out", it.why) for it in unplated]
-        if not package.is_whole(layers) and not layers[0].why:
-            self.guessed += [(name, "no copper, left out", why) for name, why in package.left_out if why == NO_COPPER]
+        if not package.is_whole(layers):
+            # A name may say that a file is no copper where names say what is; where attributes do, and one is missing, no name counts.
+            doubtful = (NO_COPPER,) if layers[0].why else (NO_COPPER, OTHERWISE)
+            self.guessed += [(name, "no copper, left out", why) for name, why in package.left_out if why in doubtful or (name, why) in package.doubtful]
         self.has_points = netlist.records > 0
         self.netlist = netlist.name
         self.manifest = {

@@ -4,7 +4,7 @@
 
 Copper layers are known by their attribute TF.FileFunction,Copper,L<n>, plated drill files by the comment
 TF.FileFunction,Plated,<from>,<to>, the netlist by its IPC-D-356A records. Copper and drill files without attributes are
-taken by other evidence (%LN, their names, ;TYPE=), which is told; it counts only with --yes. Every other file is left out,
+taken by other evidence (Layer_Physical_Order, %LN, their names, ;TYPE=), which is told; it counts only with --yes. Every other file is left out,
 and the script says why. It writes no manifest, and ends with 1, where the board would not be whole. An archive's files go to
 a folder of its name beside it, also then.
 

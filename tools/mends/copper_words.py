@@ -1,5 +1,6 @@
 """The words of a copper file with their places, as docs/FORMATS.md cuts them, and edits that keep their numbers."""
 import re
+from typing import Iterator, NamedTuple
 
 from . import Mend, short
 
@@ -13,6 +14,8 @@ SIZES = {b"C": 1, b"R": 2, b"O": 2}    # of a standard aperture
 NOTHING = b"TFleft_out"     # an attribute without a meaning, in a pair of percent signs
 COMMENT = b"G04"
 NUMBERS = bytes.maketrans(b"XYD*", b"    ")    # words of X, Y and D become their numbers
+BLANKS = b"\t\n\r "
+FILE_ENDS = (b"M02*", b"M2*")
 MOST_DIGITS = 100
 MOST_EDGES = 100_000        # of a contour, in the profile
 
@@ -71,6 +74,65 @@ def words(data):
             first = False
         elif match.end() < len(data):
             raise Broken
+
+
+class Word(NamedTuple):
+    """A word's first byte, its star, its text, and whether it is in a pair of percent signs."""
+
+    start: int
+    end: int
+    text: bytes
+    inside: bool
+
+
+def is_at_word(data: bytes, at: int) -> bool:
+    """Whether a word may begin at a byte: nothing but blanks stands behind a star, a percent sign or the file's beginning."""
+    return data[max(data.rfind(b"*", 0, at), data.rfind(b"%", 0, at)) + 1:at].strip(BLANKS) == b""
+
+
+def last(data: bytes) -> int:
+    """Where the words end: behind the first that ends the file, or before a percent sign that breaks one."""
+    at = 0
+    for part in data.split(b"%")[:-1]:
+        at += len(part)
+        if part.rstrip(BLANKS)[-1:] not in (b"", b"*"):
+            break
+        at += 1
+    else:
+        at = len(data)
+    for sign in FILE_ENDS:
+        end = data.find(sign, 0, at)
+        while end >= 0 and not (is_at_word(data, end) and data.count(b"%", 0, end) % 2 == 0):
+            end = data.find(sign, end + 1, at)
+        at = end + len(sign) if end >= 0 else at
+    return at
+
+
+def holding(data: bytes, sign: bytes) -> Iterator[Word]:
+    """The words that have a sign in them, in order: what else the file has is not looked at, so that it is fast. Words of a macro's body
+    are none, and what comes behind the file's end."""
+    past, inside, is_macro, at = 0, False, False, data.find(sign)
+    most = last(data) if at >= 0 else 0
+    while 0 <= at < most:
+        percent = data.rfind(b"%", past, at)
+        if percent >= 0:
+            inside ^= data.count(b"%", past, percent + 1) % 2 == 1
+            past, is_macro = percent + 1, False
+        start = max(data.rfind(b"*", past, at) + 1, past)
+        is_macro = is_macro or inside and any(word.lstrip(BLANKS).startswith(b"AM") for word in data[past:start].split(b"*"))
+        past = data.find(b"*", at)
+        if not 0 <= past < most:
+            return
+        text = data[start:past].lstrip(BLANKS)
+        if not (inside and is_macro):
+            yield Word(past - len(text), past, text, inside)
+        is_macro, past = is_macro or inside and text.startswith(b"AM"), past + 1
+        at = data.find(sign, past)
+
+
+def begins(data: bytes, sign: bytes) -> bool:
+    """Whether a word in a pair of percent signs begins with a sign."""
+    return any(it.inside and it.text.startswith(sign) for it in holding(data, sign))
 
 
 class Edits:

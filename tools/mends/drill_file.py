@@ -137,7 +137,7 @@ class Holes:
         what = f"and each tool says whether it is plated: the holes of the unplated ones ({tools}) are left out, {self.taken} {'line' if self.taken == 1 else 'lines'}"
         at = plating.place() - 1
         text = short(drill.lines[at], 60)
-        for number, fields in plating.functions:
+        for number, fields, _ in plating.functions:
             drill.lines[number - 1] = b"; #@! TF.FileFunction," + ",".join(["Plated", *fields[1:]]).encode("latin-1")
         drill.found[PLATING] = [(at + 1, text, what)]
 

@@ -3,7 +3,8 @@ import re
 from itertools import accumulate
 from typing import NamedTuple
 
-from .copper_words import MOST_EDGES, NUMBERS, has
+from . import attributes
+from .copper_words import BLANKS, FILE_ENDS, MOST_EDGES, NUMBERS, holding, is_at_word
 from .table import CONTOUR
 
 # A word in a region: an operation of straight lines, or another one; OPERATED are other operations.
@@ -11,12 +12,11 @@ STEP = re.compile(rb"[%\t\n\r ]*(?:(?:G0?1)?(?:X([+-]?[0-9]{1,13}))?(?:Y([+-]?[0
 PLAIN = re.compile(rb"[\t\n\r ]*X[+-]?[0-9]{1,13}Y[+-]?[0-9]{1,13}D0?[12]\*")
 OPERATED = re.compile(rb"(?:G0?[0-3])?[XYIJ]|(?:G0?[0-3])?D0?[0-3]\Z|G0?[023]\Z")
 OF_OPERATIONS = b"GXYD+-0123456789"
-BETWEEN, SEPARATORS = b"%\t\n\r ", b"*%\t\n\r "
-# What takes copper away, repeats it or bends an edge: then a part at the file's end could be another than in its place.
-ORDERED_SIGNS = (b"LPC", b"SR", b"AB", b"G02", b"G2", b"G03", b"G3")
-ORDERED = re.compile(rb"(?<![^*%\s])(?:LPC|SR[^*]|AB|G0?[23][XYIJD*])")
-ENDS = (b"M02*", b"M2*")
-NAMED = re.compile(rb"T(?:O\.N(,[^*]*)?|D(?:\.N)?(?:,[^*]*)?)\*")
+BETWEEN = b"%\t\n\r "
+# What takes copper away, repeats it or bends an edge: then a part at the file's end could be another than in its place. Each sign that
+# the words have, with their form.
+ORDERED = [(sign, re.compile(form)) for sign, form in ((b"LPC", rb"LPC"), (b"SR", rb"SR."), (b"AB", rb"AB"), (b"G02", rb"G02"), (b"G2", rb"G2(?![0-9])"),
+                                                       (b"G03", rb"G03"), (b"G3", rb"G3(?![0-9])"))]
 
 
 class Contour(NamedTuple):
@@ -77,13 +77,11 @@ class Region:
 
 def regions(data):
     """The regions of more words than a contour may have edges: from behind `G36` to before `G37`."""
-    at = data.find(b"G36*")
-    while at >= 0:
-        start = at + len(b"G36*")
-        end = data.find(b"G37*", start)
-        if end - start > MOST_EDGES and data[at - 1:at] in SEPARATORS and data.count(b"*", start, end) > MOST_EDGES:
+    signs = sorted(it for sign in (b"G36", b"G37") for it in holding(data, sign) if not it.inside and it.text == sign)
+    for one, other in zip(signs, signs[1:]):
+        start, end = one.end + 1, other.start
+        if (one.text, other.text) == (b"G36", b"G37") and end - start > MOST_EDGES and data.count(b"*", start, end) > MOST_EDGES:
             yield Region(data, start, end)
-        at = data.find(b"G36*", start)
 
 
 def in_place(contour, part):
@@ -122,22 +120,31 @@ def write(edits, region, written):
 
 def name_before(data, at):
     """The word that gives the net name in force."""
-    end, named = at, b""
-    while at >= 0:
-        at = data.rfind(b"T", 0, at)
-        match = at > 0 and data[:at].rstrip(b"\t\n\r ")[-1:] in b"*%" and NAMED.match(data, at, end)
-        if match:
-            named = match[1] or b""
-            break
-    return b"%TD*%\n" + (b"%TO.N" + named + b"*%\n" if named else b"")
+    named = b""
+    for it in sorted(it for sign in (b"TO.N", b"TD") for it in attributes.of_file(data, sign) if it.start < at and not it.is_comment):
+        if it.kind == b"TO" and it.is_named(b".N"):
+            named = b",".join(it.fields[1:])
+        elif it.kind == b"TD" and it.fields[0] in (b"", b".N"):
+            named = b""
+    return b"%TD*%\n" + (b"%TO.N," + named + b"*%\n" if named else b"")
+
+
+def is_ordered(data):
+    """Whether a word takes copper away, repeats it or bends an edge."""
+    return any(form.match(it.text) for sign, form in ORDERED for it in holding(data, sign))
+
+
+def ending_of(data):
+    """Where the word is that ends the file, or None where that is not its last one."""
+    whole = data.rstrip(BLANKS)
+    return next((at for at in (len(whole) - len(end) for end in FILE_ENDS if whole.endswith(end)) if is_at_word(whole, at)), None)
 
 
 def rewrite(edits):
     """Cuts long contours; how many words each needs more is at the file's end."""
     data = edits.data
-    whole = data.rstrip()
-    ending = next((len(whole) - len(end) for end in ENDS if whole.endswith(end)), None)
-    if ending is None or has(data, ORDERED_SIGNS) and ORDERED.search(data):
+    ending = ending_of(data)
+    if ending is None or is_ordered(data):
         return
     from .chords import cut         # few files have long contours
     for region in regions(data):

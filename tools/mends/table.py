@@ -19,8 +19,8 @@ IDENTITY, STRAIGHT, STATE, FORMAT, END, UNUSED, LINES, TURN, CONTOUR = \
     "identity", "straight", "state", "format", "end", "unused", "macro lines", "macro turn", "contour"
 
 ROWS = (
-    Row(PLATING, "a drill file of plated and unplated holes, or of unplated ones alone (`MixedPlating`, or no file function) where each tool says which it is: `; #@! TA.AperFunction,Plated,..` "
-        "or `NonPlated,..` before the tool, or `;TYPE=PLATED` and `;TYPE=NON_PLATED` before tools",
+    Row(PLATING, "a drill file of plated and unplated holes, or of unplated ones alone (`MixedPlating`, or no file function) where each tool says which it is: by `; #@! TA.AperFunction,Plated,..` "
+        "or `NonPlated,..` before it, `;TYPE=PLATED` or `NON_PLATED` before tools, or comments of Allegro or Fritzing",
         "the holes of plated tools alone; `Plated` for `MixedPlating`; a place that went on from a hole that goes gets both coordinates",
         "an unplated hole joins nothing", "each tool says whether it is plated"),
     Row(UNIT, "`M71`, `M72`, `METRIC` or `INCH` again, where it says the header's unit", "an empty line", "the unit is in force", "says the unit that the header says: left out"),

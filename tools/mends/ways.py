@@ -1,6 +1,8 @@
 """What to export otherwise where a file is refused, in words of the tool that wrote it, where the file says which it is."""
 import re
 
+from .copper_words import holding
+
 # A tool's name, and what comments and attributes of its files say.
 TOOLS = (
     ("KiCad", rb"kicad"), ("pcb-rnd", rb"pcb-rnd"), ("LibrePCB", rb"LibrePCB"), ("Horizon EDA", rb"Horizon"), ("EasyEDA", rb"EasyEDA|LCEDA"),
@@ -8,7 +10,8 @@ TOOLS = (
     ("EAGLE", rb"\bEAGLE\b"), ("DipTrace", rb"DipTrace"), ("Proteus", rb"\bProteus\b"), ("Xpedition", rb"Xpedition|Expedition"),
     ("Fusion", rb"Autodesk"), ("gEDA pcb", rb"\bpcb 20|gEDA"), ("gerbv", rb"\bgerbv\b"),
 )
-COMMENTS = re.compile(rb"^[ \t]*;[^\n]*|G04[^*]*\*|TF\.GenerationSoftware[^*\n]*", re.M)
+COMMENTS = re.compile(rb"^[ \t]*;[^\n]*", re.M)
+HEAD = 4096     # bytes
 NEWLINE = b"\n"
 REFUSAL = re.compile(r"(.*?): (Gerber|drill|flatten) \d+ (\w+) at (?:command|line) \d+, byte (\d+)")
 
@@ -50,7 +53,9 @@ WAYS = {
 
 def tool_of(data):
     """The tool that wrote a file, as the file's comments say, or nothing."""
-    said = b"\n".join(COMMENTS.findall(data[:4096]))
+    head = data[:HEAD]
+    words = [it.text for sign in (b"G04", b"TF.GenerationSoftware") for it in holding(head, sign) if it.text.startswith(sign)]
+    said = b"\n".join([*COMMENTS.findall(head), *words])
     return next((name for name, pattern in TOOLS if re.search(pattern, said, re.I | re.M)), "")
 
 

@@ -2,7 +2,10 @@
 import re
 from collections import namedtuple
 
-from . import NOT_UNDERSTOOD, UNJUDGED, BadCopper, Stop, netlist
+from mends.copper_words import begins
+
+from . import NOT_UNDERSTOOD, REFUSED, UNJUDGED, BadCopper, Stop, netlist, said
+from .program import Answer
 from .report import BadReport, Report
 
 MACRO = re.compile(r"(.*): Gerber 12 Macro at command ")
@@ -22,7 +25,7 @@ def flattens(program, package, line):
         return False
     named, done = found.group(1), False
     for name in dict.fromkeys(package.manifest.copper):
-        if name in package.flattened or name in package.outside or name != named and b"%AM" not in package.read(name):
+        if name in package.flattened or name in package.outside or name != named and not begins(package.read(name), b"AM"):
             continue
         answer = program.flatten(package, name)
         if answer.status == 0:
@@ -38,7 +41,11 @@ def flattens(program, package, line):
 
 
 def checked(program, package):
+    """What `check` says, but where a file says of itself what its place is not and `check` does not come to it, as `said` has it."""
     answer = program.check(package)
+    wrong = said.amiss(package) if answer.status in (0, 1, REFUSED) else ""
+    if wrong:
+        return Answer(REFUSED, b"", wrong)
     while answer.status == 3 and flattens(program, package, answer.line):
         answer = program.check(package)
     return answer

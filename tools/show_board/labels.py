@@ -8,6 +8,8 @@ copper's own names: that these are the right ones nothing says.
 import re
 from typing import NamedTuple
 
+from mends import attributes
+
 from . import UNCLEAR, UNREADABLE, Stop, clear, netlist, points, ties, two_sides
 from .exact import Refused
 from .own_names import MADE
@@ -18,7 +20,7 @@ from .words import at_most, counted, printable, spoken, with_ends
 
 # Mode, X and Y of an operation, and its code.
 OPERATION = re.compile(r"(G0?[123])?(X[+-]?\d+)?(Y[+-]?\d+)?(?:I[+-]?\d+)?(?:J[+-]?\d+)?(?:D0?([123]))?")
-COMMENT = re.compile(r"G04 #@! ?(T[OD].*)")
+COMMENT = re.compile(r"G04[ \t]*#@![ \t]*(T[OD].*)")
 NO_NAMES = "the copper files do not say of which pins or nets their pads are (TO.P, TO.N): export Gerber X2 with net attributes"
 
 
@@ -246,7 +248,7 @@ def text_at(package, name):
 def all_points(package):
     """The points of all copper files: those of pins, or where there are none those of nets."""
     texts, found = {name: text_at(package, name) for name in package.manifest.copper}, []
-    wants_pins = any("TO.P," in text for text in texts.values())
+    wants_pins = any(attributes.has_names(text.encode("latin-1"), b".P", 2) for text in texts.values())
     for layer, name in enumerate(package.manifest.copper, 1):
         try:
             found += points_of(texts[name], layer, wants_pins) if "TO." in texts[name] else []

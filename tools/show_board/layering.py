@@ -1,9 +1,7 @@
 """Which copper file is the top and which the bottom, by surface points that lie on centres of pads of one file."""
-import re
-
+from . import said
 from .placement import flashes, records, text_of, unit_of
 
-LAYER = re.compile(r"%TF\.FileFunction,Copper,L(\d{1,2})[,*]")
 NEAR = 50_000       # 5 micrometres: two roundings of a netlist's place
 
 
@@ -48,8 +46,7 @@ def layerings(package):
 
 def as_labelled(package):
     """(words, manifest) with the files in the order of the layers that they say they are, where that is an order."""
-    found = [LAYER.search(text_of(package, name)) for name in package.manifest.copper]
-    numbers = [int(match[1]) if match else 0 for match in found]
+    numbers = said.layers(package)
     if sorted(numbers) != list(range(1, package.manifest.layers + 1)):
         return
     told = reordered(package.manifest, [numbers.index(k) for k in range(1, len(numbers) + 1)])

@@ -1,6 +1,8 @@
 """The manifest of a board: which files are its copper, its holes and its netlist."""
 import json
 
+from manifest_files import is_name
+
 
 class Manifest:
     """Files by their names; `files` are the copper files and then the drill files, numbered as in a report's sources."""
@@ -41,6 +43,7 @@ class Manifest:
 def of_text(data):
     """The manifest in some bytes, or None where they are none: then `check` says why."""
     try:
-        return Manifest(json.loads(data.decode("utf-8")))
+        told = Manifest(json.loads(data.decode("utf-8")))
     except (ValueError, KeyError, TypeError, OverflowError, RecursionError):
         return None
+    return told if all(map(is_name, told.names())) else None

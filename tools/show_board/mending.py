@@ -3,7 +3,7 @@ import os
 
 from mends import netlist_file, ways
 from mends import package as mends
-from mends.plating import unplated_hole
+from mends.plating import unplated_hole, unread_function
 
 from . import REFUSED, UNJUDGED, Stop
 from .words import counted
@@ -15,6 +15,7 @@ def mend(package, progress):
         return
     progress.begin("looking for what to mend")
     drills = [name for name, _, _ in package.manifest.drills]
+    need_functions(package)
     need_plated(package, drills)
     netlist = package.manifest.netlist
     need_names(package, netlist)
@@ -22,6 +23,17 @@ def mend(package, progress):
     for name, data, told in mends.of_files(lambda name: (read if name == netlist else bytes_of)(package, name), package.manifest.copper, drills, netlist):
         package.put(name, data)
         package.mends += told
+
+
+def need_functions(package):
+    """Refuses a drill file that says of itself what `check` would refuse, in a form that it passes over."""
+    for name, first, last in package.manifest.drills:
+        data = bytes_of(package, name)
+        kind, line = unread_function(data, first, last) or ("", 0)
+        if kind:
+            place = sum(len(it) + 1 for it in data.split(b"\n")[:line - 1])
+            way = ways.way(kind.split()[-1], ways.tool_of(data))
+            raise Stop(REFUSED, f"{name}: {kind} at line {line}, byte {place}, by a form of the file function that `check` passes over" + (f"; to export: {way}" if way else ""))
 
 
 def need_plated(package, drills):

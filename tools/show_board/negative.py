@@ -4,19 +4,21 @@ The box is that of the centre lines of the profile file, where the folder has on
 all objects of all copper files. Outside it nothing is dark.
 """
 import os
-import re
+
+from manifest_files import MOST_BYTES
+from mends import attributes
 
 from .clear import Object, box
 from .exact import Refused
 
-PROFILE = re.compile(r"%TF\.FileFunction,Profile\b")
 HEAD = 4096         # bytes of a file in which its function is looked for
 FRAME = 10 ** 7     # how far beyond the box and all objects what lies outside is taken away
 
 
 def is_negative(word):
-    """Whether a word says that a file is one."""
-    return word == "IPNEG" or word.startswith("TF.FilePolarity,") and word.split(",")[1].strip() == "Negative"
+    """Whether a word says that a file is one, also in a comment, or with blanks and small letters."""
+    said = attributes.said_by(word.encode("latin-1")).decode("latin-1") if word.startswith("G04") else word
+    return word == "IPNEG" or said.startswith("TF.FilePolarity,") and said.split(",")[1].strip().lower() == "negative"
 
 
 def centre_lines(piece):
@@ -36,9 +38,9 @@ def profile_of(folder):
     """The text of the profile file of a folder, or None; a file that cannot be read says nothing."""
     for path in (os.path.join(folder, name) for name in sorted(os.listdir(folder))):
         try:
-            if os.path.isfile(path):
+            if os.path.isfile(path) and os.path.getsize(path) <= MOST_BYTES:
                 with open(path, "rb") as file:
-                    if PROFILE.search(file.read(HEAD).decode("latin-1")):
+                    if any(it.fields[1:2] == [b"Profile"] for it in attributes.functions(file.read(HEAD))):
                         file.seek(0)
                         return file.read().decode("latin-1")
         except OSError:

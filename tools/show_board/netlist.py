@@ -7,7 +7,7 @@ from mends.netlist_file import LINE as ALIAS
 
 from .units import CUSTOM
 
-UNITS = re.compile(rb"^P +UNITS +CUST +([01])[ \t\r]*$", re.M)
+PARAMETER = re.compile(rb"^P([^\r\n]{0,56})", re.M)
 # Pins that are too long for their columns, as comments that we write before a record.
 PIN = b"C PIN,"
 NO_NET = "N/C"
@@ -34,8 +34,9 @@ def length(sign, digits, unit):
 
 def unit_of(data):
     """The unit in u, or None where none is said."""
-    found = UNITS.search(data)
-    return CUSTOM[int(found[1])] if found else None
+    found = (match[1].split() for match in PARAMETER.finditer(data))
+    units = next((words[1:] for words in found if words[:1] == [b"UNITS"]), ())
+    return {(b"CUST", b"0"): CUSTOM[0], (b"CUST", b"1"): CUSTOM[1]}.get(tuple(units))
 
 
 @lru_cache(maxsize=2)

@@ -7,12 +7,15 @@ import re
 from fractions import Fraction as Q
 from typing import NamedTuple
 
+from mends import attributes
+
+from . import BadCopper
 from .drawn import OPERATION
 from .exact import DECIMAL, Refused
 from .macros import Expression
 from .units import SCALES
 from .side import DRAW, FLASH, MOVE, words_of
-from .two_sides import MODES
+from .two_sides import MODES, MOST_OBJECTS
 
 PLACED = re.compile(r"X([+-]?\d{1,13})Y([+-]?\d{1,13})D0?([123])")
 PICKED = re.compile(r"(?:G54)?D(\d{2,9})")
@@ -110,6 +113,9 @@ class Walk:
         if found:       # most words
             self.operation(*found.groups())
             return
+        if word.startswith("G04"):
+            self.attributes.word(attributes.said_by(word.encode("latin-1")).decode("latin-1"))
+            return
         picked = PICKED.fullmatch(word)
         if picked and int(picked[1]) >= 10:
             self.aperture = self.apertures.get(int(picked[1]))
@@ -204,9 +210,12 @@ class Walk:
         """Ends a block, whose objects give way to their copies, and may open one."""
         if self.block:
             first, columns, rows, x, y = self.block
-            once = self.objects[first:]
+            # Copies of nothing are none, however many: `check` takes them.
+            once = [it for it in self.objects[first:] if it.count]
+            if len(once) * columns * rows > MOST_OBJECTS:
+                raise BadCopper("it has too many copies of blocks")
             self.objects[first:] = [it._replace(copy=i * rows + j, place=(it.place[0] + i * x, it.place[1] + j * y))
-                                    for i in range(columns) for j in range(rows) for it in once]
+                                    for i in range(columns) for j in range(rows) for it in once] if once else []
         match, self.block = re.fullmatch(r"SRX(\d+)Y(\d+)I([^J]+)J(.+)", word), None
         if match:
             self.block = (len(self.objects), int(match[1]), int(match[2]), *(round(Q(v) * self.scale) for v in match.groups()[2:]))

@@ -1,9 +1,11 @@
 """A board's files in a scratch folder, from a folder, a zip archive or a manifest. Nothing is written beside the user's files."""
 import os
+import stat
+from itertools import chain, count
 
-from manifest_files import Refused
+from manifest_files import MOST_BYTES, Refused
 
-from . import FULL, NOT_UNDERSTOOD, UNCLEAR, UNREADABLE, UNWRITABLE, Stop, manifest
+from . import FULL, NOT_UNDERSTOOD, REFUSED, UNCLEAR, UNREADABLE, UNWRITABLE, Stop, manifest
 
 # Declared net ties, beside the manifest.
 TIES = "ties.txt"
@@ -59,12 +61,21 @@ class Package:
         os.symlink(os.path.abspath(source), path)
         self.came[name] = os.path.abspath(source)
 
+    def is_taken(self, name):
+        """Whether a name is that of a file of the board, be it there or not."""
+        return name in {os.path.normpath(each) for each in [self.name, TIES, *(self.manifest.names() if self.manifest else [])]}
+
     def free_name(self, stem, ending):
         """A name of a file that the package does not have."""
-        number = 0
-        while os.path.lexists(self.path(stem + (str(number) if number else "") + ending)):
+        number, name = 0, stem + ending
+        while self.is_taken(name) or os.path.lexists(self.path(name)):
             number += 1
-        return stem + (str(number) if number else "") + ending
+            name = f"{stem}{number}{ending}"
+        return name
+
+    def report_name(self):
+        """The name of the report in the folder, the same each time: no file of the board has it."""
+        return next(name for name in chain(["report.txt"], (f"report{number}.txt" for number in count(1))) if not self.is_taken(name))
 
     def changed(self, folder, files=None, told=None):
         """Another package of the same files but for those that are given, in a folder of its own."""
@@ -106,12 +117,31 @@ def beside(package, word):
     return inner(f"{package.folder}.{word}{number}", package.manifest.names())
 
 
-def of_manifest(path, scratch):
-    """The package of a manifest that is there."""
-    with open(path, "rb") as file:
-        data = file.read()
-    told = manifest.of_text(data)
+def need_plain(home, names, inside=None):
+    """Refuses names that lead elsewhere than to plain files of at most as many bytes as `check` takes; with a folder, than into it. Nothing
+    is read before; what is not there is left to `check`."""
+    for name in names:
+        path = os.path.join(home, name)
+        if inside and not os.path.realpath(path).startswith(os.path.realpath(inside) + os.sep):
+            raise Stop(UNREADABLE, f"{name}: cannot be read: it is not in the archive")
+        try:
+            its = os.stat(path)
+        except (OSError, ValueError):
+            continue
+        if not stat.S_ISREG(its.st_mode) and not stat.S_ISDIR(its.st_mode):
+            raise Stop(UNREADABLE, f"{name}: cannot be read: it is no plain file")
+        if its.st_size > MOST_BYTES and stat.S_ISREG(its.st_mode):
+            raise Stop(REFUSED, f"{name}: longer than {MOST_BYTES} bytes")
+
+
+def of_manifest(path, scratch, inside=None):
+    """The package of a manifest that is there; with a folder its files are to lie there."""
     home, name = os.path.dirname(path), os.path.basename(path)
+    need_plain(home, [name, TIES], inside)
+    with open(path, "rb") as file:
+        data = file.read(MOST_BYTES + 1)
+    told = manifest.of_text(data)
+    need_plain(home, told.names() if told else [], inside)
     package = Package(told, room(scratch, told.names() if told else []), name)
     package.home, package.around = home, home or "."
     package.put(name, data)
@@ -124,6 +154,7 @@ def of_manifest(path, scratch):
 def of_folder(home, asked, scratch):
     """The package of a folder without a manifest, by what the files say of themselves."""
     from manifest_files import package as gathered      # most boards have a manifest
+    need_plain(home, [TIES])
     found = gathered.gather(home)
     try:
         plan = gathered.Plan(found, asked.netlist, asked.no_drills, may_lack_netlist=True)
@@ -160,17 +191,20 @@ def unpacked(path, scratch):
     return folder
 
 
-def opened(path, asked, scratch):
-    """The package of a folder, a zip archive or a manifest."""
+def opened(path, asked, scratch, inside=None):
+    """The package of a folder, a zip archive or a manifest; with a folder the files are to lie there."""
+    if not path:
+        raise Stop(NOT_UNDERSTOOD, "PATH is empty: it is a folder, a zip archive or a manifest")
     try:
         if is_archive(path):
-            package = opened(unpacked(path, scratch), asked, scratch)
+            folder = unpacked(path, scratch)
+            package = opened(folder, asked, scratch, folder)
             package.home = path
             return package
         if not os.path.isdir(path):
             return of_manifest(path, scratch)
         if os.path.exists(os.path.join(path, "m.json")):
-            return of_manifest(os.path.join(path, "m.json"), scratch)
+            return of_manifest(os.path.join(path, "m.json"), scratch, inside)
         return of_folder(path, asked, scratch)
     except Refused as why:
         raise Stop(UNCLEAR, str(why)) from None
@@ -195,7 +229,7 @@ def keep(package, report, folder):
     import shutil           # loading takes long, as above
     try:
         shutil.copytree(package.folder, folder)
-        with open(os.path.join(folder, "report.txt"), "wb") as file:
+        with open(os.path.join(folder, package.report_name()), "wb") as file:
             file.write(report)
     except OSError as error:
         shutil.rmtree(folder, ignore_errors=True)

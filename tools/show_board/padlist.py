@@ -5,6 +5,8 @@ on two nets there is one for each. A pad whose middle lies in a plated hole of i
 """
 from collections import defaultdict
 
+from mends.copper_words import begins
+
 from . import BadCopper, grid
 from .aims import aim
 from .blocks import objects_of_blocks
@@ -66,7 +68,7 @@ def by_command(package, name):
 def between(board, package, name, pieces):
     """The objects of the pieces of a file that was written between bounds."""
     objects, data, sources = by_command(package, name), package.read(name), board.report.sources
-    inner = objects_of_blocks(data.decode("latin-1"), board.shapes, sources, pieces) if b"%AB" in data else {}
+    inner = objects_of_blocks(data.decode("latin-1"), board.shapes, sources, pieces) if begins(data, b"AB") else {}
     return [inner.get(piece) or objects.get(tuple(sources[piece][1:3])) or objects.get((sources[piece][1], 0)) for piece in pieces]
 
 

@@ -8,6 +8,8 @@ from fractions import Fraction as Q
 from functools import lru_cache
 
 from . import netlist
+from .exact import Refused
+from .side import words_of
 from .units import INCH, MM, SCALES, UNIT_WORDS
 from .words import millimetres
 
@@ -16,10 +18,9 @@ FEW, MANY = 8, 20_000   # centres
 ENOUGH = Q(3, 4)        # of the votes: no other centres are asked
 MOST = 999_999          # six digits
 PLACE = re.compile(r"([XY])([+-]?)(\d+\.?\d*|\.\d+)")
-# Operations of a copper file behind the beginning of a word, its unit and its format.
-OPERATION = re.compile(r"(?:(?<=[*%\s])|(?<=G0[123])|(?<=G[123]))(?=[XYD])(?:X([+-]?\d+))?(?:Y([+-]?\d+))?(?:I[+-]?\d+)?(?:J[+-]?\d+)?(?:D0?([123]))?\*")
-GERBER_UNIT = re.compile(r"%(MOMM|MOIN)\*|(?:^|[*\s])(G7[01])\*")
-FORMAT = re.compile(r"%FSLAX\d(\d)Y")
+# Operations of a copper file, and its format.
+OPERATION = re.compile(r"(?:G0?[123])?(?=[XYD])(?:X([+-]?\d+))?(?:Y([+-]?\d+))?(?:I[+-]?\d+)?(?:J[+-]?\d+)?(?:D0?([123]))?")
+FORMAT = re.compile(r"FSLAX\d(\d)Y\d\d")
 FORMS = [("", lambda x, y: (x, y)), ("mirrored left to right", lambda x, y: (-x, y)), ("mirrored upside down", lambda x, y: (x, -y)),
          ("turned by half", lambda x, y: (-x, -y)), ("turned by a quarter", lambda x, y: (-y, x)), ("turned by three quarters", lambda x, y: (y, -x)),
          ("mirrored and turned by a quarter", lambda x, y: (y, x)), ("mirrored and turned by three quarters", lambda x, y: (-y, -x))]
@@ -70,22 +71,46 @@ def moved(text, form, by):
 
 
 def other_unit(text):
-    return re.sub(r"^(P +UNITS +CUST +)([01])", lambda m: m[1] + ("1" if m[2] == "0" else "0"), text, count=1, flags=re.M)
+    return re.sub(r"^(P[ \t]*UNITS[ \t]+CUST[ \t]+)([01])", lambda m: m[1] + ("1" if m[2] == "0" else "0"), text, count=1, flags=re.M)
 
 
 # ---- centres
 
+class Flashes:
+    """The places of a copper file's flashes, as its numbers, by its words; its unit and its format, None before they are said."""
+
+    def __init__(self):
+        self.x, self.y, self.spots, self.scale, self.decimals = "0", "0", set(), None, None
+
+    def word(self, extended, word):
+        if isinstance(word, tuple):
+            for x, y, code, number in word:
+                if not number:
+                    self.operation(x, y, code)
+        elif word in SCALES:
+            self.scale = self.scale or SCALES[word]
+        elif extended and FORMAT.match(word):
+            self.decimals = self.decimals or int(FORMAT.match(word)[1])
+        elif not extended and word[:1] in "GXYD" and OPERATION.fullmatch(word):
+            self.operation(*OPERATION.fullmatch(word).groups())
+
+    def operation(self, x, y, code):
+        self.x, self.y = x or self.x, y or self.y
+        if code == "3":
+            self.spots.add((self.x, self.y))
+
+
 def flashes(package, index):
     """Centres of the flashes of a copper file, in u; none without one format and unit. Copies of blocks have no vote."""
-    text, x, y, found = text_of(package, package.manifest.copper[index]), "0", "0", set()
-    scale, decimals = GERBER_UNIT.search(text), FORMAT.search(text)
-    if not scale or not decimals:
-        return found
-    step = Q(SCALES[scale[1] or scale[2]], 10 ** int(decimals[1]))
-    for new_x, new_y, operation in OPERATION.findall(text):
-        x, y = new_x or x, new_y or y
-        if operation == "3":
-            found.add((x, y))
+    found = Flashes()
+    try:
+        for extended, word, _ in words_of(text_of(package, package.manifest.copper[index]), plain=True):
+            found.word(extended, word)
+    except Refused:
+        return set()
+    if not found.scale or not found.decimals:
+        return set()
+    found, step = found.spots, Q(found.scale, 10 ** found.decimals)
     in_u = {v: round(int(v) * step) for v in {v for place in found for v in place}}
     return {(in_u[x], in_u[y]) for x, y in found}
 

@@ -82,8 +82,9 @@ class Program:
 
     def audit(self, package, report):
         self.progress.begin("auditing the report")
-        package.put("report.txt", report)
-        return self.run(package, "audit", package.name, "report.txt")
+        name = package.report_name()
+        package.put(name, report)
+        return self.run(package, "audit", package.name, name)
 
     def between(self, package, lower, upper, counts):
         self.progress.begin("proving the bounds")

@@ -2,6 +2,8 @@
 import os
 from typing import NamedTuple
 
+from mends import attributes
+
 from . import FAULT, UNDECIDED, UNJUDGED, BadCopper, beside, fault_of, judged, mending, netlist, own_names, package, report, ties, unjudged
 from .board import Board
 
@@ -85,9 +87,12 @@ def shapes_of(program, told):
 
 def labels_of(program, told):
     """The names that the copper files give their pieces, by the program's own reading of them."""
-    if not any(b"%TO.N," in told.package.read(name) for name in set(told.package.manifest.copper)):
+    files = {name: told.package.read(name) for name in told.package.manifest.copper}
+    if not any(attributes.has_names(data, b".N") for data in files.values()):
         return None
-    answer = program.x2(told.package)
+    # `x2` passes over attributes in comments.
+    changed = {name: text for name, text in ((name, attributes.written(data)) for name, data in files.items()) if text != files[name]}
+    answer = program.x2(told.package.changed(package.beside(told.package, "named"), changed) if changed else told.package)
     if answer.status not in (0, 1):
         return None
     try:

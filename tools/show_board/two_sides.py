@@ -22,7 +22,7 @@ MOST_OBJECTS = 400_000
 def of_text(text, outline=None, is_coarse=False):
     """Both sides of a copper file; `outline` gives the box of the board where it is asked for."""
     copper = Copper(text, is_coarse=is_coarse)
-    if copper.long and not copper.cuts:
+    if (copper.long or copper.clears or copper.negative) and not copper.cuts:
         copper = Copper(text, cuts=True)
     if not copper.clears and not copper.long and not copper.negative:
         return copper
@@ -105,10 +105,11 @@ class Copper(Settings, Definitions, Operations, Regions):
         """Ends a block, whose objects give way to their copies, and may open one."""
         if self.copies:
             first, columns, rows, x, y = self.copies
-            once = self.objects[first:]
+            # Copies of nothing are none, however many: `check` takes them.
+            once = [it for it in self.objects[first:] if any(it.both)]
             if len(once) * columns * rows > MOST_OBJECTS:
                 raise Refused("too many copies")
-            self.objects[first:] = [it.moved(i * x, j * y) for i in range(columns) for j in range(rows) for it in once]
+            self.objects[first:] = [it.moved(i * x, j * y) for i in range(columns) for j in range(rows) for it in once] if once else []
         step = self.step(word)
         self.copies = (len(self.objects), *step) if step else None
 
@@ -152,9 +153,7 @@ class Copper(Settings, Definitions, Operations, Regions):
         elif word in ("LPC", "LPD"):
             self.polarity(word)
         elif negative.is_negative(word) and not self.blocks:
-            if self.negative:
-                raise Refused("a file that is negative twice")
-            self.negative = self.number
+            self.set_negative()
         elif word.startswith(("LM", "LR", "LS")):
             self.transform(word)
         elif word.startswith("SR"):
@@ -163,7 +162,16 @@ class Copper(Settings, Definitions, Operations, Regions):
         else:
             self.pass_on(f"%{word}*%")
 
+    def set_negative(self):
+        if self.negative:
+            raise Refused("a file that is negative twice")
+        self.negative = self.number
+
     # ---- other words
+
+    def comment(self, word):
+        if negative.is_negative(word):
+            self.set_negative()
 
     def run(self, numbers, _):
         """The words of a region by their numbers."""
@@ -199,7 +207,9 @@ class Copper(Settings, Definitions, Operations, Regions):
             self.contours = []
         elif word == "G37" and self.contours is not None:
             self.end_region()
-        elif word.startswith("G04") or word == "":
+        elif word.startswith("G04"):
+            self.comment(word)
+        elif word == "":
             pass
         elif re.fullmatch(r"(G54)?D\d{2,9}", word) and int(word.split("D")[1]) >= 10:
             self.select(int(word.split("D")[1]), word)

@@ -3,6 +3,8 @@ import os
 import subprocess
 import sys
 
+from mends.copper_words import begins
+
 from . import FAULT, Stop, netlist
 from .words import printable
 
@@ -24,7 +26,7 @@ def known(package):
     if told.netlist not in missing:
         lines[0] += f" with {len(netlist.records(package.read(told.netlist)))} test records"
     lines += [f"{name} is not there" for name in missing]
-    lines += [f"{name} has macros, which `flatten` rewrites" for name in dict.fromkeys(told.copper) if name not in missing and b"%AM" in package.read(name)]
+    lines += [f"{name} has macros, which `flatten` rewrites" for name in dict.fromkeys(told.copper) if name not in missing and begins(package.read(name), b"AM")]
     lines += [f"taken as {word}" for word in package.guessed]
     return lines + [f"left out: {word}" for word in package.left_out]
 

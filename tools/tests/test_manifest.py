@@ -178,6 +178,25 @@ class Manifest(common.Case):
         self.taken(files, WRITTEN, words=["--yes"])
         self.taken({**TWO, "x.drl": drill("", ";TYPE=NON_PLATED\n")}, WRITTEN, "TYPE=NON_PLATED, so its holes join nothing")
 
+    def test_a_word_counts_for_what_stands_behind_it(self):
+        """Of two tools the one is called unplated: the file is not left out, and what is not said is asked for."""
+        two_tools = "T2C1.0\n%\nT1\nX0.0Y0.0\nT2\nX3.0Y0.0\nM30\n"
+        for text, word in [
+            (drill("", "").replace("%\nT1\nX0.0Y0.0\nM30\n", ";TYPE=NON_PLATED\n" + two_tools), "p.drl: line 10 makes a hole that the file itself calls unplated"),
+            (drill("", "").replace("M30", ";TYPE=NON_PLATED\nX3.0Y0.0\nM30"), "p.drl: line 8 makes a hole that the file itself calls unplated"),
+            (drill("", ";T01 Holesize 1. = 63.0 Tolerance = +0.0/-0.0 PLATED MILS\n;T02 Holesize 2. = 63.0 NON_PLATED MILS\n"), "say --yes"),
+            (drill("", "").replace("M30", ";TYPE=NON_PLATED\nM30"), "say --yes"),
+            (";TYPE=PLATED\n" + drill("", ";TYPE=OTHER\n"), "say --yes"),
+        ]:
+            with self.subTest(text=text):
+                self.refused(two(p_drl=text), word)
+        for text in (drill("", ";T01 Holesize 1. = 63.0 Tolerance = +0.0/-0.0 NON_PLATED MILS\n"), "; NON-PLATED HOLES START AT T1\n" + drill(),
+                     drill("", "").replace("X0.0", ";TYPE=NON_PLATED\nX0.0"), drill("", ";TYPE=NON_PLATED\n"), drill("", "; #@! TA.AperFunction,NonPlated\n").replace("C0.4", "C+0.4")):
+            with self.subTest(text=text):
+                self.taken({**TWO, "q.drl": text}, WRITTEN, "left out: q.drl: ", "so its holes join nothing")
+        notes = self.taken(two(p_drl=drill("", ";TYPE=PLATED\n").replace("%", ";TYPE=X\nT2C1.0\n%", 1)), WRITTEN, words=["--yes"])
+        self.assertIn("p.drl: it says of some of its tools that they are plated, nothing of others (T2)", notes)
+
     def test_copper_by_other_evidence(self):
         name = "%LN{}*%\n"
         rows = [
@@ -224,6 +243,71 @@ class Manifest(common.Case):
         self.refused({**one, "d.drl": drill()}, "looks like copper", words=["--yes"])
         self.taken({**one, "x.gbrjob": '{"GeneralSpecs": {"LayerNumber": 1}}'}, {"copper": ["F.gbr"], "drills": [], "netlist": "n.ipc"}, "left out: B_Cu.gbr: it looks like copper")
         self.taken(two(x_gbl=copper()), WRITTEN, "left out: x.gbl: it looks like copper")
+
+    def test_copper_by_an_order_in_comments(self):
+        """Altium and Protel count the copper in a comment, whatever the files are called; gEDA pcb has groups of layers."""
+        def board(*numbers, names=("a.GTL", "b.x", "c.y", "d.GBL")):
+            return {**{name: copper("", f"G04*\nG04 Layer_Physical_Order={number}*\nG04 Layer_Color=255*\n") for name, number in zip(names, numbers)}, "n.ipc": SURFACE}
+        notes = self.refused(board(1, 3, 2, 4), "say --yes")
+        self.assertIn("would be taken as copper layer 2: c.y: its comment says Layer_Physical_Order=2", notes)
+        self.taken(board(1, 3, 2, 4), {"copper": ["a.GTL", "c.y", "b.x", "d.GBL"], "drills": [], "netlist": "n.ipc"}, words=["--yes"])
+        for files, word in [
+            (board(1, 2, 3, 5), "copper layers 1, 2, 3, 5 by Layer_Physical_Order are not 1 to 5 without a gap"),
+            (board(2, 3, 4), "are not 1 to 4 without a gap"),
+            (board("1*\nG04 Layer_Physical_Order=2", 2, 3, 4), "a.GTL says Layer_Physical_Order=1 and 2"),
+            (board(1, 2, 2, 3), "both look like the same copper layer"),
+            (board(4, 2, 3, 1), "d.GBL says Layer_Physical_Order=1 of 4, and its name says another place"),
+            (board(1, 2, 3, names=("a.GTL", "b.G1", "c.G2")), "c.G2 says Layer_Physical_Order=3 of 3, and its name says another place"),
+            ({**board(1, 2), "d.GBL": copper()}, "not all say their Layer_Physical_Order"),
+        ]:
+            with self.subTest(word=word):
+                self.refused(files, word, words=["--yes"])
+        other = {"a.GTL": copper("", "G04 see Layer_Physical_Order=2*\n"), "b.GBL": copper("", "%INLayer_Physical_Order=1*%\n"), "n.ipc": SURFACE}
+        self.taken(other, {"copper": ["a.GTL", "b.GBL"], "drills": [], "netlist": "n.ipc"}, "b.GBL: its name looks so", words=["--yes"])
+
+    def test_inner_layers_without_a_gap(self):
+        """A gap between the numbers of inner layers is a layer that is missing; a group of layers of gEDA pcb is one."""
+        def board(*inner, name="x-In{}_Cu.gbr", head=""):
+            its = {name.format(k): copper("", head.format(k)) for k in inner}
+            return {"x-F_Cu.gbr": copper(), **its, "x-B_Cu.gbr": copper(), "n.ipc": SURFACE}
+        group = {"name": "x{}.gbr", "head": "%LNGROUP{}*%\n"}
+        for files in (board(1, 2), board(3, **group), board(3, 4, **group), board(2, 3, name="inner{}.gbr"), board(4, 7, name="a{}.gbr", head="%LNINTERN_COPPER_NONE_{}*%\n")):
+            with self.subTest(files=list(files)):
+                self.taken(files, {"copper": list(files)[:-1], "drills": [], "netlist": "n.ipc"}, words=["--yes"])
+        for files in (board(1, 3), board(2), board(2, 4, **group), board(3, name="inner{}.gbr"), board(2, name="x.g{}")):
+            with self.subTest(files=list(files)):
+                self.refused(files, "so one is missing: export every copper layer", words=["--yes"])
+        self.refused({**board(1), **board(2, **group)}, "are of different kinds", words=["--yes"])
+
+    def test_copper_that_nothing_names(self):
+        """Beside copper that names alone tell, a Gerber file of which nothing says what it is may be a layer: it is asked for."""
+        names = {"x.gtl": copper(), "x.gbl": copper(), "n.ipc": SURFACE}
+        written = {"copper": ["x.gtl", "x.gbl"], "drills": [], "netlist": "n.ipc"}
+        notes = self.refused({**names, "mystery.gbr": copper(), "x.gts": copper()}, "say --yes")
+        self.assertIn("would be taken as no copper, left out: mystery.gbr: ", notes)
+        self.assertNotIn("would be taken as no copper, left out: x.gts", notes)
+        self.taken({**names, "mystery.gbr": copper()}, written, "taken as no copper, left out: mystery.gbr", words=["--yes"])
+        for name, text in (("x-mask-In1_Cu.gbr", copper()), ("keep_l2.gbr", copper()), ("y.gbr", copper("Copper,2,Inr")), ("y.gbr", copper("copper,L2")),
+                           ("z.gbr", " " * 100_000 + copper())):
+            self.assertIn(f"would be taken as no copper, left out: {name}: ", self.refused({**names, name: text}, "say --yes"))
+        notes = self.refused({**names, "mystery.gbr": copper(), "x.gbrjob": '{"GeneralSpecs": {"LayerNumber": 2}}'}, "say --yes")
+        self.assertNotIn("mystery.gbr: it is a Gerber file without the attribute TF.FileFunction, and no name says that it is copper\nwould", notes)
+        self.assertNotIn("would be taken as no copper", notes)
+
+    def test_words_and_not_bytes(self):
+        """An attribute is a word of its own, or a whole comment; what only stands in another word, behind the end, or in a macro says nothing."""
+        other = [copper("", head) for head in ("G04 not %TF.FileFunction,Copper,L2,Bot*\n".replace("%", ""), "%LNX TF.FileFunction,Copper,L2,Bot*%\n",
+                                               "%AMX*0 a*TF.FileFunction,Copper,L2,Bot*%\n")] + [copper() + "%TF.FileFunction,Copper,L2,Bot*%\n"]
+        for text in other:
+            with self.subTest(text=text):
+                self.refused(two(B_gbr=text), "spans layers 1 to 2 of 1")
+        for head in ("%MOMM*TF.FileFunction,Copper,L2,Bot*%\n", "G04 #@!TF.FileFunction,Copper,L2,Bot*\n", "%\nTF.FileFunction,Copper,L2,Bot*%\n"):
+            with self.subTest(head=head):
+                self.taken(two(B_gbr=copper("", head)), WRITTEN)
+        twice = copper("Copper,L2,Bot", "G04 #@! TF.FileFunction,Copper,L3,Inr*\n")
+        self.refused(two(B_gbr=twice), "says of itself that it is Copper,L3,Inr and Copper,L2,Bot")
+        self.refused(two(B_gbr=copper("Soldermask,Bot", "G04 #@! TF.FileFunction,Copper,L2,Bot*\n")), "says of itself that it is")
+        self.taken(two(B_gbr=copper("Copper,L2,Bot", "G04 #@! TF.FileFunction,Copper,L2,Bot*\n")), WRITTEN)
 
     def test_a_file_that_may_be_the_bottom(self):
         one = {"F.gbr": copper("Copper,L1,Top"), "other.gbr": copper(), "n.ipc": SURFACE}

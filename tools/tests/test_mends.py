@@ -188,6 +188,48 @@ class Mends(common.Case):
         for text in (drill(*MIXED, tools=kinds), drill(*MIXED, tools=TOOLS)):
             self.assertNotIn(b"X3.0", drill_file.mended(text.encode())[0])
 
+    def test_plating_in_other_words(self):
+        """What Allegro, Fritzing and Altium say in comments is read: of tools by their numbers, of those behind a word, and of no other."""
+        fritzing = ("; NON-PLATED HOLES START AT T1", "; THROUGH (PLATED) HOLES START AT T100", "M48")
+        size = ";{}Holesize {}. = 63.0 Tolerance = +0.0/-0.0 {} MILS Quantity = 4"
+        two = ("T1C0.4", "T8C1.0")
+        rows = [(drill(tools=(size.format("T01 ", 1, "PLATED"), size.format("T08 ", 8, "NON_PLATED"), *two)), {1: True, 8: False}),
+                (drill(tools=(size.format(" ", 1, "PLATED"), "T1C0.4", size.format(" ", 8, "NON_PLATED"), "T8C1.0")), {1: True, 8: False}),
+                (drill(tools=(size.format(" ", 1, "PLATED"), size.format(" ", 8, "NON PLATED"), *two)), {1: True, 8: False}),
+                (drill(tools=(size.format(" ", 1, "PLATED"), "T1C0.4", size.format(" ", 2, "NON_PLATED"), "T8C1.0")), {1: True, 8: False}),
+                (drill(tools=(size.format(" ", 8, "PLATED"), "T1C0.4", size.format(" ", 1, "NON_PLATED"), "T8C1.0")), {1: None, 8: None}),
+                (drill(tools=(size.format("T08 ", 8, "OPTIONAL"), *two)), {1: None, 8: None}),
+                (drill(front=fritzing, tools=("T1C0.4", "T99C0.4", "T100C0.4", "T101C1.0")), {1: False, 99: False, 100: True, 101: True}),
+                (drill(front=fritzing[1:], tools=("T1C0.4", "T100C0.4")), {1: None, 100: True}),
+                (drill(tools=("T1C0.4", ";TYPE=NON_PLATED", "T2C1.0")), {1: None, 2: False}),
+                (drill(tools=(";TYPE=PLATED", "T1C0.4", ";TYPE=OTHER", "T2C1.0")), {1: True, 2: None}),
+                (drill(tools=(";TYPE=PLATED", OWN.format("NonPlated"), "T1C0.4")), {1: None}),
+                (drill(tools=(";#@!TA.AperFunction,NonPlated,NPTH", "T1C+0.5", ";\t#@! \tTA.AperFunction,NonPlated", "T2F1S2C+.5H3", "; #@! TA.AperFunction,NonPlatedX", "T3C-0.5")),
+                 {1: False, 2: False, 3: None})]
+        for text, tools in rows:
+            self.assertEqual(plating.Plating(text.encode()).tools, tools, text)
+        body = ("T1", "X0.0Y0.0", "T8", "X3.0Y0.0")
+        self.assertEqual(plating.unplated_hole(drill(*body, tools=(size.format("T08 ", 8, "NON_PLATED"), *two)).encode()), 10)
+        told = drill(*body, tools=(size.format("T01 ", 1, "PLATED"), size.format("T08 ", 8, "NON_PLATED"), *two))
+        self.assertNotIn(b"X3.0", drill_file.mended(told.encode())[0])
+        # A word in the body that says another thing than the tool's is no mend.
+        torn = told.replace("X0.0Y0.0", ";TYPE=NON_PLATED\nX0.0Y0.0")
+        self.assertEqual((drill_file.mended(torn.encode())[1], plating.unplated_hole(torn.encode())), ([], 10))
+        behind = drill(*body, ";TYPE=NON_PLATED", tools=two)
+        self.assertEqual((plating.unplated_hole(behind.encode()), plating.Plating(behind.encode()).is_unplated_alone()), (0, False))
+
+    def test_functions_that_check_passes_over(self):
+        """A file function in another form than the one that `check` reads, judged as that would be; the one form is left to `check`."""
+        for lead in (";#@! ", "; #@!", ";  #@!  ", ";\t#@! "):
+            for function, kind in (("NonPlated,1,1", "drill 12 NotPlated"), ("MixedPlating,1,1", "drill 13 MixedPlating"), ("Plated,1,2,PTH", "drill 11 WrongSpan"), ("Plated", "drill 11 WrongSpan"),
+                                   ("Drillmap", "drill 2 BadLine"), ("Plated,1,1,PTH", None)):
+                for text, line in ((drill(header=(f"{lead}TF.FileFunction,{function}", "METRIC")), 2), (drill(end=("M30", f"{lead}TF.FileFunction,{function}")), 9)):
+                    self.assertEqual(plating.unread_function(text.encode(), 1, 1), kind and (kind, line), text)
+        self.assertIsNone(plating.unread_function(drill(header=("; #@! TF.FileFunction,NonPlated,1,1", "METRIC")).encode(), 1, 1))
+        told = drill(*MIXED, header=(";#@! TF.FileFunction,MixedPlating,1,1", "METRIC"), tools=TOOLS)
+        self.assertIsNone(plating.unread_function(told.encode(), 1, 1))
+        self.assertIn(b"; #@! TF.FileFunction,Plated,1,1\n", drill_file.mended(told.encode())[0])
+
     def test_only_what_is_refused(self):
         for kind, text, *_ in COPPER:
             self.refusal(text, "gbr")
@@ -289,6 +331,9 @@ def is_in(contour, x, y):
     return within
 
 
+COMB = [(0, 0), (0, 9), (2, 9), (2, 2), (4, 2), (4, 9), (6, 9), (6, 2), (8, 2), (8, 9), (10, 9), (10, 0), (0, 0)]
+
+
 class Contours(common.Case):
     """Contours cut at a lower limit: the parts' copper is compared with the whole's at many places, on edges and beside them."""
 
@@ -342,14 +387,40 @@ class Contours(common.Case):
         self.assertIsNone(chords.cut([ring[5 * k % 11] for k in range(11)]))
         self.assertIsNone(chords.cut([(k, 0) for k in range(12)]))
 
+    def test_words_and_not_bytes(self):
+        """A comment that ends with a region's words begins and ends none, and one with a word that erases is no such word."""
+        from mends import long_contours
+        for module in (copper_file, long_contours):
+            self.addCleanup(setattr, module, "MOST_EDGES", module.MOST_EDGES)
+            module.MOST_EDGES = 8
+        edges = "X0Y0D02*\n" + "".join(f"X{1000 * x}Y{1000 * y}D01*\n" for x, y in COMB[1:])
+        small = "G36*\nX0Y0D02*\nX1000Y0D01*\nX1000Y1000D01*\nX0Y0D01*\nG37*\n"
+        for head, foot in (("G04 a G36*\n", "G04 b G37*\n"), ("G04 a G36*\n", small), ("G04G36*\n", "G04 a*G04 G37*\n"), ("G37*\n", "G37*\n")):
+            text = (HEAD + PADS + head + edges + foot + END).encode()
+            self.assertEqual(copper_file.mended(text), (text, []), head)
+        for body in (edges, "G04 G37*\n" + edges, edges.replace("D01*\n", "D01*\nG04 LPC*\n", 1), edges + "G04 G03*\n"):
+            text = (HEAD + "G04 no LPC*\nG04*\nG04 SRX2*\n" + "G36*\n" + body + "G37*\n" + PADS + END).encode()
+            data, mends = copper_file.mended(text)
+            self.assertEqual([it.kind for it in mends], [table.CONTOUR], body)
+            self.assertTrue(data.endswith(b"G37*\nM02*\n"))
+        ends = (HEAD + "G36*\n" + edges + "G37*\n" + PADS + "M02*\nG04 M02*\n").encode()
+        self.assertEqual(copper_file.mended(ends), (ends, []))
+
+    def test_the_name_in_force(self):
+        """The other parts have the net name in force behind the contour, by the words that give one."""
+        from mends import long_contours
+        names = "%TO.N,A*%\nG04 TO.N,B*\n%INTO.N,C*%\n"
+        for text, name in ((names, b"A"), (names + "%TO.P,U1,1*%\n", b"A"), (names + "%TD.P*%\n", b"A"), (names + "%TD*%\n", b""), (names + "%TD.N*%\n", b""),
+                           (names + "%TO.N,D*TO.P,U1,2*%\n", b"D"), (names + "%TD.N*TO.N,E,F*%\n", b"E,F"), ("G04 TD*\n", b"")):
+            self.assertEqual(long_contours.name_before(text.encode() + b"%TO.N,Z*%", len(text)), b"%TD*%\n" + (b"%TO.N," + name + b"*%\n" if name else b""), text)
+
     def test_file(self):
         """The first part stays in its words, the others follow at the end with the net name of the contour."""
         from mends import long_contours
         for module in (copper_file, long_contours):
             self.addCleanup(setattr, module, "MOST_EDGES", module.MOST_EDGES)
             module.MOST_EDGES = 8
-        comb = [(0, 0), (0, 9), (2, 9), (2, 2), (4, 2), (4, 9), (6, 9), (6, 2), (8, 2), (8, 9), (10, 9), (10, 0), (0, 0)]
-        text = (HEAD + "%TO.N,GND*%\nG36*\nX0Y0D02*\n" + "".join(f"X{1000 * x}Y{1000 * y}D01*\n" for x, y in comb[1:]) + "G37*\n%TO.N,SIG*%\n" + PADS + END).encode()
+        text = (HEAD + "%TO.N,GND*%\nG36*\nX0Y0D02*\n" + "".join(f"X{1000 * x}Y{1000 * y}D01*\n" for x, y in COMB[1:]) + "G37*\n%TO.N,SIG*%\n" + PADS + END).encode()
         data, mends = copper_file.mended(text)
         self.assertEqual([(it.kind, it.line) for it in mends], [(table.CONTOUR, 6)])
         before, after = data.split(b"%TD*%\n%TO.N,GND*%\nG01*\nG36*\n")

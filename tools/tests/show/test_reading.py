@@ -89,6 +89,10 @@ class Copper(unittest.TestCase):
 
 class Netlists(unittest.TestCase):
     def test_records(self):
+        rows = [("P  UNITS CUST 1", 10_000), ("P\tUNITS\tCUST\t0\r", 25_400), ("PUNITS CUST 1", 10_000), ("P UNITS CUST 1" + " " * 60 + "2", 10_000), ("P UNITS CUST 2", None),
+                ("C  UNITS CUST 1", None), (" P UNITS CUST 1", None), ("P  UNITS SI", None), ("P  NOTE UNITS CUST 1\nP  UNITS CUST 0", 25_400)]
+        for line, unit in rows:
+            self.assertEqual(netlist.unit_of(f"C a\n{line}\n999\n".encode()), unit, line)
         lines = ["P  UNITS CUST 1", made.record("GND", "J1.1", -1, 2.5), "C note", "", "317GND              VIA        MD0118PA00X+0Y+0",
                  "999", made.record("A", "J1.2", 0, 0)]
         first, second = netlist.records("\r\n".join(lines).encode())
