@@ -28,7 +28,7 @@ BETWEEN = ", between two bounds"
 
 class Bounded(NamedTuple):
     """The answer on a board between two; `findings` are (kind, sure, words, places), places (x, y, layer) with x and y in u.
-    `points` are those of each finding, `sides` what both boards are made of."""
+    `points` are those of each finding, `sides` what both boards are made of, `notes` what else is to be told."""
 
     status: int
     line: str
@@ -36,6 +36,7 @@ class Bounded(NamedTuple):
     left_out: list
     points: tuple = ()
     sides: tuple = ()
+    notes: tuple = ()
 
 
 class Sides(NamedTuple):
@@ -95,11 +96,17 @@ def of_package(package, is_coarse=False):
     return Sides(made, sources, left_out, rows, unlike, is_bent)
 
 
-def both_judged(program, sides):
-    """What the program says of both packages, each report audited."""
+def is_same_board(one, other):
+    """Whether two packages have the same files."""
+    return one.manifest.text() == other.manifest.text() and all(one.read(name) == other.read(name) for name in one.manifest.names())
+
+
+def both_judged(program, sides, before=()):
+    """What the program says of both packages, each report audited; one like another that was judged before is not judged again."""
     told = []
-    for side, package in zip(SIDES, sides.packages):
-        answer = judged.judge(program, package)
+    for number, (side, package) in enumerate(zip(SIDES, sides.packages)):
+        known = before and before[number]
+        answer = known if known and is_same_board(known.package, package) else judged.judge(program, package)
         if answer.report is None:
             raise Refused(f"the {side} board: {answer.line}")
         told.append(answer)
@@ -126,12 +133,19 @@ def answered(program, package, sides, low, high, ties):
     return Bounded(status, line, [it[:4] for it in findings], sides.left_out, tuple(it[4] for it in findings), sides.sources)
 
 
+def judged_by(program, package, sides, ties, before=()):
+    """(answer, lower, upper) of both sides of a package; Refused where one is. `before` is such an answer by other sides."""
+    low, high = both_judged(program, sides, before[1:])
+    return answered(program, package, sides, low, high, ties), low, high
+
+
 def judge(program, package, ties):
-    """(answer, lower, upper) of a package, made once; Refused where no bounds can be given."""
+    """The same by sides that are made once; Refused where no bounds can be given."""
+    if package.no_bounds:
+        raise Refused(package.no_bounds)
     if not package.between:
-        sides = package.sides = of_package(package)
-        low, high = both_judged(program, sides)
-        package.between = answered(program, package, sides, low, high, ties), low, high
+        package.sides = of_package(package)
+        package.between = judged_by(program, package, package.sides, ties)
     return package.between
 
 

@@ -93,7 +93,7 @@ class Operations:
         first, last = (start, self.spot) if anticlockwise else (self.spot, start)
         back = lambda spot: spot and (spot[0] - first[0], spot[1] - first[1])
         chain, both = arc_beside(back(centre), back(last), radius)
-        self.stands([tuple(map(len, both))])
+        self.stands(None if radius > 0 and centre in (first, last) else [tuple(map(len, both))])
         if radius > 0 and not both[0]:
             self.lose(f"an arc at command {self.number}")
         areas = ring(centre, [(x + first[0], y + first[1]) for x, y in chain], radius.__ceil__()) if self.cuts and chain else None
