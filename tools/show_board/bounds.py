@@ -16,6 +16,7 @@ from .differing import Differing
 from .exact import Refused
 from .joint import Joint
 from .package import beside
+from .side import line_numbers
 from .ties import Ties, lost
 from .words import counted
 
@@ -74,6 +75,16 @@ def sides_of(package, name, is_coarse=False):
         raise fault_of(package.told_path(name), fault) from fault
 
 
+def told_once(text, lost):
+    """What a file leaves out, each kind once: with its first command, that one's line, and how many more there are."""
+    kinds = {}
+    for what in lost:
+        words, _, command = what.rpartition(" at command ")
+        kinds.setdefault(words, []).append(int(command))
+    lines = line_numbers(text, [its[0] for its in kinds.values()])
+    return [f"{words} at command {its[0]}, line {lines[its[0]]}" + (f", and {len(its) - 1} more" if len(its) > 1 else "") for words, its in kinds.items()]
+
+
 def of_package(package, is_coarse=False):
     """Both sides of each copper file that holds something outside the profile; the others are the same files. Coarse ones have areas
     within regions as `between` wants them."""
@@ -81,7 +92,7 @@ def of_package(package, is_coarse=False):
     for name in dict.fromkeys(package.manifest.copper):
         copper = sides_of(package, name, is_coarse)
         is_bent = is_bent or copper.is_bent
-        left_out += [f"{name}: {what}" for what in copper.lost]
+        left_out += [f"{name}: {what}" for what in told_once(package.read(name).decode("latin-1"), copper.lost)]
         replaced += copper.replaced
         rows[name] = copper.rows if copper.replaced == len(copper.rows) else None
         unlike[name] = copper.unlike

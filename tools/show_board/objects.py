@@ -9,7 +9,7 @@ from typing import NamedTuple
 
 from .drawn import OPERATION
 from .exact import DECIMAL, Refused
-from .macros import Expression
+from .macros import Expression, compact
 from .units import SCALES
 from .side import DRAW, FLASH, MOVE, words_of
 from .two_sides import MODES
@@ -149,7 +149,7 @@ class Walk:
         """How many primitives of a macro have an image."""
         variables, count = {k: value for k, value in enumerate(values, 1)}, 0
         try:
-            for word in (re.sub(r"\s", "", word) for word in self.macros[name]):
+            for word in map(compact, self.macros[name]):
                 if not word or word.startswith("0"):
                     continue
                 parts = word.split(",")

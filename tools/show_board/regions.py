@@ -94,7 +94,7 @@ class Regions:
             run = [*map(by, made.outer)]
             return Contour(([run], [run]), grown, True, None)
         if not made.inner:
-            self.lose(f"a contour with arcs of the region at command {self.number}")
+            self.lose("a contour with arcs of the region")
         run = lambda corners: [*map(by, corners), by(corners[0])]
         runs = [run(corners) for corners in made.inner], [run(made.outer)] if made.outer else []
         return Contour(runs, grown, True, (len(runs[0]), 1 + len(grown)) if made.is_read else None)

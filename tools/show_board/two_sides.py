@@ -91,7 +91,8 @@ class Copper(Settings, Definitions, Operations, Regions):
 
     def lose(self, what):
         """What LOWER leaves out, or what a clear object does not take away from UPPER."""
-        self.lost.append(f"what {what} takes away, which the upper bound has" if self.clear else what)
+        what = f"what {what} takes away, which the upper bound has," if self.clear else what
+        self.lost.append(f"{what} at command {self.number}")
 
     def polarity(self, word):
         if self.contours is not None and (self.clear or word == "LPC"):

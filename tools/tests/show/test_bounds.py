@@ -263,7 +263,7 @@ class Packages(made.Case):
         thin = [*HEAD, "%ADD10C,0.0002*%", "D10*", "X1000000Y0D02*", "G03X-1000000Y0I-1000000J0D01*"]
         for program in self.over_both():
             told = self.bounded(program, thin, [record("A", "J1.1", 1, 0), record("A", "J1.2", -1, 0)])
-            self.assertEqual((told.status, told.left_out), (11, ["top.gbr: an arc at command 7"]))
+            self.assertEqual((told.status, told.left_out), (11, ["top.gbr: an arc at command 7, line 7"]))
 
     # Files that the program flattens: what is passed on and what is replaced by whole pieces comes out as the same solids.
     WHOLE = [
