@@ -59,10 +59,12 @@ def is_outside(line):
 
 
 def outline_of(package):
-    """The box of a board with negative files."""
-    from . import negative, two_sides
-    texts = [package.read(name).decode("latin-1") for name in dict.fromkeys(package.manifest.copper)]
-    return negative.outline_of(negative.profile_of(package.around), texts, lambda text: two_sides.Copper(text, cuts=True).objects)
+    """The outline of a board with negative files, looked for once."""
+    from . import profiles
+    if not package.outline:
+        texts = [package.read(name).decode("latin-1") for name in dict.fromkeys(package.manifest.copper)]
+        package.outline = profiles.outline_of(profiles.profiles_of(package.around), texts)
+    return package.outline
 
 
 def sides_of(package, name, is_coarse=False):

@@ -20,7 +20,7 @@ MOST_OBJECTS = 400_000
 
 
 def of_text(text, outline=None, is_coarse=False):
-    """Both sides of a copper file; `outline` gives the box of the board where it is asked for."""
+    """Both sides of a copper file; `outline` gives the board's outline where it is asked for."""
     copper = Copper(text, is_coarse=is_coarse)
     if copper.long and not copper.cuts:
         copper = Copper(text, cuts=True)
@@ -30,8 +30,10 @@ def of_text(text, outline=None, is_coarse=False):
     if copper.negative:
         if outline is None:
             raise Refused("a negative file")
-        objects = negative.exchanged(objects, outline(), copper.negative)
+        its = outline()
+        objects = negative.exchanged(objects, its, copper.negative)
         also = {it.tag for it in objects}
+        copper.lost += [f"the plane, since the board's outline is not known ({its.why}), at command {copper.negative}"] if its.why else []
     taken, *written = clear.cut(objects, also)
     again = Copper(text, taken, written, True)
     again.lost = copper.lost

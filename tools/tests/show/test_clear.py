@@ -675,7 +675,7 @@ class Boards(made.Case):
         self.write("board/edge.gbr", "\n".join(["%TF.FileFunction,Profile,NP*%", *Plane.HEAD, *draw(12, (0, 0), (nm(size), 0), (nm(size), nm(size)), (0, nm(size)), (0, 0)), "M02*", ""]) if profile else "")
 
     def test_negative(self):
-        """By both words, with and without a profile file; the box of the latter is wider than the copper's."""
+        """By both words, with and without a profile file; without one nobody knows where the plane ends."""
         far = record("GND", "E1.1", .1, 9.9)
         for word in ("%IPNEG*%", "%TF.FilePolarity,Negative*%"):
             plane = Plane(4)
@@ -684,7 +684,7 @@ class Boards(made.Case):
             plane = Plane(4)
             self.negative(plane, word, False)
             status, out = self.told(plane, far)
-            self.assertEqual((status, "no copper lies under E1 pin 1" in out), (1, True), out)
+            self.assertEqual((status, "no copper lies under E1 pin 1" in out, "since the board's outline is not known" in out), (11, False, True), out)
             plane = Plane(4)
             plane.broken, plane.shorted = [(1, 1)], [(2, 1)]
             self.negative(plane, word, True)
