@@ -6,7 +6,7 @@ from fractions import Fraction as Q
 from functools import cmp_to_key
 from math import isqrt
 
-from .exact import ceil_root, floor_root
+from .exact import Refused, ceil_root, floor_root
 from .spots import cross, dot
 
 SAGITTA = 3600      # a chord leaves its arc by about 0.36 micrometres at most
@@ -128,9 +128,23 @@ def is_loop(centre, start, end):
     return dot(centre, start, start) != dot(centre, end, end) and cross(centre, start, end) == 0 <= dot(centre, start, end)
 
 
+def is_meant(centre, start, end):
+    """Whether the ends are in one line with the centre, or so alike in their distances that the circle through both with the nearest centre
+    goes round it: as `IsMeant` of the crate `arcs` says it. Of another arc nobody knows where its copper is."""
+    unlike, swing = abs(dot(centre, start, start) - dot(centre, end, end)), cross(centre, start, end)
+    return swing == 0 or unlike <= dot(start, end, end) or unlike <= 2 * abs(swing)
+
+
+def need_meant(centre, start, end):
+    if not is_meant(centre, start, end):
+        raise Refused("an arc whose ends are too unlike in their distances from its centre")
+
+
 def draw_bounds(centre, start, end, radius):
-    """(chain, draws below and above) of a draw counterclockwise; as the checks of the crate `arcs` take them. Ends in one direction
-    at two distances may be a whole turn apart or none: above is a whole turn, below nothing, and there is no chain."""
+    """(chain, draws below and above) of a draw counterclockwise; as the checks of the crate `arcs` take them, but where an end is the centre.
+    Ends in one direction at two distances may be a whole turn apart or none: above is a whole turn, below nothing, and there is no chain."""
+    if radius > 0:
+        need_meant(centre, start, end)
     if is_loop(centre, start, end):
         return None, ([], chain_bounds(*arc_chain(centre, start, end, True), radius)[1])
     chain, most = arc_chain(centre, start, end)

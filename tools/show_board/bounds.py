@@ -16,6 +16,7 @@ from .differing import Differing
 from .exact import Refused
 from .joint import Joint
 from .package import beside
+from .side import line_numbers
 from .ties import Ties, lost
 from .words import counted
 
@@ -28,7 +29,7 @@ BETWEEN = ", between two bounds"
 
 class Bounded(NamedTuple):
     """The answer on a board between two; `findings` are (kind, sure, words, places), places (x, y, layer) with x and y in u.
-    `points` are those of each finding, `sides` what both boards are made of."""
+    `points` are those of each finding, `sides` what both boards are made of, `notes` what else is to be told."""
 
     status: int
     line: str
@@ -36,6 +37,7 @@ class Bounded(NamedTuple):
     left_out: list
     points: tuple = ()
     sides: tuple = ()
+    notes: tuple = ()
 
 
 class Sides(NamedTuple):
@@ -57,10 +59,12 @@ def is_outside(line):
 
 
 def outline_of(package):
-    """The box of a board with negative files."""
-    from . import negative, two_sides
-    texts = [package.read(name).decode("latin-1") for name in dict.fromkeys(package.manifest.copper)]
-    return negative.outline_of(negative.profile_of(package.around), texts, lambda text: two_sides.Copper(text, cuts=True).objects)
+    """The outline of a board with negative files, looked for once."""
+    from . import profiles
+    if not package.outline:
+        texts = [package.read(name).decode("latin-1") for name in dict.fromkeys(package.manifest.copper)]
+        package.outline = profiles.outline_of(profiles.profiles_of(package.around), texts)
+    return package.outline
 
 
 def sides_of(package, name, is_coarse=False):
@@ -73,6 +77,16 @@ def sides_of(package, name, is_coarse=False):
         raise fault_of(package.told_path(name), fault) from fault
 
 
+def told_once(text, lost):
+    """What a file leaves out, each kind once: with its first command, that one's line, and how many more there are."""
+    kinds = {}
+    for what in lost:
+        words, _, command = what.rpartition(" at command ")
+        kinds.setdefault(words, []).append(int(command))
+    lines = line_numbers(text, [its[0] for its in kinds.values()])
+    return [f"{words} at command {its[0]}, line {lines[its[0]]}" + (f", and {len(its) - 1} more" if len(its) > 1 else "") for words, its in kinds.items()]
+
+
 def of_package(package, is_coarse=False):
     """Both sides of each copper file that holds something outside the profile; the others are the same files. Coarse ones have areas
     within regions as `between` wants them."""
@@ -80,7 +94,7 @@ def of_package(package, is_coarse=False):
     for name in dict.fromkeys(package.manifest.copper):
         copper = sides_of(package, name, is_coarse)
         is_bent = is_bent or copper.is_bent
-        left_out += [f"{name}: {what}" for what in copper.lost]
+        left_out += [f"{name}: {what}" for what in told_once(package.read(name).decode("latin-1"), copper.lost)]
         replaced += copper.replaced
         rows[name] = copper.rows if copper.replaced == len(copper.rows) else None
         unlike[name] = copper.unlike
@@ -95,11 +109,17 @@ def of_package(package, is_coarse=False):
     return Sides(made, sources, left_out, rows, unlike, is_bent)
 
 
-def both_judged(program, sides):
-    """What the program says of both packages, each report audited."""
+def is_same_board(one, other):
+    """Whether two packages have the same files."""
+    return one.manifest.text() == other.manifest.text() and all(one.read(name) == other.read(name) for name in one.manifest.names())
+
+
+def both_judged(program, sides, before=()):
+    """What the program says of both packages, each report audited; one like another that was judged before is not judged again."""
     told = []
-    for side, package in zip(SIDES, sides.packages):
-        answer = judged.judge(program, package)
+    for number, (side, package) in enumerate(zip(SIDES, sides.packages)):
+        known = before and before[number]
+        answer = known if known and is_same_board(known.package, package) else judged.judge(program, package)
         if answer.report is None:
             raise Refused(f"the {side} board: {answer.line}")
         told.append(answer)
@@ -126,12 +146,19 @@ def answered(program, package, sides, low, high, ties):
     return Bounded(status, line, [it[:4] for it in findings], sides.left_out, tuple(it[4] for it in findings), sides.sources)
 
 
+def judged_by(program, package, sides, ties, before=()):
+    """(answer, lower, upper) of both sides of a package; Refused where one is. `before` is such an answer by other sides."""
+    low, high = both_judged(program, sides, before[1:])
+    return answered(program, package, sides, low, high, ties), low, high
+
+
 def judge(program, package, ties):
-    """(answer, lower, upper) of a package, made once; Refused where no bounds can be given."""
+    """The same by sides that are made once; Refused where no bounds can be given."""
+    if package.no_bounds:
+        raise Refused(package.no_bounds)
     if not package.between:
-        sides = package.sides = of_package(package)
-        low, high = both_judged(program, sides)
-        package.between = answered(program, package, sides, low, high, ties), low, high
+        package.sides = of_package(package)
+        package.between = judged_by(program, package, package.sides, ties)
     return package.between
 
 

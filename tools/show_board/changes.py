@@ -7,6 +7,7 @@ from .apertures import Pen, Shape
 from .clear import Object
 from .exact import cos_sin, exact, minus, times, turned, whole_near
 from .outlines import polygon_bounds
+from .spots import cross, edges
 
 MIRRORS = {"N": (False, False), "X": (True, False), "Y": (False, True), "XY": (True, True)}
 
@@ -30,9 +31,22 @@ class Change(NamedTuple):
         """Whether a flash of it looks otherwise. A circle is the same, however it is turned."""
         return self.size != 1 if isinstance(made, Pen) and made.radius is not None else self != Change()
 
+    def is_square(self):
+        """Whether whole places stay whole."""
+        return self.size == 1 and self.turn % 90 == 0
+
     def shape(self, made):
+        """The changed shape. What is cut into parts loses what joins them, and maybe some of them."""
         lower, upper = ([it for piece in pieces for it in changed(self, frozen(piece), side)] for side, pieces in enumerate(made.both))
-        return Shape(lower, upper, made.lost or ("a changed shape" if made.both[0] and not lower else None), made.is_pen)
+        lost = self.lost(made.both[0], len(lower))
+        told = [*([made.lost] if made.lost else []), *([f"{lost} a changed shape"] if lost else [])]
+        return Shape(lower, upper, " and ".join(told) or None, made.is_pen)
+
+    def lost(self, before, left):
+        """What is lost of pieces of which so many are left; None for nothing. Areas that abut where they are cut do so no more."""
+        if left < len(before):
+            return f"{len(before) - left} of the {len(before)} parts of" if left else "all of"
+        return f"the join of the {left} parts of" if not self.is_square() and abut(before) else None
 
     def objects(self, block):
         """The objects of a block, changed."""
@@ -40,6 +54,26 @@ class Change(NamedTuple):
             return block.objects
         return [Object(it.dark, tuple([part for piece in pieces for part in changed(self, frozen(piece), side)] for side, pieces in enumerate(it.both)), it.tag)
                 for it in block.objects]
+
+
+def abut(pieces):
+    """Whether a level or upright edge of an area lies along one of another that is on its other side."""
+    lines = {}
+    for k, piece in enumerate(pieces):
+        sides = edges(piece[1]) if piece[0] == "area" else []
+        is_left = sum(cross((0, 0), a, b) for a, b in sides) > 0
+        for a, b in sides:
+            for axis in (0, 1):
+                if a[axis] == b[axis] and a != b:
+                    low, high = sorted((a[1 - axis], b[1 - axis]))
+                    lines.setdefault((axis, a[axis]), []).append((low, high, k, (a < b) == is_left))
+    for its in lines.values():
+        reach = {}
+        for low, high, k, side in sorted(its):
+            if any(low < end for (other, its_side), end in reach.items() if other != k and its_side != side):
+                return True
+            reach[k, side] = max(high, reach.get((k, side), high))
+    return False
 
 
 def frozen(piece):

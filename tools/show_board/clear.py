@@ -2,7 +2,7 @@
 
 The copper is what each dark object has outside all clear ones after it. Below it are the dark objects' pieces within them without
 the clear objects' pieces round them; above it are the pieces round without the pieces within. At a border between dark and clear
-either is allowed. Dark objects that no later clear one comes near stay as they are.
+either is allowed; where pieces of one object abut is no border. Dark objects that no later clear one comes near stay as they are.
 """
 from collections import Counter
 from math import gcd
@@ -88,8 +88,8 @@ def cut(objects, also=()):
     apart, out = set(swept), []
     for side in (0, 1):
         written = [(piece, it.tag) for n, it in enumerate(objects) if it.dark and it.tag in tags and n not in apart for piece in it.both[side]]
-        items = [(it.dark, corners, it.tag, within) for it in (objects[n] for n in swept) for corners, within in corners_of(it, side)]
-        made = Sweep([it[:2] for it in items], bool(side), [k for k, it in enumerate(items) if it[3]]).out
+        items = [(objects[n].dark, corners, objects[n].tag, within, n) for n in swept for corners, within in corners_of(objects[n], side)]
+        made = Sweep([it[:2] for it in items], bool(side), [k for k, it in enumerate(items) if it[3]], [it[4] for it in items]).out
         last = max((k for k, it in enumerate(items) if it[0]), default=0)
         written += [(("area", corners), items[k if k >= 0 else last][2]) for corners, k in made]
         out.append(written)

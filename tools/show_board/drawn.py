@@ -93,9 +93,9 @@ class Operations:
         first, last = (start, self.spot) if anticlockwise else (self.spot, start)
         back = lambda spot: spot and (spot[0] - first[0], spot[1] - first[1])
         chain, both = arc_beside(back(centre), back(last), radius)
-        self.stands([tuple(map(len, both))])
+        self.stands(None if radius > 0 and centre in (first, last) else [tuple(map(len, both))])
         if radius > 0 and not both[0]:
-            self.lose(f"an arc at command {self.number}")
+            self.lose("an arc")
         areas = ring(centre, [(x + first[0], y + first[1]) for x, y in chain], radius.__ceil__()) if self.cuts and chain else None
         self.write_pieces(both, areas, first)
 
@@ -147,7 +147,7 @@ class Operations:
             shape = self.framed(self.changed(made))
             self.stands(shape.rows)
             if shape.lost:
-                self.lose(f"{shape.lost} at command {self.number}")
+                self.lose(shape.lost)
             if self.stays(*([moved(piece, *self.spot) for piece in pieces] for pieces in shape.both) if self.is_noted() else ((), ())):
                 self.write_both(shape.both, self.spot)
             return
@@ -174,8 +174,9 @@ class Operations:
         self.replaced += 1
         self.lost += [f"{what} of the block at command {self.number}" for what in block.lost]
         for was, it in zip(block.objects, self.change.objects(block)):
-            if was.dark and was.both[0] and not it.both[0]:
-                self.lost.append(f"a changed object of the block at command {self.number}")
+            lost = self.change.lost(was.both[0], len(it.both[0])) if was.dark else None
+            if lost:
+                self.lost.append(f"{lost} a changed object of the block at command {self.number}")
             both = tuple([moved(piece, *self.spot) for piece in pieces] for pieces in it.both)
             self.stays_as(it.dark != self.clear, both)
             if it.dark != self.clear and self.number not in self.taken:

@@ -12,6 +12,14 @@ from .turned_outlines import outline_bounds, placed_outline
 
 MOST_DEEP = 64          # brackets in one another
 TOKEN = re.compile(r"\$(\d{1,9})|(\d+\.?\d*|\.\d+)|([-+xX/()])")
+BLANK_INSIDE = re.compile(r"[$.0-9]\s+[.0-9]")
+
+
+def compact(word):
+    """A word of a body without its blanks. One inside a number or a variable is refused, since it may part two: `flatten` takes none."""
+    if not word.lstrip().startswith("0") and BLANK_INSIDE.search(word):
+        raise Refused(f"macro: a blank inside a number: {' '.join(word.split())}")
+    return re.sub(r"\s", "", word)
 
 
 class Expression:
@@ -19,7 +27,6 @@ class Expression:
 
     def __init__(self, text, variables):
         self.variables, self.tokens, at = variables, [], 0
-        text = text.replace(" ", "")
         while at < len(text):
             match = TOKEN.match(text, at)
             if not match:
@@ -133,7 +140,7 @@ def figures(body, parameters, scale):
     ("convex", corners) or ("outline", corners)."""
     variables = {k + 1: value for k, value in enumerate(parameters)}
     for word in body:
-        word = re.sub(r"\s", "", word)
+        word = compact(word)
         if not word or word.startswith("0"):
             continue
         match = re.fullmatch(r"\$(\d{1,9})=(.*)", word)

@@ -1,29 +1,20 @@
-"""Copper files that say where there is none: dark and clear are exchanged within the box of the board's outline.
+"""Copper files that say where there is none: dark and clear are exchanged within the board's outline. Outside it nothing is dark.
 
-The box is that of the centre lines of the profile file, where the folder has one by its own `TF.FileFunction,Profile`; else that of
-all objects of all copper files. Outside it nothing is dark.
+Where the outline is not known (`profiles`), LOWER has nothing of such a file, and UPPER all that may be.
 """
-import os
-
-from manifest_files import MOST_BYTES
 from mends import attributes
 
-from .clear import Object, box
+from .clear import Object, box, whole
 from .exact import Refused
 
-HEAD = 4096         # bytes of a file in which its function is looked for
-FRAME = 10 ** 7     # how far beyond the box and all objects what lies outside is taken away
+FRAME = 10 ** 7     # how far beyond the outline and all objects what lies outside is taken away
+MOST_WIDE = 9 * 10 ** 9     # u that what may be is wide
 
 
 def is_negative(word):
     """Whether a word says that a file is one, also in a comment, or with blanks and small letters."""
     said = attributes.said_by(word.encode("latin-1")).decode("latin-1") if word.startswith("G04") else word
     return word == "IPNEG" or said.startswith("TF.FilePolarity,") and said.split(",")[1].strip().lower() == "negative"
-
-
-def centre_lines(piece):
-    """The box of a piece without its pen."""
-    return box(piece) if piece[0] == "area" else box((*piece[:3], 0))
 
 
 def around(boxes):
@@ -34,37 +25,29 @@ def around(boxes):
     return (*map(min, zip(*lows)), *map(max, zip(*highs)))
 
 
-def profile_of(folder):
-    """The text of the profile file of a folder, or None; a file that cannot be read says nothing."""
-    for path in (os.path.join(folder, name) for name in sorted(os.listdir(folder))):
-        try:
-            if os.path.isfile(path) and os.path.getsize(path) <= MOST_BYTES:
-                with open(path, "rb") as file:
-                    if any(it.fields[1:2] == [b"Profile"] for it in attributes.functions(file.read(HEAD))):
-                        file.seek(0)
-                        return file.read().decode("latin-1")
-        except OSError:
-            pass
-    return None
-
-
-def outline_of(profile, texts, objects_of):
-    """(left, low, right, high) of a board; `objects_of` tells a file's objects."""
-    if profile is not None:
-        return around(centre_lines(piece) for it in objects_of(profile) for piece in it.both[1])
-    return around(box(piece) for text in texts for it in objects_of(text) for piece in it.both[1])
+def rectangle(b, by):
+    """The corners of a box, moved outwards."""
+    left, low, right, high = b[0] - by, b[1] - by, b[2] + by, b[3] + by
+    return [(left, low), (right, low), (right, high), (left, high)]
 
 
 def exchanged(objects, outline, tag):
-    """The objects of a negative file as those of a positive one: the box, then all with dark and clear exchanged, then nothing
-    outside the box."""
-    left, low, right, high = outline
-    corners = [(left, low), (right, low), (right, high), (left, high)]
-    whole = around([outline, *(box(piece) for it in objects for piece in it.both[1])])
-    l, b, r, t = whole[0] - FRAME, whole[1] - FRAME, whole[2] + FRAME, whole[3] + FRAME
-    found = [Object(True, ([("area", corners)],) * 2, tag)] + [it._replace(dark=not it.dark) for it in objects]
-    if whole != outline:
-        beside = [[(l, b), (r, b), (r, low), (l, low)], [(l, high), (r, high), (r, t), (l, t)],
-                  [(l, b), (left, b), (left, t), (l, t)], [(right, b), (r, b), (r, t), (right, t)]]
-        found.append(Object(False, ([("area", it) for it in beside],) * 2, tag))
-    return found
+    """The objects of a negative file as those of a positive one: the board's inside, then all with dark and clear exchanged, then nothing
+    outside it."""
+    inside, turned = [it._replace(tag=tag) for it in outline.objects], [it._replace(dark=not it.dark) for it in objects]
+    seen = around([outline.box, *(box(piece) for it in objects for piece in it.both[1])])
+    if not inside:
+        return [Object(True, ([], [("area", beyond(seen))]), tag)] + [it._replace(both=([], it.both[1]), areas=None) if it.dark else it for it in turned]
+    return inside + turned + (outside(inside, seen, tag) if any(it.dark for it in turned) else [])
+
+
+def beyond(seen):
+    """A rectangle round all that is seen, as much wider as a board may be."""
+    wide = max(seen[2] - seen[0], seen[3] - seen[1])
+    return rectangle(seen, max(min(wide, (MOST_WIDE - wide) // 2), FRAME))
+
+
+def outside(inside, seen, tag):
+    """What is clear beyond the board's inside."""
+    all_but = [Object(True, ([("area", rectangle(seen, FRAME))],) * 2, tag)] + [it._replace(dark=not it.dark) for it in inside]
+    return [Object(False, whole(all_but), tag)]

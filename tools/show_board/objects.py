@@ -12,7 +12,7 @@ from mends import attributes
 from . import BadCopper
 from .drawn import OPERATION
 from .exact import DECIMAL, Refused
-from .macros import Expression
+from .macros import Expression, compact
 from .units import SCALES
 from .side import DRAW, FLASH, MOVE, words_of
 from .two_sides import MODES, MOST_OBJECTS
@@ -155,7 +155,7 @@ class Walk:
         """How many primitives of a macro have an image."""
         variables, count = {k: value for k, value in enumerate(values, 1)}, 0
         try:
-            for word in (re.sub(r"\s", "", word) for word in self.macros[name]):
+            for word in map(compact, self.macros[name]):
                 if not word or word.startswith("0"):
                     continue
                 parts = word.split(",")

@@ -24,8 +24,11 @@ class Package:
         self.left_out, self.guessed = [], []
         # What was rewritten before `check`, as mends/__init__.py says.
         self.mends = []
-        # What the two packages say between which it lies, once they are made.
+        # What the two packages say between which it lies, once they are made, and why there are none that hold.
         self.between = self.sides = None
+        self.no_bounds = ""
+        # Where the board is, once a negative file asked for it.
+        self.outline = None
         # How the files are called where the user has them, and whether the manifest was made here.
         self.home, self.is_made = "", False
         # The folder where they lie with all that is beside them, of a zip archive that of what was in it.

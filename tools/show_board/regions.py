@@ -8,8 +8,9 @@ from functools import lru_cache
 from typing import NamedTuple
 
 from mends.copper_words import MOST_EDGES
+from mends.definitions import MOST_WIDE
 
-from .arcs import Arc, arc_chain, distances, goes_once, is_loop, leaves
+from .arcs import Arc, arc_chain, distances, goes_once, is_loop, leaves, need_meant
 from .contours import contour_bound
 from .exact import Refused
 from .insets import eighth_chain, eighth_radius, inset
@@ -17,6 +18,9 @@ from .rounds import polygon
 from .side import FLASH, MOVE, edges_of
 from .spots import cross, dot
 from .sweep import Sweep
+
+
+MOST_FAR = 5 * 10 ** 9      # u that `between` looks at to each side of a contour's first spot
 
 
 class Regions:
@@ -90,7 +94,7 @@ class Regions:
             run = [*map(by, made.outer)]
             return Contour(([run], [run]), grown, True, None)
         if not made.inner:
-            self.lose(f"a contour with arcs of the region at command {self.number}")
+            self.lose("a contour with arcs of the region")
         run = lambda corners: [*map(by, corners), by(corners[0])]
         runs = [run(corners) for corners in made.inner], [run(made.outer)] if made.outer else []
         return Contour(runs, grown, True, (len(runs[0]), 1 + len(grown)) if made.is_read else None)
@@ -141,6 +145,7 @@ class Walked:
     def turn(self, centre, end, anticlockwise):
         start = self.spots[-1]
         first, last = (start, end) if anticlockwise else (end, start)
+        need_meant(centre, first, last)
         chain, most = arc_chain(centre, first, last)
         self.is_told = self.is_told and not is_loop(centre, first, last) and goes_once(lambda p, q: cross(centre, p, q), chain)
         self.is_exact = self.is_exact and self.is_told and dot(centre, start, start) == dot(centre, end, end)
@@ -170,8 +175,9 @@ def rounded_contour(contour, cuts, is_coarse):
         return Rounded((), (), it.wide)
     is_read = it.is_told and len(contour) > 3
     if is_read and is_coarse:
-        found = it.is_kept and inset(it.coarse[:-1], it.keeps)
-        return Rounded((found,) if found else (), it.outline[:-1], it.wide, True, True)
+        found = it.is_kept and 2 * max(it.keeps) <= MOST_WIDE and inset(it.coarse[:-1], it.keeps)
+        is_near = found and max(abs(v) for spot in [*found, *it.coarse] for v in spot) + max(it.keeps) < MOST_FAR
+        return Rounded((found,) if is_near else (), it.outline[:-1], it.wide, True, True)
     inner, outer = it.bound(False), it.bound(True) if cuts else None
     return Rounded((inner,) if inner else without(corners, it.wide), outer or corners, [] if outer else it.wide, True, is_read)
 

@@ -185,8 +185,9 @@ def outside(program, told, shown, asked):
         shown.bounds = bounds.bounded(program, told, shown.ties)
         if shown.bounds:
             from . import proved
-            shown.bounds = proved.told(program, told.package, shown.bounds, shown.ties)
+            shown.bounds = proved.told(program, told, shown.bounds, shown.ties, beside.wants_copper(asked))
             shown.status, shown.line = shown.bounds.status, shown.bounds.line
+            shown.notes += shown.bounds.notes
             if shown.bounds.sides:
                 look_between(program, told.package, shown, asked)
         if told.package.between:

@@ -48,6 +48,16 @@ def words_of(text, runs=False, plain=False):
                 raise Refused(f"a broken word at byte {match.start(2)}" if is_broken else "a word without an end")
 
 
+def line_numbers(text, commands):
+    """The lines of some words of a file by their numbers, in order."""
+    found, number, wanted = {}, 0, set(commands)
+    for match in TOKENS.finditer(text) if wanted else ():
+        number += bool(match.group(3))
+        if match.group(3) and number in wanted:
+            found[number] = text.count("\n", 0, match.start(2)) + 1
+    return found
+
+
 def next_general(text, at):
     """Where the next G is, or the end."""
     found = text.find("G", at)

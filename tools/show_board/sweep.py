@@ -7,7 +7,7 @@ contour as far as it goes up (runs).
 
 The border of a clear area may be dark or not. LOWER keeps a unit off it to both sides; level edges and their ends are not
 looked at for that, so who wants them out makes the area larger. UPPER has it, also where two areas share an edge and
-nothing else is left.
+nothing else is left, but for areas of one object: what is in its areas on all sides is no border of it.
 """
 from bisect import bisect_right
 from heapq import heappop, heappush
@@ -21,13 +21,13 @@ from .strands import beneath, crossing, ordered, slope, strands_of, toggled, win
 
 class Sweep:
     """`items` are (dark, corners) in order; `out` are (corners, item) of the contours. Of clear ones whose numbers are `closed` the
-    border is theirs for certain."""
+    border is theirs for certain. `objects` are those that the items are of."""
 
-    def __init__(self, items, upper, closed=()):
+    def __init__(self, items, upper, closed=(), objects=None):
         self.upper, self.status, self.runs, self.seeds, self.count, self.touched = upper, [], Runs(upper), [], 0, ()
         self.noted, self.spans, self.levels, self.back, self.unders, self.heap, self.marks, self.crossed = {}, {}, {}, {}, {}, [], (), {}
         self.dark = [dark for dark, _ in items] + [False, True]     # the last two: what stands for clear and dark in a bundle
-        self.out, self.closed = self.runs.out, set(closed)
+        self.out, self.closed, self.objects = self.runs.out, set(closed), [*(objects or range(len(items))), -2, -1]
         events, strands = [], []
         for k, (_, corners) in enumerate(items):
             found, levels = strands_of(corners, k)
@@ -313,9 +313,9 @@ class Sweep:
         for x, found in near.items():
             gaps = [gap for before, after, _ in found for gap in (before, after)] + [covers[bisect_right(xs, x)] for xs, covers in sides]
             if not any(map(self.is_dark, gaps)):
-                every, items = set(gaps[0]).intersection(*gaps[1:]), {item for *_, item in found}.union(*gaps)
+                items = {item for *_, item in found}.union(*gaps)
                 items.update(item for low, high, item in self.levels.get(y, ()) if low <= x <= high)
-                last = max((k for k in items if self.dark[k] or k in self.closed or k in every), default=-2)
+                last = self.last_of(items, gaps)
                 if self.dark[last]:
                     low, high = x.__floor__() - 1, x.__ceil__() + 1
                     self.out.append(([(low, y - 1), (high, y - 1), (high, y + 1), (low, y + 1)], last))
@@ -382,8 +382,20 @@ class Sweep:
 
     def hair(self, one, two, items):
         """The dark area that is left on a border of some between two gaps, where clear areas do not have their borders, or None."""
-        last = max((k for k in {*one, *two, *items} if k is not None and (self.dark[k] or k in self.closed or k in one and k in two)), default=-2)
+        last = self.last_of({*one, *two, *items} - {None}, (one, two))
         return last if self.dark[last] else None
+
+    def last_of(self, items, gaps):
+        """The last of the areas at a border between some gaps that is dark, or has the border for certain: since its object has all of the gaps."""
+        every = None
+        for k in sorted(items, reverse=True):
+            if self.dark[k] or k in self.closed:
+                return k
+            if every is None:
+                every = set.intersection(*({self.objects[each] for each in gap} for gap in gaps))
+            if self.objects[k] in every:
+                return k
+        return -2
 
     def level(self, y, left, levels, below, above):
         """What is left of a window's level edges between two gaps that are not dark, as thin contours."""

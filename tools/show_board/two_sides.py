@@ -20,7 +20,7 @@ MOST_OBJECTS = 400_000
 
 
 def of_text(text, outline=None, is_coarse=False):
-    """Both sides of a copper file; `outline` gives the box of the board where it is asked for."""
+    """Both sides of a copper file; `outline` gives the board's outline where it is asked for."""
     copper = Copper(text, is_coarse=is_coarse)
     if (copper.long or copper.clears or copper.negative) and not copper.cuts:
         copper = Copper(text, cuts=True)
@@ -30,8 +30,10 @@ def of_text(text, outline=None, is_coarse=False):
     if copper.negative:
         if outline is None:
             raise Refused("a negative file")
-        objects = negative.exchanged(objects, outline(), copper.negative)
+        its = outline()
+        objects = negative.exchanged(objects, its, copper.negative)
         also = {it.tag for it in objects}
+        copper.lost += [f"the plane, since the board's outline is not known ({its.why}), at command {copper.negative}"] if its.why else []
     taken, *written = clear.cut(objects, also)
     again = Copper(text, taken, written, True)
     again.lost = copper.lost
@@ -91,7 +93,8 @@ class Copper(Settings, Definitions, Operations, Regions):
 
     def lose(self, what):
         """What LOWER leaves out, or what a clear object does not take away from UPPER."""
-        self.lost.append(f"what {what} takes away, which the upper bound has" if self.clear else what)
+        what = f"what {what} takes away, which the upper bound has," if self.clear else what
+        self.lost.append(f"{what} at command {self.number}")
 
     def polarity(self, word):
         if self.contours is not None and (self.clear or word == "LPC"):

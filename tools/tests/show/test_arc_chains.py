@@ -4,7 +4,9 @@ import unittest
 from fractions import Fraction as Q
 from math import atan2, cos, hypot, isqrt, pi, sin
 
+from show_board import arcs as script
 from show_board.arcs import arc_chain, draw_bounds
+from show_board.exact import Refused
 from show_board.spots import cross, dot
 
 
@@ -102,6 +104,19 @@ class TestArcChains(unittest.TestCase):
                 self.assertTrue(not below or is_below(centre, start, end, 2 * half, *chain_of(below)))
                 self.assertTrue(is_above(centre, start, end, 2 * half, *chain_of(above)))
                 self.assertEqual(bool(below), half > above[0][3] - half and not is_loop(centre, start, end))
+
+    def test_what_is_meant(self):
+        """The arcs that have a place are those that the checks take; all others are refused, but with a pen of no width."""
+        random.seed(65)
+        told = {True: 0, False: 0}
+        for tried in range(20000):
+            centre, start, end = ((random.randint(-9, 9), random.randint(-9, 9)) for _ in range(3))
+            told[is_meant(centre, start, end)] += 1
+            self.assertEqual(script.is_meant(centre, start, end), is_meant(centre, start, end), (centre, start, end))
+            if not is_meant(centre, start, end):
+                draw_bounds(centre, start, end, Q(0))
+                self.assertRaises(Refused, draw_bounds, centre, start, end, Q(1, 2))
+        self.assertGreater(min(told.values()), 1000)
 
     def test_pens_of_odd_widths(self):
         random.seed(64)

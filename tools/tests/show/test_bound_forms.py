@@ -8,7 +8,8 @@ from unittest import mock
 import made
 from made import built, manifest, netlist, record
 from real_shapes import fine, has, pieces_of
-from show_board import fault_of, two_sides
+from show_board import bounds, fault_of, two_sides
+from show_board.exact import Refused
 from show_board.two_sides import of_text
 
 HEAD = ["%FSLAX46Y46*%", "%MOMM*%", "G75*"]
@@ -55,6 +56,45 @@ class Places(unittest.TestCase):
         ("a cut-in that touches an arc", ["G36*", "X-3000000Y-3000000D02*", "G01X3000000D01*", "Y0D01*", "X-1000000Y0D01*", "G02X-1000000Y0I1000000J0D01*", "G01X3000000Y0D01*", "Y3000000D01*",
                                           "X-3000000D01*", "Y-3000000D01*", "G37*"], [(-1.001, 0), (.72, .72), (2, .001)], [(0, .1), (.69, .69), (-.999, .001)]),
     ]
+
+    # Macros turned, and what is told to be lost of them: parts that vanish, and the join of those that stay.
+    CUT = ["21,1,3,3,0,0,0", "1,0,1,0,0"]
+    CROSSED = ["1,1,2,0,0", "21,0,2,0.2,0,0,0", "21,0,0.2,2,0,0,0"]
+    LOST = [
+        (CUT, [], []), (CUT, ["%LR90*%"], []), (CUT, ["%LMX*%", "%LR270*%"], []), (CUT, ["%LR45*%"], ["the join of the 2 parts of a changed shape"]),
+        (CUT, ["%LS0.7*%"], ["the join of the 2 parts of a changed shape"]), (CROSSED, ["%LR90*%"], []), (CROSSED, ["%LR30*%"], ["2 of the 4 parts of a changed shape"]),
+        (["21,1,3,3,0,0,0", "4,0,3,0,0,1,0,0,1,0,0,0"], ["%LR45*%"], ["all of a changed shape"]), (["21,1,3,3,0,0,0", "1,0,1,1.5,1.5"], ["%LR45*%"], []),
+        (["21,1,3,3,0,0,0", "21,1,1,4,1,0,0"], ["%LR45*%"], []), (["1,1,3,0,0", "1,1,1,2,0"], ["%LR45*%"], []),
+    ]
+
+    def test_lost(self):
+        """What a turned macro loses below is told, of each flash and of those in blocks, and of clear ones as what is not taken away."""
+        for body, change, lost in self.LOST:
+            with self.subTest(body=body, change=change):
+                lines = [*HEAD, "%AMA*", *(line + "*" for line in body[:-1]), body[-1] + "*%", "%ADD12A*%", "D12*"]
+                of = lambda *more: of_text("\n".join([*lines, *more, "M02*"])).lost
+                at = len(HEAD) + len(body) + 4 + len(change)
+                self.assertEqual(of(*change, "X0Y0D03*"), [f"{words} at command {at}" for words in lost])
+                self.assertEqual(of("%LPC*%", *change, "X0Y0D03*"), [f"what {words} takes away, which the upper bound has, at command {at + 1}" for words in lost])
+                block = of("%ABD13*%", "D12*", "X0Y0D03*", "%AB*%", "D13*", *change, "X0Y0D03*")
+                self.assertEqual(block, [f"{words.replace('shape', 'object of the block')} at command {at + 5}" for words in lost])
+
+    def test_told_once(self):
+        """Each kind is told once of a file, with its first place and how many more there are."""
+        text = "\n".join(["%FSLAX46Y46*%%MOMM*%", "D10*", "", "X0Y0D03*X1Y1D03*", "M02*", ""])
+        self.assertEqual(bounds.told_once(text, []), [])
+        self.assertEqual(bounds.told_once(text, ["an arc at command 4", "a polygon at command 5", "an arc at command 5", "an arc at command 3 of the block at command 5"]),
+                         ["an arc at command 4, line 4, and 1 more", "a polygon at command 5, line 4", "an arc at command 3 of the block at command 5, line 4"])
+
+    def test_blanks_in_macros(self):
+        """A blank inside a number may part two; elsewhere it parts nothing that is not parted, and a comment says nothing."""
+        lines = lambda body: "\n".join([*HEAD, f"%AMA*{body}*%", "%ADD12A,1*%", "D12*", "X0Y0D03*", "M02*"])
+        for body in ("1,1,1 0,0,0", "1,1,1 .5,0,0", "1,1,1. 5,0,0", "1,1,$ 1,0,0", "1,1,$1 0,0,0", "1,1,1\n0,0,0", "1,1,1\t0,0,0", "1 1,1,1,0,0", "$2=1 0*1,1,1,0,0", "1,1,$1,0,1 \r\n 0", "2 0,1,1,0,0,1,0,0"):
+            with self.subTest(body=body), self.assertRaisesRegex(Refused, "macro: a blank inside a number"):
+                of_text(lines(body))
+        for body in ("1,1,1,0,0", "1, 1,1 ,0, 0 ", "\n1,1,\n1,0,0", "1,1,$1 + 0,0,0", "1,1,- 1x -1,0,0", "$2 = $1 *1,1,$2,0,0", "0 1 0*1,1,1,0,0", "0 a 1 .5*1,1,( $1 ),0,0"):
+            with self.subTest(body=body):
+                self.assertEqual(pieces_of(of_text(lines(body)).sides[0]), pieces_of(of_text(lines("1,1,1,0,0")).sides[0]))
 
     def test_rows(self):
         for name, lines, inside, outside in self.ROWS:

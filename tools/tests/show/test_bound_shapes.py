@@ -6,7 +6,7 @@ import unittest
 from fractions import Fraction as Q
 
 from real_shapes import FINE, NEAR, Real, circle_ends, contour_of, encloses, every, fine, gerber_of, has, in_sector, macro_bounds, on_circle, pieces_of, through
-from show_board.arcs import Arc, arc_chain, chain_bounds, goes_once
+from show_board.arcs import Arc, arc_chain, chain_bounds, goes_once, is_meant
 from show_board.contours import contour_bound
 from show_board.exact import Refused, cos_sin, minus, plus, root, times
 from show_board.macros import Expression, bounds_of
@@ -200,6 +200,9 @@ class TwoRadii(unittest.TestCase):
         rng, given, cases = random.Random(14), 0, 0
         for n in range(40 * MANY):
             start, end, contour = self.contour(rng, n % 2)
+            if not is_meant((0, 0), start, end):
+                self.assertRaisesRegex(Refused, "too unlike", Copper, words_for(contour))
+                continue
             near, far = sorted((dot((0, 0), start, start), dot((0, 0), end, end)))
             low, high = (pieces_of(side) for side in Copper(words_for(contour, *["%LPC*%", "%LPD*%"] * rng.randint(0, 1))).sides)
             given, cases = given + bool(low), cases + 1

@@ -50,6 +50,9 @@ class Files(unittest.TestCase):
             ("too many copies", ["%ADD10C,1*%", "D10*", "%SRX1000Y1000I1J1*%", "X5Y5D03*", "%SR*%", "%LPC*%"]),
             ("arc with a pen that is no circle", ["%ADD10R,1X1*%", "D10*", "X0Y0D02*", "G03X2000000Y0I1000000J0D01*"]),
             ("draw with a pen that is no circle, rectangle, obround or polygon", ["%ADD10P,1X6X0X.1*%", "D10*", "X0Y0D02*", "X2000000Y0D01*"]),
+            *(("an arc whose ends are too unlike", ["%ADD10C,.2*%", "G75*", "D10*", *its, "G37*"][:-1 if len(its) < 4 else None]) for its in (
+                ["X10000000Y0D02*", "G03X995000Y99875I-10000000J0D01*"], ["X995000Y99875D02*", "G02X10000000Y0I-995000J-99875D01*"],
+                ["G36*", "X10000000Y0D02*", "G03X995000Y99875I-10000000J0D01*", "G01X10000000Y10000000D01*", "X10000000Y0D01*"])),
             ("two units", ["%MOIN*%"]), ("hole that is not round", ["%ADD10C,1X.2X.2*%", *use]), ("hole that is not round", ["%ADD10O,1X2X.2X.2*%", *use]),
             ("outline not closed", ["%AMA*4,1,3,0,0,1,0,1,1,0,.1,0*%", *macro]), ("macro that is not defined", macro),
             ("a size under 0", ["%AMA*1,1,-1,0,0*%", *macro]), ("arc without I and J", ["%ADD10C,1*%", "D10*", "G02X1000000D01*"]),
@@ -260,7 +263,7 @@ class Packages(made.Case):
         thin = [*HEAD, "%ADD10C,0.0002*%", "D10*", "X1000000Y0D02*", "G03X-1000000Y0I-1000000J0D01*"]
         for program in self.over_both():
             told = self.bounded(program, thin, [record("A", "J1.1", 1, 0), record("A", "J1.2", -1, 0)])
-            self.assertEqual((told.status, told.left_out), (11, ["top.gbr: an arc at command 7"]))
+            self.assertEqual((told.status, told.left_out), (11, ["top.gbr: an arc at command 7, line 7"]))
 
     # Files that the program flattens: what is passed on and what is replaced by whole pieces comes out as the same solids.
     WHOLE = [

@@ -246,6 +246,31 @@ class Borders(unittest.TestCase):
             low, high = self.bounds(*items)
             self.assertEqual((holds(low, place, 1), holds(high, place, 1)), want, name)
 
+    def test_parts(self):
+        """Where areas of one clear object abut is no border of it, however they lie; what has not all of a place's sides has its border there."""
+        plane, left, right = (True, [SQUARE]), block_of(10, 5, 20, 35), block_of(20, 5, 30, 35)
+        low, high, quarters = block_of(5, 10, 35, 20), block_of(5, 20, 35, 30), [block_of(x, y, x + 10, y + 10) for x in (10, 20) for y in (10, 20)]
+        triangles = [(10, 10), (30, 10), (30, 30)], [(10, 10), (30, 30), (10, 30)]
+        steep = [(10, 5), (20, 5), (21, 35), (10, 35)], [(20, 5), (30, 5), (30, 35), (21, 35)]
+        ring = [block_of(5, 5, 35, 15), block_of(5, 25, 35, 35), block_of(5, 15, 15, 25), block_of(25, 15, 35, 25)]
+        cases = [
+            ("upright", [plane, (False, [left, right])], (20, 7), False), ("of two objects", [plane, (False, [left]), (False, [right])], (20, 7), True),
+            ("level", [plane, (False, [low, high])], (7, 20), False), ("level, of two objects", [plane, (False, [low]), (False, [high])], (7, 20), True),
+            ("slanted", [plane, (False, triangles)], (20, 20), False), ("slanted, of two objects", [plane, *((False, [it]) for it in triangles)], (20, 20), True),
+            ("nearly upright", [plane, (False, steep)], (20, 5), True), ("a place of four", [plane, (False, quarters)], (20, 20), False),
+            *((f"a place of three of four, without {k}", [plane, (False, quarters[:k] + quarters[k + 1:])], (20, 20), True) for k in range(4)),
+            ("its lower end", [plane, (False, [left, right])], (20, 5), True), ("its upper end", [plane, (False, [left, right])], (20, 35), True),
+            ("a unit between", [plane, (False, [left, block_of(21, 5, 30, 35)])], (20, 7), True), ("a void over one side", [plane, (False, [left, right]), (False, [left])], (20, 7), False),
+            ("under a void over one side", [plane, (False, [left]), (False, [left, right])], (20, 7), False), ("a later strip", [plane, (False, [left, right]), (True, [block_of(18, 0, 20, 40)])], (20, 7), True),
+            ("an earlier strip", [(True, [block_of(18, 0, 20, 40)]), (False, [left, right])], (20, 7), False), ("dark again on one side", [plane, (False, [left, right]), (True, [right]), (False, [right])], (20, 7), True),
+            *((f"round an island, at {place}", [plane, (False, ring)], place, want) for place, want in (((10, 15), False), ((10, 25), False), ((15, 20), True), ((15, 15), True), ((20, 25), True), ((20, 20), True))),
+        ]
+        for name, items, place, want in cases:
+            for turn in (lambda x, y: (x, y), lambda x, y: (x, -y), lambda x, y: (y, x)):
+                objects = [Object(dark, ([("area", [turn(*p) for p in corners]) for corners in areas],) * 2, k) for k, (dark, areas) in enumerate(items)]
+                found = [corners for (_, corners), _ in cut(objects, range(len(items)))[2]]
+                self.assertEqual(holds(found, turn(*place), 1), want, name)
+
     def test_two_crossings(self):
         """Both sides of a narrow area cross a clear border within a unit; a place on that border, times 16."""
         items = [(True, [(7, 2), (0, 0), (2, 7)]), (True, [(3, 3), (5, 1), (7, 3), (5, 5)]), (True, [(3, 6), (5, 4), (7, 6), (5, 8)]), (False, [(7, 6), (0, 4), (2, 11)])]
@@ -627,6 +652,19 @@ class Boards(made.Case):
             status, out = self.told(plane, *more)
             self.assertEqual(status, 0, (tilt, out))
 
+    def test_clear_rings(self):
+        """A plane with a ring cleared out of it, by any aperture: what is within the ring is joined to nothing, but over a thermal's bars."""
+        macro = lambda *lines: ["%AMRING*", *(line + "*" for line in lines[:-1]), lines[-1] + "*%", "%ADD20RING*%"]
+        rings = [macro("1,1,3,0,0", "1,0,2,0,0"), macro("21,1,3,3,0,0,0", "1,0,2,0,0"), macro("7,0,0,3,2,0,0"), macro("5,1,6,0,0,3,15", "1,0,2,0,0"),
+                 ["%ADD20O,4X3X2*%"], ["%ADD20O,3X4X2*%"], ["%ADD20P,4X6X0X2*%"], ["%ADD20P,4X3X10X1*%"], ["%ADD20R,4X3X2*%"], ["%ADD20C,4X2*%"]]
+        square = ["G36*", *draw(10, *((nm(x), nm(y)) for x, y in ((-4, -4), (4, -4), (4, 4), (-4, 4), (-4, -4))))[1:], "G37*"]
+        records = [record("A", "J1.1", -3, 0), record("A", "J1.2", 3, 3.5), record("B", "J2.1", 0, 0)]
+        for lines, words in [(it, "agrees") for it in rings] + [(macro("7,0,0,3,2,0.4,0"), "differs"), (macro("7,0,0,3,2,0.4,45"), "differs")]:
+            self.write("board/m.json", manifest())
+            self.write("board/top.gbr", "\n".join(["%FSLAX46Y46*%", "%MOMM*%", "G01*", *lines, *square, "%LPC*%", "D20*", "X0Y0D03*", "M02*", ""]))
+            self.write("board/n.ipc", netlist(*records))
+            self.assertTrue(self.show("board", program=built())[1].startswith(f"board: {words}, between two bounds"), lines)
+
     def negative(self, plane, word, profile):
         """The same plane as a negative file: the voids are dark and what is in them is clear."""
         whole, size = plane.copper, plane.size
@@ -637,7 +675,7 @@ class Boards(made.Case):
         self.write("board/edge.gbr", "\n".join(["%TF.FileFunction,Profile,NP*%", *Plane.HEAD, *draw(12, (0, 0), (nm(size), 0), (nm(size), nm(size)), (0, nm(size)), (0, 0)), "M02*", ""]) if profile else "")
 
     def test_negative(self):
-        """By both words, with and without a profile file; the box of the latter is wider than the copper's."""
+        """By both words, with and without a profile file; without one nobody knows where the plane ends."""
         far = record("GND", "E1.1", .1, 9.9)
         for word in ("%IPNEG*%", "%TF.FilePolarity,Negative*%"):
             plane = Plane(4)
@@ -646,7 +684,7 @@ class Boards(made.Case):
             plane = Plane(4)
             self.negative(plane, word, False)
             status, out = self.told(plane, far)
-            self.assertEqual((status, "no copper lies under E1 pin 1" in out), (1, True), out)
+            self.assertEqual((status, "no copper lies under E1 pin 1" in out, "since the board's outline is not known" in out), (11, False, True), out)
             plane = Plane(4)
             plane.broken, plane.shorted = [(1, 1)], [(2, 1)]
             self.negative(plane, word, True)

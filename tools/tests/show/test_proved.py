@@ -1,5 +1,6 @@
 """Bounds that the program takes: what `show` asks of `between` where it reads all copper outside the profile, and what it says then."""
 import os
+import re
 import subprocess
 import unittest
 from unittest import mock
@@ -7,6 +8,7 @@ from unittest import mock
 import made
 from made import STAND_IN, drill, flash, manifest, netlist, record
 from show_board import Stop, bounds, judged, proved
+from show_board.exact import Refused
 from show_board.manifest import of_text
 from show_board.package import Package
 from show_board.program import Answer, Program
@@ -37,8 +39,17 @@ EAGLE = ["%AMOC8*", "5,1,8,0,0,1.08239X$1,22.5*", "%"]
 A, B = record("A", "J1.1", 1, 0), record("A", "J1.2", -1, 0)
 
 
+NONE = "opens 0\nshorts 0\nmissing 0\n"
+
+
+def decided(word, certain=NONE, undecided=NONE, heads="{heads}points 2\n"):
+    """An answer of `between`, which says a word and these findings of the boards that it was asked about."""
+    return Answer(int(word != "agrees"), f"boardnet-between 1\nreal 1\n{heads}certain\n{certain}undecided\n{undecided}{word}\n".encode(), "")
+
+
 class Recorder(Program):
-    """The stand-in, with an answer of `between` that is given; `texts` are the files that it was asked about."""
+    """The stand-in, with an answer of `between` that is given; `texts` are the files that it was asked about, whose boards are in the
+    answer's text in the place of `{heads}`."""
 
     def __init__(self, answer=None):
         super().__init__(STAND_IN, Progress(quiet=True))
@@ -46,18 +57,26 @@ class Recorder(Program):
 
     def between(self, package, *names):
         self.texts = [package.read(name).decode() for name in (package.name, *names)]
-        return self.given
+        if b"{heads}" not in self.given.out:
+            return self.given
+        heads = "".join(self.head(package, *it) for it in zip(("lower", "upper"), names))
+        return self.given._replace(out=self.given.out.replace(b"{heads}", heads.encode()))
+
+    def head(self, package, side, name):
+        text = self.run(package, "check", name).out.decode()
+        return " ".join([side, *(re.search(f"^{word} (.*)$", text, re.M).group(1) for word in ("pieces", "nets", "opens", "shorts", "missing"))]) + "\n"
 
 
 class Asked(made.Case):
-    def told(self, program, lines, records, files=(), ties=Ties()):
+    def told(self, program, lines, records, files=(), ties=Ties(), is_finer=False):
         names = {"m.json": manifest(), "top.gbr": "\n".join([*HEAD, *lines, "M02*", ""]), "n.ipc": netlist(*records), **dict(files)}
         for name, text in names.items():
             self.write(f"board/{name}", text)
-        package = Package(of_text(names["m.json"].encode()), self.path("board"))
+        self.package = Package(of_text(names["m.json"].encode()), self.path("board"))
         with mock.patch.dict(os.environ, {"STAND_IN_LACKS": ""}):
-            self.bounded = bounds.bounded(program, judged.judge(program, package), ties)
-            return proved.told(program, package, self.bounded, ties)
+            answer = judged.judge(program, self.package)
+            self.bounded = bounds.bounded(program, answer, ties)
+            return proved.told(program, answer, self.bounded, ties, is_finer)
 
     def test_counts(self):
         """A line for each piece of the board, in its order: copies of arcs, arcs without copper below, figures, holes."""
@@ -155,14 +174,31 @@ class Asked(made.Case):
         self.told(program, [*HALF, *holes[4:], "D18*", "X0Y0D03*"], [A, B])
         self.assertIsNone(program.texts)
 
+    BENT = ["G36*", "X0Y0D02*", "X2000000Y0D01*", "G03X0Y2000000I-2000000J0D01*", "G01X0Y0D01*", "G37*"]
+
     def test_smaller_areas(self):
-        """With regions the word is said where the smaller areas within them say the same, and a weaker answer is none."""
-        bent = ["G36*", "X0Y0D02*", "X2000000Y0D01*", "G03X0Y2000000I-2000000J0D01*", "G01X0Y0D01*", "G37*"]
-        text = "boardnet-between 1\nreal 1\npoints 2\nlower 1 1 0 0 0\nupper 1 1 0 0 0\ncertain\nopens 0\nshorts {}\nmissing 0\nundecided\nopens 0\nshorts 0\nmissing 0\n{}\n"
-        for records, shorts, word, is_said in (("AA", 0, "agrees", True), ("AA", 0, "undecided", False), ("AB", 1, "differs", True), ("AB", 0, "differs", False)):
-            program = Recorder(Answer(int(word != "agrees"), text.format(shorts, word).encode(), ""))
-            told = self.told(program, bent, [record(name, f"J1.{k}", .5, .5 + k * .1) for k, name in enumerate(records)])
-            self.assertEqual(("proved" in told.line, told._replace(line="")), (is_said, self.bounded._replace(line="")))
+        """Of regions with arcs the boards by smaller areas are shown where they find the same, and `between` finds what they do."""
+        joined = "opens 0\nshorts 1\nshort 2\npoint 1 1 5000000 5000000 A\npoint 2 1 5000000 6000000 B\nmissing 0\n"
+        for names, answer in (("AA", decided("agrees")), ("AB", decided("differs", joined))):
+            records = [record(name, f"J1.{k}", .5, .5 + k * .1) for k, name in enumerate(names)]
+            told = self.told(Recorder(answer), self.BENT, records)
+            self.assertEqual((told.status, "proved" in told.line, self.corners_below() < 12), (answer.status, True, True))
+            told = self.told(Recorder(answer), self.BENT, records, is_finer=True)
+            self.assertEqual((told, self.corners_below() > 20), (self.bounded, True))
+        for names, answer in (("AA", decided("undecided")), ("AB", decided("differs")), ("AB", decided("differs", joined.replace("6000000 B", "7000000 B"))),
+                              ("AB", decided("differs", NONE, joined))):
+            with self.assertRaisesRegex(Stop, "NOTHING WAS JUDGED: `between` "):
+                self.told(Recorder(answer), self.BENT, [record(name, f"J1.{k}", .5, .5 + k * .1) for k, name in enumerate(names)])
+
+    def test_findings_of_smaller_areas_alone(self):
+        """A point near an arc, which the smaller areas miss: the finer board is shown, and nothing is said to be proved."""
+        near = "opens 0\nshorts 0\nmissing 1\nbare 2 1 14000000 14000000 A\n"
+        told = self.told(Recorder(decided("undecided", NONE, near)), self.BENT, [record("A", "J1.1", .5, .5), record("A", "J1.2", 1.4, 1.4)])
+        self.assertEqual((told, told.status, self.corners_below() > 20), (self.bounded, 0, True))
+
+    def corners_below(self):
+        """Of the area of the lower board that is shown."""
+        return self.package.sides.packages[0].read("top.gbr").count(b"D01*")
 
     def links(self, side, number):
         """How many draws of a side are of a command of the top."""
@@ -171,17 +207,49 @@ class Asked(made.Case):
         return sum(line.endswith("D01*") and source == number for line, source in zip(its.lines, its.sources))
 
     def test_said(self):
-        """`proved` is said where the program takes the bounds, and only then; its answer is that of the bounds."""
-        said = "agrees, between two bounds, proved (lower agrees; upper agrees)"
-        for status, out, line in ((0, b"agrees\n", said), (1, b"agrees\n", said), (2, b"", ""), (3, b"", ""), (4, b"", ""), (6, b"", "")):
-            told = self.told(Recorder(Answer(status, out, "")), HALF, [A, B])
-            self.assertEqual(told, self.bounded._replace(line=line or "agrees, between two bounds (lower agrees; upper agrees)"))
-        with self.assertRaisesRegex(Stop, "NOTHING WAS JUDGED: `between` says differs of a board that agrees"):
-            self.told(Recorder(Answer(1, b"boardnet-between 1\ndiffers\n", "")), HALF, [A, B])
-        told = self.told(Recorder(Answer(1, b"boardnet-between 1\nundecided\n", "")), HALF, [record("A", "J1.1", 0, 1.1), B])
+        """`proved` is said where the program takes the bounds and finds what the reports do, and only then."""
+        plain = "agrees, between two bounds (lower agrees; upper agrees)"
+        self.assertEqual(self.told(Recorder(decided("agrees")), HALF, [A, B]).line, "agrees, between two bounds, proved (lower agrees; upper agrees)")
+        for status in (2, 4, 6):
+            told = self.told(Recorder(Answer(status, b"", "")), HALF, [A, B])
+            self.assertEqual((told, told.line), (self.bounded, plain))
+        told = self.told(Recorder(Answer(3, b"", "top.gbr: Gerber 39 OffsetsAmiss at command 10, byte 9")), HALF, [A, B])
+        self.assertEqual((told.line, told.notes), (plain, ("`between` was asked, and stopped: top.gbr: Gerber 39 OffsetsAmiss at command 10, byte 9",)))
+        near = [record("A", "J1.1", 0, 1.1), B]
+        told = self.told(Recorder(decided("undecided", NONE, "opens 0\nshorts 0\nmissing 1\nbare 1 1 0 11000000 A\n")), HALF, near)
         self.assertEqual((told.status, told.line[:70]), (11, "undecided, between two bounds, proved: 1 finding undecided (lower diff"))
-        told = self.told(Recorder(Answer(1, b"boardnet-between 1\ndiffers\n", "")), HALF, [record("C", "J1.1", 1, 0), B], ties=Ties([tie("A=C", "--tie")]))
+
+    def test_other_findings(self):
+        """What `between` finds has to be what the reports on both boards find: words, counts, names and places."""
+        bare, heads = "opens 0\nshorts 0\nmissing 1\nbare 1 1 0 11000000 A\n", "lower 1 1 0 0 0\nupper 1 1 0 0 0\n"
+        near = [record("A", "J1.1", 0, 1.1), B]
+        for records, answer in (([A, B], decided("differs")), ([A, B], decided("agrees", heads=heads)), ([A, B], decided("agrees", heads="")), ([A, B], Answer(0, b"agrees\n", "")),
+                                (near, decided("undecided")), (near, decided("undecided", bare)), (near, decided("differs", bare)), (near, decided("agrees", NONE, bare)),
+                                (near, decided("undecided", NONE, bare.replace(" A", " B"))), (near, decided("undecided", NONE, bare.replace("1100", "1200")))):
+            with self.subTest(answer.out), self.assertRaisesRegex(Stop, "NOTHING WAS JUDGED: `between` "):
+                self.told(Recorder(answer), HALF, records)
+
+    def test_ties(self):
+        """Ties change no check: the shorts of `between` are those of the reports, and count where they are not tied."""
+        ties, records = Ties([tie("A=C", "--tie")]), [record("C", "J1.1", 1, 0), B]
+        joined = "opens 0\nshorts 1\nshort 2\npoint 1 1 10000000 0 C\npoint 2 1 -10000000 0 A\nmissing 0\n"
+        told = self.told(Recorder(decided("differs", joined)), HALF, records, ties=ties)
         self.assertEqual((told.status, told.line[:59]), (0, "agrees, with 1 declared tie, between two bounds, proved (lo"))
+        told = self.told(Recorder(decided("differs", joined)), HALF, records, ties=Ties([tie("A=C", "--tie"), tie("A=D", "--tie")]))
+        self.assertEqual((told.status, told.line[:75]), (1, "differs, with 1 declared tie, between two bounds, proved: 1 finding certain"))
+        for answer in (decided("differs"), decided("agrees"), decided("undecided", NONE, joined), decided("differs", joined.replace(" C", " E"))):
+            with self.subTest(answer.out), self.assertRaisesRegex(Stop, "NOTHING WAS JUDGED: `between` "):
+                self.told(Recorder(answer), HALF, records, ties=ties)
+
+    def test_a_bound_that_is_not_taken(self):
+        """Then nothing holds of the board: neither what both boards say nor what stands beside it."""
+        for side in ("below", "above"):
+            line = f"m.json: file 0, command 10, copy 0: not bounded {side}"
+            told = self.told(Recorder(Answer(3, b"", line)), HALF, [A, B])
+            self.assertEqual((self.bounded.status, told.status, told.findings, self.package.between), (0, 3, [], None))
+            self.assertEqual(told.line, f"top.gbr: Gerber 11 Arc at command 10, byte 0; no bounds: `between` does not take them: {line}")
+            with self.assertRaisesRegex(Refused, "not bounded"):
+                bounds.judge(Recorder(), self.package, Ties())
 
     def test_not_asked(self):
         """Where other copper is outside the profile, in any file; and where there is nothing to ask."""
