@@ -48,7 +48,7 @@ help_of() {
   printf 'boardnet %s\n\n' "$head"
   section "$1"
   case $head in *MANIFEST* | *REAL*) section files ;; esac
-  case $1 in install | package) ;; *) [ -f "$home/$1" ] || { printf 'Status\n'; section status; } ;; esac
+  case $1 in install | package | selftest) ;; *) [ -f "$home/$1" ] || { printf 'Status\n'; section status; } ;; esac
 }
 
 # Whether the command's first word is a manifest or a copper file, by its head in the help text.
@@ -227,6 +227,42 @@ tool() {
   exec python3 -S "$tool" "$@"
 }
 
+# Runs the program with these words over a board of selftest, and says whether it ended as it must.
+tried() {
+  wanted=$1 what=$2
+  shift 2
+  told=$("$program" "$@" 2>&1 >"$scratch/out")
+  status=$?
+  if [ "$status" = "$wanted" ]; then word=right; else word="WRONG, $wanted is wanted" amiss=1; fi
+  printf '%s: status %s, %s (%s)\n' "$what" "$status" "$word" "$told"
+}
+
+# Whether what was put is what the board's own page of answers has.
+same_as() {
+  if cmp -s "$scratch/out" "$1"; then printf 'its report: right, byte for byte\n'; else amiss=1; printf 'its report: WRONG, it is not %s\n' "$1"; fi
+}
+
+# Runs the program over a board that agrees and one that does not, and audits a right report and a wrong one.
+selftest() {
+  ready selftest
+  boards=$home/examples amiss=
+  [ -d "$boards" ] || boards=${home%/*}/examples
+  scratch=$(mktemp -d) || exit 70
+  trap 'rm -rf "$scratch"' EXIT
+  trap 'exit 130' INT TERM HUP
+  version
+  CDPATH='' cd -- "$boards/two_layer" || exit 70
+  tried 0 'check of a board that agrees' check m.json
+  same_as report.txt
+  tried 0 'audit of that report' audit m.json report.txt
+  CDPATH='' cd -- "$boards/opens_and_shorts" || exit 70
+  tried 1 'check of a board with opens and shorts' check m.json
+  tried 1 'audit of a report of another board' audit m.json ../two_layer/report.txt
+  [ -z "$amiss" ] || { say "selftest: something is wrong with this installation; nothing that it says is to be trusted"; exit 70; }
+  printf 'selftest: all as it must be\n'
+  exit 0
+}
+
 # Judges the words.
 front() {
   case ${1-} in
@@ -235,6 +271,7 @@ front() {
     help) if help_of "${2-}"; then exit 0; fi; help; exit 0 ;;
   esac
   if [ $# = 2 ] && { [ "$2" = --help ] || [ "$2" = -h ]; } && help_of "$1"; then exit 0; fi
+  if [ "$#/$1" = 1/selftest ]; then selftest; fi
   if is_tool "${1-}"; then
     if needs_program "$1"; then ready "$@"; fi
     tool "$@"

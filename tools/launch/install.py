@@ -1,5 +1,5 @@
 #!/usr/bin/env python3
-"""Copies the built program, its tools, a man page and completions: install.py TOP PREFIX
+"""Copies the built program, its tools, documents, a man page and completions: install.py TOP PREFIX
 
 DESTDIR in the environment stands before PREFIX where the files are written, and is no part of what they say.
 """
@@ -30,6 +30,9 @@ front "$@"
 # What is copied from tools/: the front, the words, and the tools with their modules.
 FILES = ("launch/front.sh", "manifest", "show", "start.py")
 FOLDERS = ("manifest_files", "mends", "show_board")
+# What a reader has of the checkout, and the boards of `selftest`.
+DOCUMENTS = ("README.md", "CHANGELOG.md", "docs", "examples")
+BOARDS = ("opens_and_shorts", "two_layer")
 
 
 def read(path):
@@ -45,9 +48,26 @@ def tools_of(top):
     return [name for name in found if os.path.isfile(os.path.join(tools, name))]
 
 
+def below(top, name):
+    """The names of a file or of all files in a folder, from the top."""
+    found = [name] if os.path.isfile(os.path.join(top, name)) else []
+    for at, folders, names in os.walk(os.path.join(top, name)):
+        folders.sort()
+        found += [os.path.relpath(os.path.join(at, each), top) for each in sorted(names)]
+    return found
+
+
+def documents(top):
+    """The pages and examples, and the boards of `selftest`, which are no documents."""
+    found = {f"share/doc/boardnet/{name}": (read(os.path.join(top, name))[0], 0o644) for part in DOCUMENTS for name in below(top, part)}
+    boards = [name for board in BOARDS for name in below(top, f"examples/{board}") if not name.endswith(".md")]
+    found.update((f"lib/boardnet/{name}", (read(os.path.join(top, name))[0], 0o644)) for name in boards)
+    return found
+
+
 def files(top):
     """What is installed below a prefix: each file's bytes and mode by its name."""
-    found = {"lib/boardnet/boardnet": (read(kept.program_of(top))[0], 0o755)}
+    found = {"lib/boardnet/boardnet": (read(kept.program_of(top))[0], 0o755), **documents(top)}
     for name in tools_of(top):
         found[f"lib/boardnet/{name}"] = read(os.path.join(top, "tools", name))
     modules = [name for name in tools_of(top) if name.endswith(".py")]

@@ -8,6 +8,8 @@ import re
 
 TOOLS = os.path.dirname(os.path.dirname(os.path.abspath(__file__)))
 OTHER = ("boardnet", "files", "status")
+# Of what is installed: where the pages lie that the help names.
+PAGES = ("Pages named docs/.. lie in share/doc/boardnet, beside the folder of the command, with boards to try in its folder examples.",)
 
 
 def sections():
@@ -33,8 +35,8 @@ def is_of_the_installed(head):
 
 
 def installed():
-    """The help text without what the repository alone can do."""
-    kept = [(head, lines) for head, lines in sections() if is_of_the_installed(head)]
+    """The help text without what the repository alone can do, and with the place of the pages that it names."""
+    kept = [(head, [*lines, *PAGES] if head == "files" else lines) for head, lines in sections() if is_of_the_installed(head)]
     return "\n".join("\n".join([f"= {head}", *lines, ""]) for head, lines in kept)
 
 
@@ -64,7 +66,7 @@ def man(release):
     parts += [f".B boardnet {roff(head)}\n.br" for head, _, _ in kept] + [".B boardnet [COMMAND] \\-\\-help | \\-\\-version", ".SH COMMANDS"]
     for head, does, text in kept:
         parts += [f".SS boardnet {roff(head)}", roff(does[:1].upper() + does[1:]) + ".", ".PP", filled(text)]
-    parts += [".SH FILES", as_written(other("files")), ".SH EXIT STATUS", as_written(other("status"))]
+    parts += [".SH FILES", as_written([*other("files"), *PAGES]), ".SH EXIT STATUS", as_written(other("status"))]
     return "\n".join(parts) + "\n"
 
 

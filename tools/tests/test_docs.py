@@ -12,7 +12,7 @@ import common
 ALL = ("README.md", "CONTRIBUTING.md", "CHANGELOG.md", "docs/*.md", "docs/using/*.md", "crates/*/README.md")
 # Pages for readers who do not prove, of which no sentence is over so many words.
 PLAIN = ("README.md", "CONTRIBUTING.md", "docs/USING.md", "docs/using/*.md")
-MOST_WORDS, MOST_BYTES, MOST_BYTES_OF_A_PAGE = 30, 200_000, 12_000
+MOST_WORDS, MOST_BYTES, MOST_BYTES_OF_A_PAGE = 30, 215_000, 12_000
 # Command lines that are run elsewhere, or not here, by their first words.
 ELSEWHERE = {
     "bash .ci/run": "the gate itself",

@@ -1,4 +1,5 @@
 """What is installed and packaged of a checkout, over a stand-in for its program, and the texts that are made of the help."""
+import gzip
 import importlib.util
 import os
 import shutil
@@ -9,6 +10,8 @@ import common
 
 sys.path.insert(0, os.path.join(common.TOOLS, "launch"))
 import compiled  # noqa: E402
+import debian  # noqa: E402
+import install  # noqa: E402
 import kept  # noqa: E402
 import package  # noqa: E402
 import texts  # noqa: E402
@@ -23,6 +26,9 @@ class Installed(common.Case):
         os.makedirs(self.top)
         shutil.copy(os.path.join(common.TOP, "boardnet"), self.top)
         shutil.copytree(common.TOOLS, os.path.join(self.top, "tools"), ignore=shutil.ignore_patterns("tests", "__pycache__"))
+        for name in install.DOCUMENTS:
+            source = os.path.join(common.TOP, name)
+            (shutil.copytree if os.path.isdir(source) else shutil.copy)(source, os.path.join(self.top, name))
         self.write("top/.gitignore", "out/\n")
         self.write("top/crates.txt", "boardnet:\n")
         self.write("top/crates/boardnet/src/main.rt", "// a source\n")
@@ -68,6 +74,8 @@ class Install(Installed):
             self.assertTrue(os.path.isfile(path), path)
         for inside in ("bin/boardnet", "share/man/man1/boardnet.1", "share/bash-completion/completions/boardnet", "share/zsh/site-functions/_boardnet"):
             self.assertIn(os.path.join(prefix, inside), out)
+        for name in ("README.md", "docs/FORMATS.md", "docs/using/answers.md", "examples/two_layer/m.json"):
+            self.assertTrue(os.path.isfile(os.path.join(prefix, "share", "doc", "boardnet", name)), name)
         for name in ("page.html", "page.css", "data.js", "draw.js", "chosen.js", "act.js"):
             self.assertTrue(os.path.isfile(os.path.join(prefix, "lib", "boardnet", "show_board", name)), name)
         shutil.rmtree(self.top)
@@ -126,13 +134,68 @@ class Compiled(Installed):
             self.assertEqual((data[:4], data[4:8], data[8:16]), (importlib.util.MAGIC_NUMBER, b"\3\0\0\0", importlib.util.source_hash(files[name][1])))
 
 
-class Package(Installed):
-    """The stand-in is echo, a program of ELF that wants the C library alone."""
+class SelfTest(Installed):
+    """What `selftest` says of a program that answers as it must, and of others."""
 
     def setUp(self):
         super().setUp()
-        if not all(shutil.which(it) for it in ("dpkg-deb", "git", "echo")):
-            self.skipTest("it wants dpkg-deb and git")
+        self.program = os.path.join(self.top, "crates", "boardnet", "out", "boardnet")
+        self.count_as_new()
+
+    def count_as_new(self):
+        os.chmod(self.program, 0o755)
+        os.utime(self.program, (4_000_000_000, 4_000_000_000))
+
+    def test_right(self):
+        self.write("top/crates/boardnet/out/boardnet", RIGHT)
+        self.count_as_new()
+        for command in ([os.path.join(self.top, "boardnet")], [self.installed()]):
+            status, out, notes = self.run_words([*command, "selftest"])
+            self.assertEqual((status, notes, out.count(": right"), out.count(", right (")), (0, "", 1, 4), out)
+
+    def installed(self):
+        self.assertEqual(self.launch("install", self.path("here"))[0], 0)
+        return self.path("here", "bin", "boardnet")
+
+    def test_wrong(self):
+        rows = [
+            # what is spoilt of a program that answers as it must, and what is said of it
+            ("cat report.txt", "echo other", "its report: WRONG"),
+            ("cat report.txt; exit 0", "exit 1", "check of a board that agrees: status 1, WRONG, 0 is wanted"),
+            ('"audit two_layer report.txt") exit 0', '"audit two_layer report.txt") exit 3', "audit of that report: status 3, WRONG, 0 is wanted"),
+            ('shorts ") exit 1', 'shorts ") exit 0', "check of a board with opens and shorts: status 0, WRONG, 1 is wanted"),
+            ('../two_layer/report.txt") exit 1', '../two_layer/report.txt") exit 0', "audit of a report of another board: status 0, WRONG, 1 is wanted"),
+        ]
+        for right, wrong, said in rows:
+            with self.subTest(said=said):
+                self.write("top/crates/boardnet/out/boardnet", RIGHT.replace(right, wrong))
+                self.count_as_new()
+                status, out, notes = self.launch("selftest")
+                self.assertEqual((status, "all as it must be" in out, "selftest: something is wrong" in notes), (70, False, True))
+                self.assertIn(said, out)
+
+
+# A program that answers the four questions of `selftest` as it must.
+RIGHT = """#!/bin/sh
+case "$1 ${PWD##*/} ${3-}" in
+  "check two_layer ") cat report.txt; exit 0 ;;
+  "audit two_layer report.txt") exit 0 ;;
+  "check opens_and_shorts ") exit 1 ;;
+  "audit opens_and_shorts ../two_layer/report.txt") exit 1 ;;
+esac
+exit 9
+"""
+
+
+class Package(Installed):
+    """The stand-in is echo, a program of ELF that wants the C library alone."""
+
+    MAINTAINER = "Ann Example <ann@example.org>"
+
+    def setUp(self):
+        super().setUp()
+        if not all(shutil.which(it) for it in ("dpkg-deb", "dpkg-shlibdeps", "git", "echo")):
+            self.skipTest("it wants dpkg-deb, dpkg-shlibdeps and git")
         shutil.copy(shutil.which("echo"), self.path("top", "crates", "boardnet", "out", "boardnet"))
         self.git("init", "-q")
         self.commit()
@@ -148,20 +211,31 @@ class Package(Installed):
     def note(self):
         kept.note(self.top, kept.Made("a kit logic 1", kept.sum_of_sources(self.top)))
 
-    def test_holds_what_is_installed(self):
-        status, out, notes = self.launch("package", self.path("made"))
+    def packages(self):
+        """Makes both, and gives their paths."""
+        status, out, notes = self.launch("package", self.path("made"), "--maintainer", self.MAINTAINER)
         commit = self.git("rev-parse", "--short=12", "HEAD")
         archive, package = self.path("made", f"boardnet-0.9+{commit}.tar.xz"), self.path("made", f"boardnet_0.9+{commit}_amd64.deb")
         self.assertEqual((status, out, notes), (0, f"{archive}\n{package}\n", ""))
+        return archive, package
+
+    def test_without_a_maintainer(self):
+        status, out, notes = self.launch("package", self.path("made"))
+        self.assertEqual((status, len(out.splitlines()), notes.split(",")[0]), (0, 1, "boardnet: no Debian package"))
+        self.assertEqual([os.path.splitext(name)[1] for name in os.listdir(self.path("made"))], [".xz"])
+
+    def test_holds_what_is_installed(self):
+        archive, package = self.packages()
+        commit = self.git("rev-parse", "--short=12", "HEAD")
         self.launch("install", self.path("installed"))
         os.makedirs(self.path("unpacked"))
         for words in (["tar", "-C", "unpacked", "--strip-components=1", "-xf", archive], ["dpkg-deb", "-x", package, "root"]):
             self.assertEqual(self.run_words(words)[0], 0)
-        self.assertEqual(tree(self.path("unpacked")), tree(self.path("installed")))
-        self.assertEqual(tree(self.path("root", "usr")), tree(self.path("installed")))
-        told = self.run_words(["dpkg-deb", "-f", package, "Depends", "Recommends", "Version"])[1]
-        self.assertRegex(told, r"Depends: libc6 \(>= 2\.\d+\)\nRecommends: python3 \(>= 3.8\)\n")
-        self.assertEqual(self.run_words(["dpkg-deb", "--ctrl-tarfile", package])[0], 0)
+        installed = tree(self.path("installed"))
+        self.assertEqual(tree(self.path("unpacked")), installed)
+        told = self.run_words(["dpkg-deb", "-f", package, "Depends", "Recommends", "Maintainer"])[1]
+        self.assertRegex(told, r"Depends: libc6 \(>= 2\.\d+\)\nRecommends: python3 \(>= 3.8\)\nMaintainer: Ann Example <ann@example.org>\n")
+        self.is_the_debian_tree(tree(self.path("root", "usr")), installed)
         # The guide says how the sum is made.
         with open(os.path.join(common.TOP, "docs", "using", "commands.md"), encoding="utf-8") as file:
             sums = next(line.strip() for line in file if line.startswith("    find crates.txt"))
@@ -171,6 +245,31 @@ class Package(Installed):
             lines = self.run_words([command, "--version"])[1].splitlines()
             self.assertEqual([lines[0], lines[1], lines[3]], ["boardnet 0.9", f"commit {commit}", f"sources {sums.split()[0]}, proved with a kit logic 1"])
         self.serves(command, "trial 1 2\n")
+
+    def is_the_debian_tree(self, files, installed):
+        """It has all that is installed but what Python compiled, with a changelog, and manual and changelog packed."""
+        manual, changelog = "share/man/man1/boardnet.1", "share/doc/boardnet/changelog.gz"
+        wanted = {name: it for name, it in installed.items() if "__pycache__" not in name}
+        packed = {name: gzip.decompress(files.pop(name)[1]) for name in (manual + ".gz", changelog)}
+        self.assertEqual(packed[manual + ".gz"], wanted.pop(manual)[1])
+        self.assertIn(f" -- {self.MAINTAINER}  ".encode(), packed[changelog])
+        self.assertEqual(files, wanted)
+
+    def test_policy(self):
+        """Debian's own checker has nothing against it but the licence, which its owner has to choose."""
+        if not shutil.which("lintian"):
+            self.skipTest("there is no lintian")
+        _, package = self.packages()
+        _, out, _ = self.run_words(["lintian", "--allow-root", "--fail-on", "none", package])
+        errors = [line for line in out.splitlines() if line.startswith("E: ") and "no-copyright-file" not in line]
+        self.assertEqual(errors, [])
+
+    def test_no_maintainer(self):
+        for text in ("", "ann@example.org", "Ann <>", "Ann <a>", "<a@b>", "Ann <a@b>\nX: y", "Ann <a@b> more"):
+            with self.subTest(text=text), self.assertRaises(debian.Refused):
+                debian.maintainer_of(text)
+        self.assertEqual(self.launch("package", self.path("made"), "--maintainer", "Ann")[0], 1)
+        self.assertFalse(os.path.exists(self.path("made")))
 
     def test_refused(self):
         source = "top/crates/boardnet/src/main.rt"
@@ -207,14 +306,17 @@ class Package(Installed):
 
     def test_half_of_it_is_not_left(self):
         self.write("bin/dpkg-deb", "#!/bin/sh\nfor path; do :; done\necho half >\"$path\"\nexit 2\n", 0o755)
-        status, out, notes = self.launch("package", self.path("made"), PATH=self.path("bin") + os.pathsep + os.environ["PATH"])
+        environment = {"PATH": self.path("bin") + os.pathsep + os.environ["PATH"]}
+        status, out, notes = self.launch("package", self.path("made"), "--maintainer", self.MAINTAINER, **environment)
         self.assertEqual((status, out, notes.count("boardnet: no package: ")), (1, "", 1))
         self.assertEqual(os.listdir(self.path("made")), [])
 
     def test_a_program_of_unknown_libraries(self):
         for program in (b"\x7fELF" + bytes(60) + b"\0libodd.so.3\0", b"#!/bin/sh\n"):
-            with self.assertRaises(package.Refused):
-                package.depends(program)
+            with self.assertRaises(debian.Refused):
+                debian.depends(program)
+        with self.assertRaises(debian.Refused):
+            debian.architecture(b"#!/bin/sh\n" + bytes(60))
 
 
 class Texts(common.Case):
