@@ -120,7 +120,7 @@ pass_on() {
       } 4>&6 5>&1 6>&- | few_points | while IFS= read -r line; do printf '= few %s\n' "$line"; done >&6
     } 6>&1 7>&3
   )
-  notes='' is_cut='' few=''
+  notes='' is_cut='' few='' status=''
   while IFS= read -r line; do
     case $line in
       '= ended '*) status=${line#= ended } ;;
@@ -134,6 +134,7 @@ pass_on() {
 $told
 END
   judge_points "$few"
+  [ -n "$status" ] || status=70 notes="boardnet: the program's end is not known, so this is no answer on the board"
   [ -z "$is_cut" ] || status=5 notes='boardnet: output cannot be written'
   [ -z "$notes" ] || printf '%s\n' "$notes" >&2
 }

@@ -24,6 +24,7 @@ from show_board.words import printable
 from . import Refused, archives, package, shown
 
 INTERRUPTED = 130
+USAGE = "manifest FOLDER|ARCHIVE.zip [--netlist FILE] [--yes] [--no-drills] [--mend]"
 
 
 def say(text):
@@ -31,14 +32,14 @@ def say(text):
 
 
 def words(given):
-    parser = argparse.ArgumentParser(prog="manifest", usage=__doc__.split("\n\n")[1].strip().replace("tools/", ""), add_help=False, allow_abbrev=False)
+    parser = argparse.ArgumentParser(prog="manifest", usage=USAGE, add_help=False, allow_abbrev=False)
     parser.add_argument("place", metavar="FOLDER")
     parser.add_argument("--netlist")
     parser.add_argument("--yes", action="store_true")
     parser.add_argument("--no-drills", action="store_true")
     parser.add_argument("--mend", action="store_true")
     if {"--help", "-h"} & set(given):
-        print(__doc__, end="")
+        print(__doc__ or f"{USAGE}\n", end="")       # Python may be told to leave texts out
         sys.exit(0)
     return parser.parse_args(given)
 

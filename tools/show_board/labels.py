@@ -1,6 +1,6 @@
 """A netlist of the names that the copper files give their own pads (Gerber Layer Format Specification, 5.6: .P, .N and .C).
 
-One test point for each flash, draw and contour of a region with a pin, on the layer of its file; where no file names a pin, one for
+One test point for each part of a flash or a draw and each contour of a region with a pin, on the layer of its file; where no file names a pin, one for
 each flash and contour with a net. What the flash of a block makes has a point for each object of the block, by its own attributes or those
 of the flash. A pad of several nets has a point of each and declares that they are tied. What is known so are opens and shorts against the
 copper's own names: that these are the right ones nothing says.
@@ -13,6 +13,7 @@ from mends import attributes
 from . import UNCLEAR, UNREADABLE, Stop, clear, netlist, points, ties, two_sides
 from .exact import Refused
 from .own_names import MADE
+from .parts import parts
 from .side import words_of
 from .tree import Tree
 from .units import CODES
@@ -109,6 +110,7 @@ class Pads:
                 self.plain(word)
 
     def plain(self, word):
+        word = word[3:] if word.startswith("G55") else word     # it says that a flash comes, and a mend leaves it out
         operation = OPERATION.fullmatch(word) if word and word not in two_sides.MODES else None
         code = operation and (operation[4] or self.last)
         self.last = code or self.last
@@ -225,10 +227,11 @@ def points_of(text, layer, wants_pins):
     for at, it in enumerate(copper.objects):
         label = label_of(pads, it.tag)
         if label:
-            pieces = it.both[0] or it.both[1]
             # What a negative file makes is where there is no copper.
-            why = NEGATIVE if copper.negative else CLEAR if not it.dark else "" if pieces else NO_COPPER
-            yield Point(layer, label, None if why else pad_of(pieces, near, at), bool(it.both[0]), why)
+            why = NEGATIVE if copper.negative else CLEAR if not it.dark else "" if any(it.both) else NO_COPPER
+            is_contour = pads.words[it.tag[-1] - 1][1] == "G37"
+            for pieces, is_known in parts(it.both) if not (why or is_contour) else [(it.both[0] or it.both[1], bool(it.both[0]))]:
+                yield Point(layer, label, None if why else pad_of(pieces, near, at), is_known, why)
 
 
 def pad_of(pieces, near, at):

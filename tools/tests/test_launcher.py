@@ -137,6 +137,13 @@ class Launcher(common.Case):
                 self.assertEqual((lines[0], len(lines)), ("boardnet: agrees", 2 if said else 1))
                 self.assertIn(said, notes)
 
+    def test_an_end_that_is_not_known(self):
+        """Where what runs the program is gone before it can say how that ended, nothing is taken for a yes."""
+        self.write("top/crates/boardnet/out/boardnet", "#!/bin/sh\nkill -9 $PPID\necho boardnet: agrees >&2\n", 0o755)
+        for words in (["check", "there"], ["x2", "there"], ["between", "a", "b", "c", "d"]):
+            status, _, notes = self.launch(*words)
+            self.assertEqual((status, "is no answer on the board" in notes), (70, True), notes)
+
     def test_several_names(self):
         """x2 takes the first name of an object alone, which is said of each copper file that has more."""
         told = "t.gbr has objects of several nets (TO.N,GND,AGND), of which x2 takes the first name alone"

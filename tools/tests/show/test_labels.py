@@ -146,6 +146,10 @@ class Labels(made.Case):
         self.assertEqual(points("%ADD20C,0*%", *pin("U1", "1", "GND"), *flash(20, (0, 0))), [(first, None, labels.NO_COPPER)])
         self.assertEqual(points("%IPNEG*%", *pin("U1", "1", "GND"), *flash(10, (0, 0))), [(first, None, labels.NEGATIVE)])
         self.assertEqual(points(*pin("U1", "1", "GND"), *draw(10, (0, 0), (2, 0))), [(first, (10_000_000, 0), "")])
+        two = ["%AMM*", "1,1,1.0,0,0*", "1,1,1.0,$1,0*%", "%ADD20M,5.0*%", "%ADD21M,0.5*%", *pin("U1", "1", "GND")]
+        self.assertEqual(points(*two, *flash(20, (0, 0))), [(first, (0, 0), ""), (first, (50_000_000, 0), "")])
+        self.assertEqual(points(*two, *flash(21, (0, 0))), [(first, (2_500_000, 0), "")])
+        self.assertEqual(points(*pin("U1", "1", "GND"), "D10*", "G55X2000000Y0D03*"), [(first, (20_000_000, 0), "")])
         track = [*label("GND"), *draw(10, (0, 0), (2, 0))]
         self.assertEqual([points(*track, wants_pins=it) for it in (True, False)], [[], [(bare, None, labels.DRAWN)]])
         self.assertEqual(points(*label("GND"), *flash(10, (0, 0)), "D11*", "X4000000*", "Y0D02*", "X8000000D01*", "X9000000*", wants_pins=False),
