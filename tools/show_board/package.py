@@ -63,7 +63,8 @@ class Package:
 
     def is_taken(self, name):
         """Whether a name is that of a file of the board, be it there or not."""
-        return name in {os.path.normpath(each) for each in [self.name, TIES, *(self.manifest.names() if self.manifest else [])]}
+        its = self.manifest.names() if self.manifest else []
+        return name in {os.path.normpath(each) for each in [self.name, TIES, *its]}
 
     def free_name(self, stem, ending):
         """A name of a file that the package does not have."""
@@ -75,7 +76,8 @@ class Package:
 
     def report_name(self):
         """The name of the report in the folder, the same each time: no file of the board has it."""
-        return next(name for name in chain(["report.txt"], (f"report{number}.txt" for number in count(1))) if not self.is_taken(name))
+        names = chain(["report.txt"], (f"report{number}.txt" for number in count(1)))
+        return next(name for name in names if not self.is_taken(name))
 
     def changed(self, folder, files=None, told=None):
         """Another package of the same files but for those that are given, in a folder of its own."""
@@ -118,8 +120,8 @@ def beside(package, word):
 
 
 def need_plain(home, names, inside=None):
-    """Refuses names that lead elsewhere than to plain files of at most as many bytes as `check` takes; with a folder, than into it. Nothing
-    is read before; what is not there is left to `check`."""
+    """Refuses names that lead elsewhere than to plain files of at most as many bytes as `check` takes; with a folder, than into it.
+    Nothing is read before; what is not there is left to `check`."""
     for name in names:
         path = os.path.join(home, name)
         if inside and not os.path.realpath(path).startswith(os.path.realpath(inside) + os.sep):
