@@ -1,4 +1,5 @@
 """A board's files in a scratch folder, from a folder, a zip archive or a manifest. Nothing is written beside the user's files."""
+import errno
 import os
 import stat
 from itertools import chain, count
@@ -130,9 +131,10 @@ def need_plain(home, names, inside=None):
             its = os.stat(path)
         except (OSError, ValueError):
             continue
-        if not stat.S_ISREG(its.st_mode) and not stat.S_ISDIR(its.st_mode):
-            raise Stop(UNREADABLE, f"{name}: cannot be read: it is no plain file")
-        if its.st_size > MOST_BYTES and stat.S_ISREG(its.st_mode):
+        if not stat.S_ISREG(its.st_mode):
+            why = os.strerror(errno.EISDIR) if stat.S_ISDIR(its.st_mode) else "it is no plain file"
+            raise Stop(UNREADABLE, f"{name}: cannot be read: {why}")
+        if its.st_size > MOST_BYTES:
             raise Stop(REFUSED, f"{name}: longer than {MOST_BYTES} bytes")
 
 
