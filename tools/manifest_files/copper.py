@@ -14,11 +14,11 @@ NO_COPPER = re.compile(r"mask|paste|silk|legend|outline|assy|assembly|court|fab|
 TOP = re.compile(r"f[._]cu|\.gtl$|\.cmp$|\.top$|(?:^|[._ -])(?:top|front|component)(?:[._ -]|$)|top[._ -]?(?:copper|layer)|copper[._ -]?top", re.I)
 BOTTOM = re.compile(r"b[._]cu|\.gbl$|\.sol$|\.bot$|(?:^|[._ -])(?:bot|bottom|back|solder)(?:[._ -]|$)|bot(?:tom)?[._ -]?(?:copper|layer)|copper[._ -]?bot", re.I)
 INNER = re.compile(r"in(\d+)[._]cu|\.g(\d+)$|\.gl(\d+)$|inner[._ -]?(?:layer)?[._ -]?(\d+)|intern.*?(\d+)(?:\.\w+)?$|mid[._ -]?(?:layer)?[._ -]?(\d+)", re.I)
-# What the numbers of INNER count: those from 1 alone, those that may be layers of the board, and groups of pcb-rnd, which have gaps.
+# What the numbers of INNER count: inner layers from 1, those or layers of the board, and groups of pcb-rnd, which have gaps.
 INNER_KINDS = ("inner from 1", "inner from 1", "inner", "inner", "intern", "inner from 1")
 PLANE = re.compile(r"\.gp(\d+)$", re.I)
 BY_HAND = "write the manifest by hand, or export Gerber X2"
-RANK = {"top": 0, "inner from 1": 1, "inner": 1, "intern": 1, "group": 1, "layer": 1, "plane": 1, "order": 1, "bottom": 2}
+RANK = {"top": 0, **dict.fromkeys(("inner from 1", "inner", "intern", "group", "layer", "plane", "order"), 1), "bottom": 2}
 # A layer's name of gEDA pcb, which writes a file for each group of layers.
 GROUP = re.compile(r"group(\d+)$", re.I)
 NUMBERED = re.compile(r"(?:^|[._ -])(?:l|layer)[._ -]?0*([1-9]\d?)(?:[._ -]|$)", re.I)
@@ -37,17 +37,20 @@ def functions_of(data):
 
 
 def origin_of(data):
-    return next((it.text() for it in attributes.of_file(data, b"TF.SameCoordinates") if it.is_named(b".SameCoordinates")), None)
+    found = attributes.of_file(data, b"TF.SameCoordinates")
+    return next((it.text() for it in found if it.is_named(b".SameCoordinates")), None)
 
 
 def layer_name_of(data):
     """The layer's name that a file gives itself."""
-    return next((it.text[2:].decode("ascii", "replace") for it in holding(data, b"LN") if it.inside and it.text.startswith(b"LN")), "")
+    found = (it.text for it in holding(data, b"LN") if it.inside)
+    return next((text[2:].decode("ascii", "replace") for text in found if text.startswith(b"LN")), "")
 
 
 def order_of(name, data):
     """The number that a file's comment gives its copper among that of the board, or None."""
-    found = sorted({int(match[1]) for match in (ORDER.fullmatch(it.text) for it in holding(data, b"Layer_Physical_Order") if not it.inside) if match})
+    comments = (ORDER.fullmatch(it.text) for it in holding(data, b"Layer_Physical_Order") if not it.inside)
+    found = sorted({int(match[1]) for match in comments if match})
     if len(found) > 1:
         raise Refused(f"{name} says Layer_Physical_Order={found[0]} and {found[1]}: {BY_HAND}")
     return found[0] if found else None
@@ -60,10 +63,10 @@ def layer_of(name, function):
 
 
 def one_layer(name, functions):
-    """The layer that the functions of a file say, if it is one of copper; refuses a file that says several things, one of them copper."""
+    """The layer that the functions of a file say, if it is one of copper; refuses several functions, one of them of copper."""
     layers = [layer_of(name, function) for function in functions]
     if any(layers) and len({layer and layer.number for layer in layers}) > 1:
-        raise Refused(f"{name} says of itself that it is {' and '.join(map(shown, functions))}: keep the file whose function is one, or write the manifest by hand")
+        raise Refused(f"{name} says of itself that it is {' and '.join(map(shown, functions))}: export it anew, or write the manifest by hand")
     return layers[0]
 
 
@@ -82,7 +85,7 @@ def place_of(text):
 
 
 def named(name, data):
-    """What the layer's name or the file's says that a file is, its place or that it is no copper, and which of them says so; or nothing."""
+    """What the layer's name or the file's says that a file is, its place or none, and which of them says so; or nothing."""
     said = layer_name_of(data)
     for text, what in ((said, f"its layer name is {shown(said)}"), (name, "its name looks so")):
         if not text:
@@ -103,7 +106,7 @@ def guess_of(name, data):
 
 
 def is_named_otherwise(name, data):
-    """Whether a name says that a file is no copper, and none that it is an inner layer besides, as where a board's own name has such a word."""
+    """Whether a name says that a file is no copper, and none that it is an inner layer: a board's own name may have any word."""
     is_inner = any(pattern.search(text) for pattern in (INNER, PLANE, NUMBERED) for text in (name, layer_name_of(data)))
     return named(name, data) is not None and not is_inner
 
@@ -131,14 +134,14 @@ def in_order(guesses):
 
 
 def need_order(listed):
-    """Refuses layers by the order that comments say, where not all have one, some are missing, or a name says another side."""
+    """Refuses layers by the order in comments, where not all have one, some are missing, or a name says another side."""
     names, last = ", ".join(it[0] for it in listed), len(listed)
     if any(it[1][0] != "order" for it in listed):
         raise Refused(f"of the copper files {names} not all say their Layer_Physical_Order: {BY_HAND}")
     numbers = [it[1][1] for it in listed]
     if numbers != list(range(1, last + 1)):
-        raise Refused(f"copper layers {', '.join(map(str, numbers))} by Layer_Physical_Order are not 1 to {max(numbers)} without a gap: export every copper layer, "
-                      "or write the manifest by hand")
+        raise Refused(f"copper layers {', '.join(map(str, numbers))} by Layer_Physical_Order are not 1 to {max(numbers)} without a gap: "
+                      "export every copper layer, or write the manifest by hand")
     for name, (_, number, place), _ in listed:
         if place and last > 1 and not is_there(number, place, last):
             raise Refused(f"{name} says Layer_Physical_Order={number} of {last}, and its name says another place: {BY_HAND}")
@@ -146,7 +149,9 @@ def need_order(listed):
 
 def is_there(number, place, last):
     """Whether a layer's number fits what a name says of its place; those of inner layers count in another order."""
-    return (place[0] == "top") == (number == 1) and (place[0] == "bottom") == (number == last) if place[0] != "layer" else place[1] == number
+    if place[0] == "layer":
+        return place[1] == number
+    return (place[0] == "top") == (number == 1) and (place[0] == "bottom") == (number == last)
 
 
 def need_inner(inner):
@@ -158,7 +163,8 @@ def need_inner(inner):
         raise Refused(f"the numbers of the inner layers {names} are of different kinds: {BY_HAND}")
     most = 1 if "inner from 1" in kinds else 2 if "inner" in kinds else numbers[0]
     if "intern" not in kinds and (numbers != list(range(numbers[0], numbers[-1] + 1)) or numbers[0] > most):
-        raise Refused(f"the inner layers {names} have the numbers {', '.join(map(str, numbers))}, so one is missing: export every copper layer, or write the manifest by hand")
+        raise Refused(f"the inner layers {names} have the numbers {', '.join(map(str, numbers))}, so one is missing: "
+                      "export every copper layer, or write the manifest by hand")
 
 
 def judge(layers):

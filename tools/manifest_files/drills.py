@@ -52,7 +52,8 @@ def of(name, data):
     if said:
         return of_attribute(name, said[0], data)
     if plating.is_unplated_alone():
-        return None, "its comment says TYPE=NON_PLATED, so its holes join nothing" if False in plating.types else "each of its tools says that it is not plated, so its holes join nothing"
+        who = "its comment says TYPE=NON_PLATED" if False in plating.types else "each of its tools says that it is not plated"
+        return None, f"{who}, so its holes join nothing"
     return Drills(name, *by_other_evidence(name, plating)), ""
 
 
@@ -63,7 +64,8 @@ def by_other_evidence(name, plating):
         return None, ("its comment says TYPE=PLATED, and not which layers the holes span" if plating.types == {True} else
                       "its tools say whether they are plated, and nothing which layers the holes span")
     if True in tools:
-        return None, f"it says of some of its tools that they are plated, nothing of others (T{plating.unsaid()[0]}), and not which layers the holes span"
+        return None, (f"it says of some of its tools that they are plated, nothing of others (T{plating.unsaid()[0]}), "
+                      "and not which layers the holes span")
     if UNPLATED_NAME.search(name):
         return (0, 0), "its name says that its holes are not plated"
     return None, ("its name says that its holes are plated, and nothing which layers they span" if PLATED_NAME.search(name) else

@@ -139,9 +139,10 @@ class Plan:
         self.guessed += [(it.name, f"plated holes from layer {it.span[0]} to {it.span[1]}", it.why) for it in plated if it.why]
         self.guessed += [(it.name, "unplated holes, left out", it.why) for it in unplated]
         if not package.is_whole(layers):
-            # A name may say that a file is no copper where names say what is; where attributes do, and one is missing, no name counts.
-            doubtful = (NO_COPPER,) if layers[0].why else (NO_COPPER, OTHERWISE)
-            self.guessed += [(name, "no copper, left out", why) for name, why in package.left_out if why in doubtful or (name, why) in package.doubtful]
+            # A name may say that a file is no copper where names say what is; where attributes do, and may lack one, it does not.
+            whys = (NO_COPPER,) if layers[0].why else (NO_COPPER, OTHERWISE)
+            doubtful = [it for it in package.left_out if it[1] in whys or it in package.doubtful]
+            self.guessed += [(name, "no copper, left out", why) for name, why in doubtful]
         self.has_points = netlist.records > 0
         self.netlist = netlist.name
         self.manifest = {

@@ -1,4 +1,4 @@
-"""The attributes of a copper file, by its words: in a pair of percent signs, or in a comment `G04 #@! T..`, as older readers want them.
+"""The attributes of a copper file, by its words: in a pair of percent signs, or in a comment `G04 #@! T..` for older readers.
 
 The standard takes both for the same (Gerber Layer Format Specification, 5.1). `check` reads the first alone.
 """
@@ -12,7 +12,7 @@ NEGATIVE = b"negative"
 
 
 class Attribute(NamedTuple):
-    """A word's first byte, its star, its two letters, its fields (the first is the name), and whether a comment says it."""
+    """A word's first byte, its star, its two letters, its fields, the name first, and whether a comment says it."""
 
     start: int
     end: int
@@ -48,13 +48,15 @@ def functions(data: bytes) -> List[Attribute]:
 
 
 def negatives(data: bytes) -> List[Attribute]:
-    """The words that say that a file is negative, also where blanks or small letters stand that `check` does not take for it."""
-    return [it for it in of_file(data, b"TF.FilePolarity") if it.is_named(b".FilePolarity") and b"".join(it.fields[1:2]).strip().lower() == NEGATIVE]
+    """The words that say that a file is negative, also with blanks or small letters, which `check` does not take for it."""
+    found = (it for it in of_file(data, b"TF.FilePolarity") if it.is_named(b".FilePolarity"))
+    return [it for it in found if b"".join(it.fields[1:2]).strip().lower() == NEGATIVE]
 
 
 def has_names(data: bytes, name: bytes, field: int = 1) -> bool:
     """Whether a file has an attribute of objects of this name, as `.N`, with something in a field behind it."""
-    return any(it.kind == b"TO" and it.is_named(name) and b"".join(it.fields[field:field + 1]).strip() for it in of_file(data, b"TO" + name))
+    found = (it for it in of_file(data, b"TO" + name) if it.kind == b"TO" and it.is_named(name))
+    return any(b"".join(it.fields[field:field + 1]).strip() for it in found)
 
 
 def written(data: bytes) -> bytes:

@@ -86,7 +86,7 @@ class Word(NamedTuple):
 
 
 def is_at_word(data: bytes, at: int) -> bool:
-    """Whether a word may begin at a byte: nothing but blanks stands behind a star, a percent sign or the file's beginning."""
+    """Whether a word may begin at a byte: nothing but blanks is between it and a star, a percent sign or the beginning."""
     return data[max(data.rfind(b"*", 0, at), data.rfind(b"%", 0, at)) + 1:at].strip(BLANKS) == b""
 
 
@@ -109,8 +109,8 @@ def last(data: bytes) -> int:
 
 
 def holding(data: bytes, sign: bytes) -> Iterator[Word]:
-    """The words that have a sign in them, in order: what else the file has is not looked at, so that it is fast. Words of a macro's body
-    are none, and what comes behind the file's end."""
+    """The words that have a sign in them, in order: what else the file has is not looked at, so that it is fast. Words of a
+    macro's body are none, and what comes behind the file's end."""
     past, inside, is_macro, at = 0, False, False, data.find(sign)
     most = last(data) if at >= 0 else 0
     while 0 <= at < most:
@@ -119,7 +119,8 @@ def holding(data: bytes, sign: bytes) -> Iterator[Word]:
             inside ^= data.count(b"%", past, percent + 1) % 2 == 1
             past, is_macro = percent + 1, False
         start = max(data.rfind(b"*", past, at) + 1, past)
-        is_macro = is_macro or inside and any(word.lstrip(BLANKS).startswith(b"AM") for word in data[past:start].split(b"*"))
+        before = data[past:start].split(b"*") if inside else ()
+        is_macro = is_macro or any(word.lstrip(BLANKS).startswith(b"AM") for word in before)
         past = data.find(b"*", at)
         if not 0 <= past < most:
             return

@@ -13,10 +13,10 @@ PLAIN = re.compile(rb"[\t\n\r ]*X[+-]?[0-9]{1,13}Y[+-]?[0-9]{1,13}D0?[12]\*")
 OPERATED = re.compile(rb"(?:G0?[0-3])?[XYIJ]|(?:G0?[0-3])?D0?[0-3]\Z|G0?[023]\Z")
 OF_OPERATIONS = b"GXYD+-0123456789"
 BETWEEN = b"%\t\n\r "
-# What takes copper away, repeats it or bends an edge: then a part at the file's end could be another than in its place. Each sign that
-# the words have, with their form.
-ORDERED = [(sign, re.compile(form)) for sign, form in ((b"LPC", rb"LPC"), (b"SR", rb"SR."), (b"AB", rb"AB"), (b"G02", rb"G02"), (b"G2", rb"G2(?![0-9])"),
-                                                       (b"G03", rb"G03"), (b"G3", rb"G3(?![0-9])"))]
+# What takes copper away, repeats it or bends an edge: then a part at the file's end could be another than in its place. Each sign
+# that the words have, with their form.
+ORDERED = ((b"LPC", rb"LPC"), (b"SR", rb"SR."), (b"AB", rb"AB"), (b"G02", rb"G02"), (b"G2", rb"G2(?![0-9])"), (b"G03", rb"G03"),
+           (b"G3", rb"G3(?![0-9])"))
 
 
 class Contour(NamedTuple):
@@ -80,7 +80,8 @@ def regions(data):
     signs = sorted(it for sign in (b"G36", b"G37") for it in holding(data, sign) if not it.inside and it.text == sign)
     for one, other in zip(signs, signs[1:]):
         start, end = one.end + 1, other.start
-        if (one.text, other.text) == (b"G36", b"G37") and end - start > MOST_EDGES and data.count(b"*", start, end) > MOST_EDGES:
+        is_long = end - start > MOST_EDGES and data.count(b"*", start, end) > MOST_EDGES
+        if is_long and (one.text, other.text) == (b"G36", b"G37"):
             yield Region(data, start, end)
 
 
@@ -121,7 +122,8 @@ def write(edits, region, written):
 def name_before(data, at):
     """The word that gives the net name in force."""
     named = b""
-    for it in sorted(it for sign in (b"TO.N", b"TD") for it in attributes.of_file(data, sign) if it.start < at and not it.is_comment):
+    said = (it for sign in (b"TO.N", b"TD") for it in attributes.of_file(data, sign))
+    for it in sorted(it for it in said if it.start < at and not it.is_comment):
         if it.kind == b"TO" and it.is_named(b".N"):
             named = b",".join(it.fields[1:])
         elif it.kind == b"TD" and it.fields[0] in (b"", b".N"):
@@ -131,13 +133,14 @@ def name_before(data, at):
 
 def is_ordered(data):
     """Whether a word takes copper away, repeats it or bends an edge."""
-    return any(form.match(it.text) for sign, form in ORDERED for it in holding(data, sign))
+    return any(re.match(form, it.text) for sign, form in ORDERED for it in holding(data, sign))
 
 
 def ending_of(data):
     """Where the word is that ends the file, or None where that is not its last one."""
     whole = data.rstrip(BLANKS)
-    return next((at for at in (len(whole) - len(end) for end in FILE_ENDS if whole.endswith(end)) if is_at_word(whole, at)), None)
+    found = (len(whole) - len(end) for end in FILE_ENDS if whole.endswith(end))
+    return next((at for at in found if is_at_word(whole, at)), None)
 
 
 def rewrite(edits):

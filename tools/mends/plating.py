@@ -1,7 +1,7 @@
 """Which tools of a drill file are plated, by what the file says of each.
 
-A file says so by attributes in comments, by `;TYPE=..`, and by the comments of Allegro and Fritzing, which name tools by their numbers.
-What is read here is more than `check` takes or passes over, so that a hole that is called unplated is seen in each form of it.
+A file says so by attributes in comments, by `;TYPE=..`, and by the comments of Allegro and Fritzing, which name tools by their
+numbers. More is read here than `check` takes or passes over, so that a hole that is called unplated is seen in each form of it.
 """
 import re
 
@@ -12,10 +12,10 @@ ATTRIBUTE = re.compile(rb";[ \t]*#@![ \t]*TA\.AperFunction[ \t]*,[ \t]*(Plated|N
 NO_ATTRIBUTE = re.compile(rb";[ \t]*#@![ \t]*TD\b")
 KIND = rb"((?:NON|UN)[ _-]?PLATED|PLATED|NPTH|PTH)(?![A-Z0-9])"
 TYPE = re.compile(rb";[ \t]*TYPE[ \t]*=[ \t]*(?:" + KIND + rb")?.*", re.I | re.S)
-# `;T08 Holesize 8. = 63.0 Tolerance = +0.0/-0.0 NON_PLATED MILS Quantity = 4` of Allegro, also without the tool before it.
+# `;T08 Holesize 8. = 63.0 Tolerance = +0.0/-0.0 NON_PLATED MILS Quantity = 4` of Allegro, also without the tool.
 HOLESIZE = re.compile(rb";[ \t]*(?:T([0-9]{1,4})[ \t]+Holesize\b|Holesize[ \t]+([0-9]{1,4})\b).*?[ \t]" + KIND, re.I)
 # `; NON-PLATED HOLES START AT T1` and `; THROUGH (PLATED) HOLES START AT T100` of Fritzing.
-STARTS = re.compile(rb";[ \t]*(?:THROUGH[ \t]*)?\(?" + KIND + rb"\)?[ \t]+HOLES[ \t]+START[ \t]+AT[ \t]+T([0-9]{1,4})\b", re.I)
+STARTS = re.compile(rb";[ \t]*(?:THROUGH[ \t]*)?\(?" + KIND + rb"\)?\s+HOLES\s+START\s+AT\s+T([0-9]{1,4})\b", re.I)
 PICK = re.compile(rb"T([0-9]{1,4})")
 TOOL = re.compile(rb"T([0-9]{1,4})(?:[ABD-Z][0-9.+-]*)*C[0-9.+-]")
 BLANKS = b" \t\r"
@@ -27,9 +27,9 @@ def is_plated(kind):
 
 
 class Plating:
-    """`called` has for each tool's number what is said of it, plated or not, `tools` the one answer, None where there is none or both. An
-    attribute is that of the next tool alone, a TYPE that of all tools after it. `functions` are the fields of each file function, with its
-    line and whether `check` reads it."""
+    """`called` has for each tool's number what is said of it, plated or not, `tools` the one answer, None where there is none or
+    both. An attribute is that of the next tool alone, a TYPE that of all tools after it. `functions` are the fields of each file
+    function, with its line and whether `check` reads it."""
 
     def __init__(self, data):
         self.lines = [line.strip(BLANKS) for line in data.split(b"\n")]
@@ -41,8 +41,9 @@ class Plating:
         for number, line in enumerate(self.lines, 1):
             tool = TOOL.match(line)
             if tool:
-                # One such comment before a tool is that tool's, whatever it counts; of several each is that of its number.
-                self.called.setdefault(int(tool[1]), set()).update({self.lasting, self.own, *(self.sizes if len(self.sizes) == 1 else [])} - {None})
+                # One such comment before a tool is the tool's, whatever it counts; of several each is its number's.
+                said = {self.lasting, self.own, *(self.sizes if len(self.sizes) == 1 else ())}
+                self.called.setdefault(int(tool[1]), set()).update(said - {None})
                 self.own, self.sizes = None, []
             elif line.startswith(b";"):
                 self.comment(number, line)
@@ -86,8 +87,9 @@ class Plating:
         return sorted(number for number, plated in self.tools.items() if plated is False)
 
     def is_told(self):
-        """Whether the file mixes plated and unplated holes, each of its tools says which it is, and no hole is said to be another."""
-        return self.is_mixed() and bool(self.tools) and not self.unsaid() and all(len(called) == 1 for _, called in self.holes())
+        """Whether the file mixes both kinds of holes, each of its tools says which it is, and no hole is said to be another."""
+        is_said = self.is_mixed() and bool(self.tools) and not self.unsaid()
+        return is_said and all(len(called) == 1 for _, called in self.holes())
 
     def place(self):
         """The line that says that the file mixes them, or the first that says that a tool is unplated."""
@@ -114,7 +116,7 @@ class Plating:
         return not self.functions and self.said <= {False} and bool(told) and all(called == {False} for called in told)
 
     def is_taken_as_plated(self):
-        """Whether `check` takes all holes as plated: by the function that it reads, or where it reads none, and the file is not mended."""
+        """Whether `check` takes all holes as plated: by the function that it reads, or without one, and no mend comes before."""
         return {fields[0] for _, fields, is_read in self.functions if is_read} <= {"Plated"} and not self.is_told()
 
 
@@ -129,11 +131,12 @@ def functions_of(lines):
 def unplated_hole(data):
     """The line of the first hole that the file calls unplated and `check` would take as plated, or 0."""
     plating = Plating(data)
-    return next((number for number, called in plating.holes() if False in called), 0) if plating.is_taken_as_plated() else 0
+    holes = plating.holes() if plating.is_taken_as_plated() else ()
+    return next((number for number, called in holes if False in called), 0)
 
 
 def unread_function(data, first, last):
-    """The kind and the line of a function of the file that `check` passes over by its form and would refuse for this span; or nothing."""
+    """The kind and the line of a file function that `check` passes over by its form and else would refuse; or nothing."""
     plating = Plating(data)
     for number, (what, *fields), is_read in plating.functions:
         if is_read or plating.is_told():

@@ -54,7 +54,7 @@ WAYS = {
 def tool_of(data):
     """The tool that wrote a file, as the file's comments say, or nothing."""
     head = data[:HEAD]
-    words = [it.text for sign in (b"G04", b"TF.GenerationSoftware") for it in holding(head, sign) if it.text.startswith(sign)]
+    words = (it.text for sign in (b"G04", b"TF.GenerationSoftware") for it in holding(head, sign))
     said = b"\n".join([*COMMENTS.findall(head), *words])
     return next((name for name, pattern in TOOLS if re.search(pattern, said, re.I | re.M)), "")
 

@@ -41,7 +41,7 @@ def flattens(program, package, line):
 
 
 def checked(program, package):
-    """What `check` says, but where a file says of itself what its place is not and `check` does not come to it, as `said` has it."""
+    """What `check` says, but where a file says of itself what does not fit and `check` does not come to it (`said`)."""
     answer = program.check(package)
     wrong = said.amiss(package) if answer.status in (0, 1, REFUSED) else ""
     if wrong:

@@ -33,7 +33,8 @@ def need_functions(package):
         if kind:
             place = sum(len(it) + 1 for it in data.split(b"\n")[:line - 1])
             way = ways.way(kind.split()[-1], ways.tool_of(data))
-            raise Stop(REFUSED, f"{name}: {kind} at line {line}, byte {place}, by a form of the file function that `check` passes over" + (f"; to export: {way}" if way else ""))
+            raise Stop(REFUSED, f"{name}: {kind} at line {line}, byte {place}, by a form of the file function that `check` passes over"
+                       + (f"; to export: {way}" if way else ""))
 
 
 def need_plated(package, drills):

@@ -1,4 +1,5 @@
 """A board's files in a scratch folder, from a folder, a zip archive or a manifest. Nothing is written beside the user's files."""
+import errno
 import os
 import stat
 from itertools import chain, count
@@ -66,7 +67,8 @@ class Package:
 
     def is_taken(self, name):
         """Whether a name is that of a file of the board, be it there or not."""
-        return name in {os.path.normpath(each) for each in [self.name, TIES, *(self.manifest.names() if self.manifest else [])]}
+        its = self.manifest.names() if self.manifest else []
+        return name in {os.path.normpath(each) for each in [self.name, TIES, *its]}
 
     def free_name(self, stem, ending):
         """A name of a file that the package does not have."""
@@ -78,7 +80,8 @@ class Package:
 
     def report_name(self):
         """The name of the report in the folder, the same each time: no file of the board has it."""
-        return next(name for name in chain(["report.txt"], (f"report{number}.txt" for number in count(1))) if not self.is_taken(name))
+        names = chain(["report.txt"], (f"report{number}.txt" for number in count(1)))
+        return next(name for name in names if not self.is_taken(name))
 
     def changed(self, folder, files=None, told=None):
         """Another package of the same files but for those that are given, in a folder of its own."""
@@ -121,8 +124,8 @@ def beside(package, word):
 
 
 def need_plain(home, names, inside=None):
-    """Refuses names that lead elsewhere than to plain files of at most as many bytes as `check` takes; with a folder, than into it. Nothing
-    is read before; what is not there is left to `check`."""
+    """Refuses names that lead elsewhere than to plain files of at most as many bytes as `check` takes; with a folder, than into it.
+    Nothing is read before; what is not there is left to `check`."""
     for name in names:
         path = os.path.join(home, name)
         if inside and not os.path.realpath(path).startswith(os.path.realpath(inside) + os.sep):
@@ -131,9 +134,10 @@ def need_plain(home, names, inside=None):
             its = os.stat(path)
         except (OSError, ValueError):
             continue
-        if not stat.S_ISREG(its.st_mode) and not stat.S_ISDIR(its.st_mode):
-            raise Stop(UNREADABLE, f"{name}: cannot be read: it is no plain file")
-        if its.st_size > MOST_BYTES and stat.S_ISREG(its.st_mode):
+        if not stat.S_ISREG(its.st_mode):
+            why = os.strerror(errno.EISDIR) if stat.S_ISDIR(its.st_mode) else "it is no plain file"
+            raise Stop(UNREADABLE, f"{name}: cannot be read: {why}")
+        if its.st_size > MOST_BYTES:
             raise Stop(REFUSED, f"{name}: longer than {MOST_BYTES} bytes")
 
 

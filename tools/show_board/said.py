@@ -1,12 +1,14 @@
-"""What the copper files say of themselves: each file as it came, whatever has been done to it, also where comments say it.
+"""What the copper files say of themselves: each file as it came, whatever has been done to it, also by comments.
 
-`check` judges the attributes that it reads. It comes to none where a macro stands before them, `flatten` drops them, and attributes in
-comments are passed over: so they are judged here by the rule that `check` has.
+`check` judges the attributes that it reads. It comes to none where a macro stands before them, `flatten` drops them, and those in
+comments are passed over: so they are judged here, by the rule that `check` has.
 """
+import re
 from typing import List
 
 from mends import attributes
 
+LAYER = re.compile(rb"Copper,L([1-9][0-9]?)")
 WRONG_LAYER, NEGATIVE_FILE = "Gerber 25 WrongLayer", "Gerber 26 NegativeFile"
 
 
@@ -25,10 +27,11 @@ def line_of(name: str, data: bytes, kind: str, it: attributes.Attribute) -> str:
 
 
 def amiss(package) -> str:
-    """The line of the first copper file that says that it is another layer than its place, or negative; nothing where none does."""
+    """The line of the first copper file that says that it is no layer of its place, or negative; nothing where none does."""
     for place, name in enumerate(package.manifest.copper if package.manifest else (), 1):
         data = came(package, name)
-        found = [(it, WRONG_LAYER) for it in attributes.functions(data) if it.fields[1:3] != [b"Copper", b"L%d" % place]]
+        wanted = [b"Copper", b"L%d" % place]
+        found = [(it, WRONG_LAYER) for it in attributes.functions(data) if it.fields[1:3] != wanted]
         found += [(it, NEGATIVE_FILE) for it in attributes.negatives(data)]
         if found:
             it, kind = min(found)
@@ -41,6 +44,6 @@ def layers(package) -> List[int]:
     told = []
     for name in package.manifest.copper:
         said = {tuple(it.fields[1:3]) for it in attributes.functions(came(package, name))}
-        what, number = next(iter(said)) if len(said) == 1 and len(next(iter(said))) == 2 else (b"", b"")
-        told.append(int(number[1:]) if what == b"Copper" and number[:1] == b"L" and number[1:].isdigit() and len(number) < 5 else 0)
+        found = LAYER.fullmatch(b",".join(said.pop())) if len(said) == 1 else None
+        told.append(int(found[1]) if found else 0)
     return told

@@ -91,8 +91,10 @@ def labels_of(program, told):
     if not any(attributes.has_names(data, b".N") for data in files.values()):
         return None
     # `x2` passes over attributes in comments.
-    changed = {name: text for name, text in ((name, attributes.written(data)) for name, data in files.items()) if text != files[name]}
-    answer = program.x2(told.package.changed(package.beside(told.package, "named"), changed) if changed else told.package)
+    written = {name: attributes.written(data) for name, data in files.items()}
+    changed = {name: data for name, data in written.items() if data != files[name]}
+    its = told.package.changed(package.beside(told.package, "named"), changed) if changed else told.package
+    answer = program.x2(its)
     if answer.status not in (0, 1):
         return None
     try:

@@ -68,6 +68,11 @@ class Names(made.Case):
                     self.assertEqual(self.show(folder, "-q")[:2], (4, f"{folder}: {name}: cannot be read: it is no plain file\n"))
         self.board({**BOARD, "m.json": naming(copper=["/dev/zero"])})
         self.assertEqual(self.show("board", "-q")[:2], (4, "board: /dev/zero: cannot be read: it is no plain file\n"))
+        os.makedirs(self.path("board", "sub"))
+        for names in ({"copper": ["sub"]}, {"netlist": "sub"}, {"netlist": "."}):
+            self.board({**BOARD, "m.json": naming(**names)})
+            name = [*names.values()][0] if "netlist" in names else "sub"
+            self.assertEqual(self.show("board", "-q")[:2], (4, f"board: {name}: cannot be read: Is a directory\n"))
         os.mkfifo(self.path("pipe"))
         self.assertEqual(self.show("pipe", "-q")[:2], (4, "pipe: pipe: cannot be read: it is no plain file\n"))
         self.write("other/top.gbr", TOP)
