@@ -88,8 +88,7 @@ class Differing:
         """Where, and on which layer."""
         layer = max(self.report.sources[p][3], self.report.sources[q][3])
         if p == q:
-            left, low, right, high = self.touching.box(p)
-            return (left + right) // 2, (low + high) // 2, layer
+            return (*self.touching.middle(p), layer)
         return (*self.touching.place(p, q), layer)
 
     def command(self, piece):

@@ -180,17 +180,28 @@ class Net:
         tail = cuts.way(self.graph, [q], self.with_points.get(names[1], ()), self.of_name.get(names[1], ()))
         inner = cuts.way(self.graph, [into], {out}, set(part)) if part else []
         inner = [piece for piece in inner if piece not in (head[-1], tail[0])]
-        place, layer = self.place(p, q, inner or ([into] if part else []))
+        place, layer = self.place(p, q, inner or ([into] if part else []), names)
         return Meet(names, sorted(part), (p, q), place, layer, list(dict.fromkeys([*head, *inner, *tail])), len(head) - 1, len(head) + len(inner))
 
-    def place(self, p, q, inner):
-        """Where to look: the middle of where the one piece between them touches both, or where two pieces touch."""
+    def place(self, p, q, inner, names):
+        """Where to look: the middle of where the one piece between them touches both, or where two pieces touch; of one piece alone between
+        points of both names on it."""
         touching, shapes = self.board.touching, self.board.shapes
         if len(inner) == 1 and inner[0] not in (p, q) and not shapes.is_area(inner[0]):
             ends = touching.place(p, inner[0]), touching.place(inner[0], q)
-            return lines_apart.middle(*ends), self.board.report.sources[inner[0]][3]
+            return touching.held(lines_apart.middle(*ends), inner[0]), self.board.report.sources[inner[0]][3]
         one, other = (p, q) if not inner else (p, inner[0]) if p != inner[0] else (inner[-1], q)
         if one == other:
-            left, low, right, high = touching.box(one)
-            return ((left + right) // 2, (low + high) // 2), self.board.report.sources[one][3]
+            return self.place_on(one, names), self.board.report.sources[one][3]
         return touching.place(one, other), self.board.common_layer(one, other)
+
+    def place_on(self, piece, names):
+        """A place in a piece: its middle, the middle of the first point of each name on it, or one of these points."""
+        touching, spots = self.board.touching, {}
+        for point, pieces in self.carriers.items():
+            if piece in pieces:
+                spots.setdefault(self.board.side_of(self.board.name_of(point)), self.board.spot(point))
+        left, low, right, high = touching.box(piece)
+        found = [spots[name] for name in names if name in spots]
+        tried = [((left + right) // 2, (low + high) // 2), *([lines_apart.middle(*found)] if len(found) > 1 else []), *found]
+        return next((spot for spot in tried if touching.holds(piece, spot)), None) or touching.middle(piece)

@@ -54,13 +54,15 @@ class Stacked:
         self.board, self.rows = board, {}
 
     def ends(self, net):
-        """Where pieces of a net begin and end, or have their middle, doubled, each with the layers there."""
+        """Where pieces of a net begin and end, or have their middle in them, doubled, each with the layers there."""
         if net not in self.rows:
-            found = self.rows[net] = {}
+            found, touching, shapes = {}, self.board.touching, self.board.shapes
             for piece in self.board.pieces_of[net]:
                 top, bottom = self.board.report.sources[piece][3:]
-                for place in self.board.touching.anchors(piece):
-                    found.setdefault(place, set()).update((top, bottom))
+                for x, y in touching.anchors(piece):
+                    if not shapes.is_area(piece) or touching.holds(piece, (x // 2, y // 2)):
+                        found.setdefault((x, y), set()).update((top, bottom))
+            self.rows[net] = found
         return self.rows[net]
 
     def gap(self, ours, theirs, spot):

@@ -4,6 +4,8 @@ from .spots import box_of_line, cross, point_within, segments_within
 from .tree import Tree
 
 FEW_EDGES = 24
+MOST_PAIRS = 100_000    # lines of two pieces that are all compared
+AROUND = sorted(((x, y) for x in range(-2, 3) for y in range(-2, 3)), key=lambda step: (step[0] ** 2 + step[1] ** 2, step))
 
 
 def common(a, b):
@@ -87,17 +89,40 @@ class Touching:
                 yield pieces[j], pieces[i]
 
     def place(self, p, q):
-        """A place in both of two touching pieces, or near it."""
+        """A place in both of two touching pieces; where no whole one is found, in one of them and near the other."""
         box = common(self.box(p), self.box(q))
         for inner, outer in ((p, q), (q, p)):
             for x, y in self.shapes.places(inner)[:60]:
                 if box[0] <= x <= box[2] and box[1] <= y <= box[3] and self.holds(outer, (x, y)):
                     return x, y
         r = max(self.shapes.radius[p], 0), max(self.shapes.radius[q], 0)
-        wide = box[0] - sum(r), box[1] - sum(r), box[2] + sum(r), box[3] + sum(r)
-        ours, theirs = self.lines_near(p, wide), self.lines_near(q, wide)
-        if not ours or not theirs or len(ours) * len(theirs) > 100_000:
-            return (box[0] + box[2]) // 2, (box[1] + box[3]) // 2
-        squared, here, there = min(lines_apart.between(a, b) for a in ours for b in theirs)
+        squared, here, there = self.nearest_lines(p, q, box, sum(r))
         x, y = lines_apart.towards(here, there, squared ** 0.5 * r[0] / (sum(r) or 1), squared ** 0.5)
-        return round(x), round(y)
+        return self.held((round(x), round(y)), p, q)
+
+    def nearest_lines(self, p, q, box, r):
+        """How far apart lines of two touching pieces are, squared, and their nearest places: of all, or where there are many of the first that touch."""
+        wide = box[0] - r, box[1] - r, box[2] + r, box[3] + r
+        ours, theirs = self.lines_near(p, wide) or self.lines(p), self.lines_near(q, wide) or self.lines(q)
+        if len(ours) * len(theirs) <= MOST_PAIRS:
+            return min(lines_apart.between(a, b) for a in ours for b in theirs)
+        for a in ours:
+            for b in self.lines_near(q, box_of_line(*a, r)):
+                if segments_within(*a, *b, r):
+                    return lines_apart.between(a, b)
+        return lines_apart.between(ours[0], theirs[0])
+
+    def held(self, place, *pieces):
+        """The whole place nearest to one that all pieces have; else that some have; else one of their own places."""
+        x, y = place
+        around = [(x + dx, y + dy) for dx, dy in AROUND]
+        for wanted in (all, any):
+            for spot in around:
+                if wanted(self.holds(piece, spot) for piece in pieces):
+                    return spot
+        return min((spot for piece in pieces for spot in self.shapes.places(piece)), key=lambda spot: ((spot[0] - x) ** 2 + (spot[1] - y) ** 2, spot))
+
+    def middle(self, piece):
+        """The middle of a piece's box where the piece has it, else the nearest of its own places."""
+        left, low, right, high = self.box(piece)
+        return self.held(((left + right) // 2, (low + high) // 2), piece)

@@ -1,9 +1,12 @@
 """Boxes, touching and cuts: each against a plain search over small random cases."""
 import itertools
+import json
 import random
 import unittest
 
+import made
 import stand_in
+from made import flash, manifest, netlist, record
 from show_board import copper, cuts, grid, lines_apart, tree
 from show_board.touching import Touching
 from show_board.words import at_most, counted, millimetres, spoken
@@ -50,7 +53,7 @@ class Boxes(unittest.TestCase):
 
 class Solids(unittest.TestCase):
     def test_touching(self):
-        rng, met = random.Random(3), 0
+        rng, met, both, shared = random.Random(3), 0, 0, 0
         for _ in range(400):
             solids, shapes = [solid(rng), solid(rng)], copper.Shapes()
             spans = [(1, rng.choice([1, 2])), (rng.choice([1, 2]), 2)]
@@ -65,8 +68,36 @@ class Solids(unittest.TestCase):
             if wanted:
                 met += 1
                 box = grid.meet(touching.box(0), touching.box(1))
-                self.assertTrue(box and len(touching.place(0, 1)) == 2)
+                place = touching.place(0, 1)
+                held = [stand_in.touch(it, (0, [place], 0, None, 0, *it[5:7], 0)) for it in (p, q)]
+                common = any(all(touching.holds(it, spot) for it in (0, 1)) for spot in itertools.product(range(-3, 17), repeat=2))
+                self.assertTrue(box and any(held), (solids, place))
+                both, shared = both + all(held), shared + common
+            for piece, it in enumerate((p, q)):
+                self.assertTrue(stand_in.touch(it, (0, [touching.middle(piece)], 0, None, 0, *it[5:7], 0)), solids)
         self.assertGreater(met, 100)
+        self.assertGreater(both * 100, shared * 95)
+
+    def test_many_lines(self):
+        """Where two areas have more lines than are all compared, the place is still in them."""
+        comb = lambda by, turn: [turn(x + by, y) for k in range(400) for x, y in ((10 * k, 5000), (10 * k + 1, 0))] + [turn(x, -4000) for x in (5000, 0)]
+        shapes = copper.Shapes()
+        shapes.add(-1, comb(0, lambda x, y: (x, y)))
+        shapes.add(-1, comb(3, lambda x, y: (y - 900, x + 700)))
+        touching = Touching(shapes, [(1, 1)] * 2)
+        place = touching.place(0, 1)
+        self.assertTrue(touching.touch(0, 1) and all(touching.holds(piece, place) for piece in (0, 1)), place)
+
+    def test_middles(self):
+        """Of a ring, a bent and a crossed area, and where the middle is no whole place."""
+        shapes = copper.Shapes()
+        ring = [(0, 0), (90, 0), (90, 90), (0, 90), (0, 1), (1, 1), (1, 89), (89, 89), (89, 1), (0, 1)]
+        for places in (ring, [(0, 0), (9, 0), (9, 1), (1, 1), (1, 9), (0, 9)], [(0, 0), (9, 9), (9, 0), (0, 9)], [(0, 0), (9, 0), (9, 9), (0, 9)]):
+            shapes.add(-1, places)
+        touching = Touching(shapes, [(1, 1)] * 4)
+        middles = [touching.middle(piece) for piece in range(4)]
+        self.assertTrue(all(touching.holds(piece, middle) for piece, middle in enumerate(middles)), middles)
+        self.assertEqual(middles[3], (4, 4))
 
     def test_places_of_contact(self):
         shapes = copper.Shapes()
@@ -78,6 +109,40 @@ class Solids(unittest.TestCase):
     def test_lines(self):
         self.assertEqual(lines_apart.between(((0, 0), (10, 0)), ((5, -5), (5, 5)))[0], 0)
         self.assertEqual(lines_apart.between(((0, 0), (10, 0)), ((13, 4), (20, 4))), (25, (10, 0), (13, 4)))
+
+
+class Meets(made.Case):
+    """Where names meet lies in copper of the net that joins them, by an exact test; no other pad is there."""
+
+    def meets(self, lines, records):
+        """The places where `show` says that names meet, in u."""
+        self.board({"m.json": manifest(), "top.gbr": lines, "n.ipc": netlist(*records)})
+        self.assertEqual(self.show("board", "--json", "out.json")[0], 1)
+        found = json.loads(self.read("out.json"))["boards"][0]["findings"]
+        return [(round(it["x"] * 10 ** 7), round(it["y"] * 10 ** 7)) for each in found if each["kind"] == "short" for it in each["meets"]]
+
+    def test_one_contour(self):
+        """Two names on one contour round a pad of another."""
+        horseshoe = [(0, 0), (20, 0), (20, 20), (19, 20), (19, 1), (1, 1), (1, 20), (0, 20)]
+        for turn in (lambda x, y: (x, y), lambda x, y: (y, x), lambda x, y: (20 - x, 20 - y)):
+            its = [record(name, pin, *turn(x, y)) for name, pin, x, y in (("A", "J1.1", .5, 19), ("B", "J2.1", 19.5, 19), ("N", "J3.1", 10, 10))]
+            (place,) = self.meets([*made.region(*(turn(*p) for p in horseshoe)), *flash(10, (10, 10))], its)
+            area = (-1, [tuple(round(v * 10 ** 7) for v in turn(*p)) for p in horseshoe], 0, None, 0, 1, 1, 0)
+            self.assertTrue(stand_in.touch(area, (0, [place], 0, None, 0, 1, 1, 0)), place)
+
+    def test_random_boards(self):
+        rng, told = random.Random(8), 0
+        for _ in range(12):
+            spot = lambda: (rng.randint(0, 20), rng.randint(0, 20))
+            areas, lines = [[spot() for _ in range(rng.randint(3, 9))] for _ in range(3)], [[spot(), spot()] for _ in range(3)]
+            pieces = [(-1, [(x * 10 ** 7, y * 10 ** 7) for x, y in its], 0, None, 0, 1, 1, 0) for its in areas]
+            pieces += [(10 ** 6, [(x * 10 ** 7, y * 10 ** 7) for x, y in its], 0, None, 0, 1, 1, 0) for its in lines]
+            records = [record(name, f"J{k}.1", *its[0]) for k, (name, its) in enumerate(zip("ABCDEF", areas + lines))]
+            for place in self.meets([line for its in areas for line in made.region(*its)] + [line for its in lines for line in made.draw(11, *its)] + made.region((0, 0), (20, 0), (20, 1), (1, 1), (1, 20), (0, 20)), records):
+                told += 1
+                ell = (-1, [(x * 10 ** 7, y * 10 ** 7) for x, y in ((0, 0), (20, 0), (20, 1), (1, 1), (1, 20), (0, 20))], 0, None, 0, 1, 1, 0)
+                self.assertTrue(any(stand_in.touch(it, (0, [place], 0, None, 0, 1, 1, 0)) for it in [*pieces, ell]), (place, areas, lines))
+        self.assertGreater(told, 12)
 
 
 class Cuts(unittest.TestCase):
