@@ -51,6 +51,9 @@ class Point(NamedTuple):
     why: str = ""
 
 
+NET_ALONE = "it has a net and no pin, while other pads have pins"
+# The pin where a part alone is said.
+UNKNOWN = "?"
 DRAWN = "it is drawn and has a net alone, as tracks have"
 NEGATIVE = "its file is negative"
 CLEAR = "it takes copper away"
@@ -83,6 +86,7 @@ class Names:
 
     def label(self):
         part, pin, *_ = [*self.set.get(".P", []), "", ""]
+        pin = pin if pin.strip() or not part.strip() else UNKNOWN
         names = tuple(name for name in dict.fromkeys(self.set.get(".N", [])) if name.strip() not in ("", netlist.NO_NET))
         return Label((part or next(iter(self.set.get(".C", [])), "")).strip(), pin.strip(), names)
 
@@ -90,15 +94,16 @@ class Names:
 class Pads:
     """The words of a copper file with its labelled objects and its blocks alone: walking all copper of a board would take long.
 
-    `labels` are those of the commands of the new text that end an object, `tracks` the draws with a net of their own and no pin, `drawn`
-    the labels of such outside of blocks where nets are wanted. Other draws and regions leave their last place, as what comes next may
-    go on from it; where the file erases copper all words stay.
+    `labels` are those of the commands of the new text that end an object, `tracks` the draws with a net of their own and no pin, `passed`
+    labels outside of blocks that are no test points, with why: of such draws where nets are wanted, and of flashes and regions where
+    pins are. Other draws and regions leave their last place, as what comes next may go on from it; where the file erases copper all words
+    stay.
     """
 
     def __init__(self, text, wants_pins):
         self.wants_pins, self.stays = wants_pins, "LPC*" in text
         self.names, self.words, self.labels, self.region = Names(), [], {}, None
-        self.tracks, self.drawn, self.depth, self.last = set(), [], 0, None
+        self.tracks, self.passed, self.depth, self.last = set(), [], 0, None
         for extended, word, first in words_of(text):
             comment = None if extended else COMMENT.fullmatch(word)
             if comment or extended and word.startswith(("TO", "TD")):
@@ -126,12 +131,15 @@ class Pads:
             if code == "3":
                 self.label()
 
-    def label(self):
+    def label(self, is_draw=False):
         """Notes the label of the command that was last; answers whether it may be wanted."""
         found = self.names.label()
         if found.pin or found.names:
             self.labels[len(self.words)] = found
-        return self.is_wanted(found)
+        is_wanted = self.is_wanted(found)
+        if found.names and not is_wanted and not self.depth and not is_draw:
+            self.passed.append((found, NET_ALONE))
+        return is_wanted
 
     def is_wanted(self, label):
         return bool(label.pin or label.names and not self.wants_pins)
@@ -140,10 +148,10 @@ class Pads:
         mode, x, y, _ = operation.groups()
         label = self.names.label()
         if self.is_wanted(label) and not label.pin and not self.depth:
-            self.drawn.append(label)
+            self.passed.append((label, DRAWN))
         if self.stays or self.depth or label.pin:
             self.words.append((False, word, True))
-            self.label()
+            self.label(is_draw=True)
             if not label.pin and label.names:
                 self.tracks.add(len(self.words))
         else:
@@ -223,7 +231,7 @@ def points_of(text, layer, wants_pins):
     pads = Pads(text.replace("\r", "").replace("\n", ""), wants_pins)
     copper = Objects(pads.text())
     near = erased(copper.objects)
-    yield from (Point(layer, label, None, False, DRAWN) for label in pads.drawn)
+    yield from (Point(layer, label, None, False, why) for label, why in pads.passed)
     for at, it in enumerate(copper.objects):
         label = label_of(pads, it.tag)
         if label:

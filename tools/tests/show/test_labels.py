@@ -150,6 +150,9 @@ class Labels(made.Case):
         self.assertEqual(points(*two, *flash(20, (0, 0))), [(first, (0, 0), ""), (first, (50_000_000, 0), "")])
         self.assertEqual(points(*two, *flash(21, (0, 0))), [(first, (2_500_000, 0), "")])
         self.assertEqual(points(*pin("U1", "1", "GND"), "D10*", "G55X2000000Y0D03*"), [(first, (20_000_000, 0), "")])
+        self.assertEqual(points("%TO.P,U1*%", *label("GND"), *flash(10, (0, 0))), [(labels.Label("U1", "?", ("GND",)), (0, 0), "")])
+        alone = [*label("GND"), *flash(10, (0, 0)), *region((0, 0), (1, 0), (1, 1))]
+        self.assertEqual([points(*alone), len(points(*alone, wants_pins=False))], [[(bare, None, labels.NET_ALONE)] * 2, 2])
         track = [*label("GND"), *draw(10, (0, 0), (2, 0))]
         self.assertEqual([points(*track, wants_pins=it) for it in (True, False)], [[], [(bare, None, labels.DRAWN)]])
         self.assertEqual(points(*label("GND"), *flash(10, (0, 0)), "D11*", "X4000000*", "Y0D02*", "X8000000D01*", "X9000000*", wants_pins=False),

@@ -70,7 +70,7 @@ class Told(unittest.TestCase):
 
     def test_json_with_an_indent(self):
         """As the standard library writes it."""
-        value = {"a": [], "b": {}, "": [1, -2, 0.1, 1e-07, True, None, "\u00e9\ud83d \n\"\\", [[()], ({"x": [{"y": (1, 2)}]},)]], "c": {"d": False}}
+        value = {"a": [], "b": {}, "": [1, -2, 0.1, 1e-07, True, None, "\u00e9\U0001f600 \n\"\\", [[()], ({"x": [{"y": (1, 2)}]},)]], "c": {"d": False}}
         for it in (value, [], {}, "x", [value, value]):
             self.assertEqual(indented.text(it), json.dumps(it, indent=1))
 
