@@ -32,13 +32,13 @@ class Plating:
     function, with its line and whether `check` reads it."""
 
     def __init__(self, data):
-        self.lines = [line.strip(BLANKS) for line in data.split(b"\n")]
+        self.lines = data.split(b"\n")
         self.called, self.unplated_line, self.said, self.types = {}, 0, set(), set()
         self.numbered, self.starts = {}, []
         self.functions = list(functions_of(self.lines)) if b"TF.FileFunction" in data else []
         self.own = self.lasting = None
         self.sizes = []         # of Allegro's comments without a tool, those since the last tool
-        for number, line in enumerate(self.lines, 1):
+        for number, line in bare(self.lines):
             tool = TOOL.match(line)
             if tool:
                 # One such comment before a tool is the tool's, whatever it counts; of several each is its number's.
@@ -98,17 +98,17 @@ class Plating:
     def holes(self):
         """The line of each hole, and what is said of it: of its tool, and by the last TYPE before it in the body."""
         tool = kind = None
-        is_body = False
-        for number, line in enumerate(self.lines, 1):
+        called, is_body = set(), False
+        for number, line in bare(self.lines):
             if not is_body:
                 is_body = line in (b"%", b"M95") and bool(self.tools)
             elif line.startswith((b"X", b"Y", b"G01")):
-                yield number, self.called.get(tool, set()) | ({kind} - {None})
-            elif line.startswith(b";"):
+                yield number, called
+            elif line.startswith((b";", b"T")):
                 said = TYPE.match(line)
                 kind = is_plated(said[1]) if said and said[1] else None if said else kind
-            elif PICK.fullmatch(line):
-                tool = int(line[1:])
+                tool = int(line[1:]) if PICK.fullmatch(line) else tool
+                called = self.called.get(tool, set()) | ({kind} - {None})
 
     def is_unplated_alone(self):
         """Whether a file without a function says of all its holes that they are unplated."""
@@ -120,9 +120,14 @@ class Plating:
         return {fields[0] for _, fields, is_read in self.functions if is_read} <= {"Plated"} and not self.is_told()
 
 
+def bare(lines):
+    """Each line's number, and the line without blanks at its ends."""
+    return enumerate((line.strip(BLANKS) for line in lines), 1)
+
+
 def functions_of(lines):
     """The file functions: each a line, its fields, and whether `check` reads it."""
-    for number, line in enumerate(lines, 1):
+    for number, line in bare(lines):
         found = FUNCTION.match(line)
         if found:
             yield number, [field.strip() for field in found[1].decode("latin-1").split(",")], line.startswith(EXACT)
@@ -139,7 +144,7 @@ def unread_function(data, first, last):
     """The kind and the line of a file function that `check` passes over by its form and else would refuse; or nothing."""
     plating = Plating(data)
     for number, (what, *fields), is_read in plating.functions:
-        if is_read or plating.is_told():
+        if is_read or what == "MixedPlating" and plating.is_told():
             continue
         if what in ("NonPlated", "MixedPlating"):
             return ("drill 12 NotPlated" if what == "NonPlated" else "drill 13 MixedPlating"), number
