@@ -7,6 +7,7 @@ shorts below, and opens and missing points above, are the board's (a point of su
 missing points below, and other shorts above, are undecided. That the two boards are such bounds is not proved, but where the program
 says so (`proved`): this script makes them, by whole numbers, and its tests compare them with fractions.
 """
+import hashlib
 import os
 import re
 from typing import NamedTuple
@@ -38,6 +39,17 @@ class Bounded(NamedTuple):
     points: tuple = ()
     sides: tuple = ()
     notes: tuple = ()
+
+
+class Made(NamedTuple):
+    """What is kept of the bounds of a copper file, as `Copper` and `Sides` have it."""
+
+    replaced: int
+    is_bent: bool
+    rows: dict
+    unlike: dict
+    lost: list
+    sources: tuple
 
 
 class Sides(NamedTuple):
@@ -87,25 +99,52 @@ def told_once(text, lost):
     return [f"{words} at command {its[0]}, line {lines[its[0]]}" + (f", and {len(its) - 1} more" if len(its) > 1 else "") for words, its in kinds.items()]
 
 
+def key_of(package, name, is_coarse):
+    return hashlib.sha256(package.read(name)).digest(), is_coarse
+
+
+def made_once(package, name, is_coarse):
+    """The bounds of a copper file with the texts of both sides, which copies of the package that have the file too read again."""
+    key = key_of(package, name, is_coarse)
+    made, paths = package.made.get(key, (None, []))
+    if made and (paths or not made.replaced):
+        return made, [read_whole(path) for path in paths]
+    copper = sides_of(package, name, is_coarse)
+    rows = copper.rows if copper.replaced == len(copper.rows) else None
+    lost = told_once(package.read(name).decode("latin-1"), copper.lost)
+    made = Made(copper.replaced, copper.is_bent, rows, copper.unlike, lost, tuple(side.sources for side in copper.sides))
+    if not copper.negative:     # these lie within a board's outline
+        package.made[key] = made, []
+    return made, [side.text().encode("latin-1") for side in copper.sides]
+
+
+def read_whole(path):
+    with open(path, "rb") as file:
+        return file.read()
+
+
 def of_package(package, is_coarse=False):
     """Both sides of each copper file that holds something outside the profile; the others are the same files. Coarse ones have areas
     within regions as `between` wants them."""
     files, sources, left_out, rows, unlike, replaced, is_bent = ({}, {}), ({}, {}), [], {}, {}, 0, False
     for name in dict.fromkeys(package.manifest.copper):
-        copper = sides_of(package, name, is_coarse)
+        copper, texts = made_once(package, name, is_coarse)
         is_bent = is_bent or copper.is_bent
-        left_out += [f"{name}: {what}" for what in told_once(package.read(name).decode("latin-1"), copper.lost)]
+        left_out += [f"{name}: {what}" for what in copper.lost]
         replaced += copper.replaced
-        rows[name] = copper.rows if copper.replaced == len(copper.rows) else None
+        rows[name] = copper.rows
         unlike[name] = copper.unlike
-        for side, data, origin in zip(copper.sides, files, sources):
+        for text, its, data, origin in zip(texts, copper.sources, files, sources):
             if copper.replaced:
-                data[name], origin[name] = side.text().encode("latin-1"), side.sources
+                data[name], origin[name] = text, its
     if any(map(os.path.isabs, files[0])):
         raise Refused("a copper file is named by its whole path, so it has no copy that could be changed")
     if not replaced:
         raise Refused("nothing in the copper files is of a kind that has bounds")
     made = tuple(package.changed(beside(package, side), data) for side, data in zip(SIDES, files))
+    for name in files[0]:
+        if key_of(package, name, is_coarse) in package.made:
+            package.made[key_of(package, name, is_coarse)][1][:] = [its.path(name) for its in made]
     return Sides(made, sources, left_out, rows, unlike, is_bent)
 
 

@@ -30,6 +30,8 @@ class Package:
         self.no_bounds = ""
         # Where the board is, once a negative file asked for it.
         self.outline = None
+        # The bounds of copper files that were made, by their bytes; copies have them too.
+        self.made = {}
         # How the files are called where the user has them, and whether the manifest was made here.
         self.home, self.is_made = "", False
         # The folder where they lie with all that is beside them, of a zip archive that of what was in it.
@@ -88,7 +90,7 @@ class Package:
         copy = Package(told or self.manifest, folder, self.name)
         copy.flattened, copy.home, copy.around = set(self.flattened) - set(files or ()), self.home, self.around
         copy.before = {name: data for name, data in self.before.items() if name in copy.flattened}
-        copy.own, copy.mends = self.own, self.mends
+        copy.own, copy.mends, copy.made = self.own, self.mends, self.made
         os.makedirs(folder)
         for name, data in (files or {}).items():
             copy.put(name, data)

@@ -108,8 +108,13 @@ def ring(centre, chain, high):
         return None
     if not all(keeps_off(p, q, centre, wide) for p, q in zip(tops, tops[1:])):
         return None
-    both = [[[a, b, d, c] for a, b, c, d in zip(one, one[1:], two, two[1:])] for one, two in (sides, (tops, feet))]
+    both = [[band(*its)] for its in (sides, (tops, feet))]
     return tuple(areas + more for areas, more in zip(both, at_ends(chain, high - 1, high + 4 * (far - near) + 8)))
+
+
+def band(one, two):
+    """What lies between two chains that go round a centre by the same angles, at most once: an area, round a whole turn with a cut."""
+    return one + [spot for k, spot in enumerate(reversed(two)) if not k or spot != two[-k]]
 
 
 def at_ends(chain, inner, outer):

@@ -160,6 +160,9 @@ def show(path, asked, program, scratch):
         if told.report:
             look(program, told, shown, asked.page or asked.svg or beside.wants_copper(asked))
         outside(program, told, shown, asked)
+        if shown.board and shown.status in (0, 1, UNDECIDED):
+            from . import hairs         # most boards stop here, and loading takes longer than a small board
+            shown.notes += hairs.notes(files)
         mending.say(files, shown)
         if files.own and shown.status in own_names.ANSWERS:
             shown.line = own_names.FIRST + shown.line

@@ -9,7 +9,7 @@ from unittest import mock
 import made
 from made import STAND_IN, flash, manifest, netlist, record
 from real_shapes import Real, fine, has, pieces_of
-from show_board import bounds, judged, manifest as manifests
+from show_board import bounds, judged, manifest as manifests, two_sides
 from show_board.differing import Differing
 from show_board.drawn import Operations
 from show_board.exact import Refused
@@ -22,6 +22,10 @@ from show_board.side import words_of
 from show_board.two_sides import Copper
 
 HEAD = ["%FSLAX46Y46*%", "%MOMM*%", "G75*"]
+
+
+def text_of(*lines):
+    return "\n".join(["%FSLAX46Y46*%", "%MOMM*%", *lines, "M02*", ""])
 
 
 def copper_of(*lines):
@@ -39,6 +43,31 @@ class Graphs(unittest.TestCase):
 
 
 class Files(unittest.TestCase):
+    def test_made_once(self):
+        """A file's bounds are made once for a package and its copies: not anew with another netlist, but where its bytes are others; two equal files have both."""
+        arcs = text_of("%ADD10C,0.2*%", "D10*", "G75*", "X1000000Y0D02*", "G03X-1000000Y0I-1000000J0D01*")
+        files = {"m.json": manifest(["a.gbr", "b.gbr", "c.gbr"]), "a.gbr": arcs, "b.gbr": arcs, "c.gbr": text_of("%ADD10C,0.2*%", "D10*", "X5Y5D03*"), "n.ipc": netlist()}
+        with tempfile.TemporaryDirectory() as folder:
+            for name, text in files.items():
+                with open(os.path.join(folder, name), "w", encoding="ascii") as file:
+                    file.write(text)
+            os.mkdir(os.path.join(folder, "in"))
+            package = Package(manifests.of_text(files["m.json"].encode()), folder).changed(os.path.join(folder, "in", "board"))
+            with mock.patch.object(two_sides, "of_text", side_effect=two_sides.of_text) as made:
+                first = bounds.of_package(package)
+                self.assertEqual(made.call_count, 3)
+                tried = package.changed(os.path.join(folder, "in", "tried"), {"n.ipc": b"999\n"})
+                second = bounds.of_package(tried)
+                self.assertEqual(made.call_count, 3)
+                other = package.changed(os.path.join(folder, "in", "other"), {"b.gbr": arcs.replace("0.2", "0.3").encode()})
+                bounds.of_package(other)
+                self.assertEqual(made.call_count, 4)
+            for one, two in zip(first.packages, second.packages):
+                self.assertTrue(all(one.read(name) == two.read(name) for name in ("a.gbr", "b.gbr", "c.gbr")))
+                self.assertEqual(one.read("a.gbr"), one.read("b.gbr"))
+                self.assertNotEqual(one.read("a.gbr"), arcs.encode())
+            self.assertEqual((first[1:], second.packages[0].read("n.ipc")), (second[1:], b"999\n"))
+
     def test_refused_by_name(self):
         use = ["D10*", "X5Y5D03*"]
         macro = ["%ADD10A*%", *use]

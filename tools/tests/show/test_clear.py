@@ -2,6 +2,7 @@
 import math
 import os
 import random
+import time
 import unittest
 import zipfile
 from fractions import Fraction as Q
@@ -327,6 +328,17 @@ class Rounds(unittest.TestCase):
                 self.assertTrue(inside or not inner or not encloses(inner, p), (d, r, p))
                 self.assertTrue(not inside or has([("area", outer)], p), (d, r, p))
             self.assertTrue(inner or r < 9, (d, r))
+
+    def test_clear_arcs_over_dark_ones(self):
+        """Arcs over nearly the same ones: an arc is one area round it, and the sweep takes some seconds."""
+        lines = ["%FSLAX46Y46*%", "%MOMM*%", "G75*", "%ADD10C,0.5*%", "D10*"]
+        for x in range(10_000_000, 14_500_000, 300_000):
+            for word, by in (("LPD", 0), ("LPC", 3)):
+                lines += [f"%{word}*%", f"X{x + by}Y0D02*", f"G03X{-x - by}Y0I{-x - by}J0D01*"]
+        began = time.process_time()
+        copper = of_text("\n".join([*lines, "M02*", ""]))
+        self.assertLess(time.process_time() - began, 10)
+        self.assertLess(max(len(side.lines) for side in copper.sides), 20_000)
 
     def test_rings(self):
         """Draws along arcs, also with pens wider than the arc."""
