@@ -44,9 +44,9 @@ class Blocks(Copper):
         super().flash_block(block)
         self.inner = None
 
-    def stays_as(self, dark, both, areas=None):
+    def stays_as(self, dark, both, areas=None, joins=True):
         """Notes objects in blocks by what they are, and at last those of a flash."""
-        super().stays_as(dark, both, areas)
+        super().stays_as(dark, both, areas, joins)
         its = next(self.inner) if self.inner else None
         if self.blocks:
             self.objects[-1] = self.objects[-1]._replace(tag=its or self.object())

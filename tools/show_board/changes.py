@@ -4,7 +4,6 @@ from functools import lru_cache
 from typing import NamedTuple
 
 from .apertures import Pen, Shape
-from .clear import Object
 from .exact import cos_sin, exact, minus, times, turned, whole_near
 from .outlines import polygon_bounds
 from .spots import cross, edges
@@ -52,8 +51,8 @@ class Change(NamedTuple):
         """The objects of a block, changed."""
         if self == Change():
             return block.objects
-        return [Object(it.dark, tuple([part for piece in pieces for part in changed(self, frozen(piece), side)] for side, pieces in enumerate(it.both)), it.tag)
-                for it in block.objects]
+        changed_by = lambda pieces, side: [part for piece in pieces for part in changed(self, frozen(piece), side)]
+        return [it._replace(both=tuple(changed_by(pieces, side) for side, pieces in enumerate(it.both)), areas=None) for it in block.objects]
 
 
 def abut(pieces):

@@ -18,16 +18,17 @@ CELLS = 64          # to each side
 
 class Object(NamedTuple):
     """What a command makes: pieces within it and pieces round it; `tag` is the command's number. `areas` are corners of areas within
-    it and round it, where they are known and fewer than those of the pieces."""
+    it and round it, where they are known and fewer than those of the pieces. It `joins` its pieces where they abut, unless it is several contours."""
 
     dark: bool
     both: tuple
     tag: int
     areas: tuple = None
+    joins: bool = True
 
     def moved(self, x, y):
         both = tuple([moved(piece, x, y) for piece in pieces] for pieces in self.both)
-        return Object(self.dark, both, self.tag, self.areas and tuple([[(p + x, q + y) for p, q in it] for it in its] for its in self.areas))
+        return self._replace(both=both, areas=self.areas and tuple([[(p + x, q + y) for p, q in it] for it in its] for its in self.areas))
 
 
 def moved(piece, x, y):
@@ -89,7 +90,8 @@ def cut(objects, also=()):
     for side in (0, 1):
         written = [(piece, it.tag) for n, it in enumerate(objects) if it.dark and it.tag in tags and n not in apart for piece in it.both[side]]
         items = [(objects[n].dark, corners, objects[n].tag, within, n) for n in swept for corners, within in corners_of(objects[n], side)]
-        made = Sweep([it[:2] for it in items], bool(side), [k for k, it in enumerate(items) if it[3]], [it[4] for it in items]).out
+        joined = [it[4] if objects[it[4]].joins else (it[4], k) for k, it in enumerate(items)]
+        made = Sweep([it[:2] for it in items], bool(side), [k for k, it in enumerate(items) if it[3]], joined).out
         last = max((k for k, it in enumerate(items) if it[0]), default=0)
         written += [(("area", corners), items[k if k >= 0 else last][2]) for corners, k in made]
         out.append(written)

@@ -178,6 +178,6 @@ class Operations:
             if lost:
                 self.lost.append(f"{lost} a changed object of the block at command {self.number}")
             both = tuple([moved(piece, *self.spot) for piece in pieces] for pieces in it.both)
-            self.stays_as(it.dark != self.clear, both)
+            self.stays_as(it.dark != self.clear, both, None, it.joins)
             if it.dark != self.clear and self.number not in self.taken:
                 self.write_both(both, (0, 0))

@@ -55,7 +55,7 @@ class Regions:
             self.stands(None if None in rows else rows)
         both = [[("area", run[:-1]) for it in made for run in it.runs[k]] for k in (0, 1)] if self.is_noted() else [(), ()]
         grown = [piece for it in made for piece in it.grown]
-        if self.stays(both[0], [*both[1], *grown]):
+        if self.stays(both[0], [*both[1], *grown], None, len(made) < 2):
             for its in [[it] for it in made] if is_bent else [made]:
                 self.write_region(its)
         elif any(run[0] != run[-1] or len(run) < 4 for it in made for runs in it.runs for run in runs):

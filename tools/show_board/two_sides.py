@@ -76,14 +76,14 @@ class Copper(Settings, Definitions, Operations, Regions):
         """Whether the file's objects are asked for: where some are cut, and in blocks."""
         return self.cuts or bool(self.blocks)
 
-    def stays(self, lower, upper, areas=None):
+    def stays(self, lower, upper, areas=None, joins=True):
         """Notes what a command makes. Whether it is written as it comes."""
-        self.stays_as(not self.clear, (lower, upper), areas)
+        self.stays_as(not self.clear, (lower, upper), areas, joins)
         return not self.clear and self.number not in self.taken
 
-    def stays_as(self, dark, both, areas=None):
+    def stays_as(self, dark, both, areas=None, joins=True):
         if self.is_noted():
-            self.objects.append(clear.Object(dark, both, self.number, areas))
+            self.objects.append(clear.Object(dark, both, self.number, areas, joins))
             if len(self.objects) > MOST_OBJECTS:
                 raise Refused("too many objects")
 

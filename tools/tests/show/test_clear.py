@@ -272,6 +272,16 @@ class Borders(unittest.TestCase):
                 found = [corners for (_, corners), _ in cut(objects, range(len(items)))[2]]
                 self.assertEqual(holds(found, turn(*place), 1), want, name)
 
+    def test_contours_of_a_region(self):
+        """Each contour of a clear region is an object: where two abut is a border, in copies and changed blocks too; one with a cut-in has none there."""
+        square = ["G36*", *(f"X{x}Y{y}D0{2 if k == 0 else 1}*" for k, (x, y) in enumerate(((0, 0), (40, 0), (40, 40), (0, 40), (0, 0)))), "G37*"]
+        halves = ["G36*", *(line for left in (10, 20) for line in (f"X{left}Y5D02*", *(f"X{x}Y{y}D01*" for x, y in ((left + 10, 5), (left + 10, 35), (left, 35), (left, 5))))), "G37*"]
+        block = ["%ABD12*%", *halves, "%AB*%"]
+        for lines in (["%LPC*%", *halves], ["%LPC*%", "%SRX1Y1I0J0*%", *halves, "%SR*%"], [*block, "%LPC*%", "D12*", "X0Y0D03*"], [*block, "%LPC*%", "%LMX*%", "D12*", "X40Y0D03*"]):
+            low, high = (pieces_of(side) for side in of_text("\n".join(["%FSLAX47Y47*%", "%MOMM*%", *square, *lines, "M02*", ""])).sides)
+            self.assertEqual([has(high, fine(place)) for place in ((20, 17), (15, 17), (25, 17))], [True, False, False], lines)
+            self.assertFalse(has(low, fine((20, 17))), lines)
+
     def test_two_crossings(self):
         """Both sides of a narrow area cross a clear border within a unit; a place on that border, times 16."""
         items = [(True, [(7, 2), (0, 0), (2, 7)]), (True, [(3, 3), (5, 1), (7, 3), (5, 5)]), (True, [(3, 6), (5, 4), (7, 6), (5, 8)]), (False, [(7, 6), (0, 4), (2, 11)])]
