@@ -204,10 +204,10 @@ class Objects(two_sides.Copper):
         super().flash_block(block)
         self.inner = None
 
-    def stays_as(self, dark, both, areas=None):
+    def stays_as(self, dark, both, areas=None, joins=True):
         tag = (self.number, *(next(self.inner) if self.inner else ()))
         for each in self.contours_of() if self.regions else [both]:
-            super().stays_as(dark, each, areas)
+            super().stays_as(dark, each, areas, joins)
             self.objects[-1] = self.objects[-1]._replace(tag=tag)
 
     def contours_of(self):
