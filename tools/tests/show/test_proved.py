@@ -306,7 +306,7 @@ class Taken(made.Case):
         ("a point in a hole", ["%ADD14C,3X2.2*%", "D14*", "X0Y0D03*"], [record("A", "J1.1", 1.3, 0), B], "differs"),
         ("nearer to the border of a hole", ["%ADD14C,3X2*%", "D14*", "X0Y0D03*"], [record("A", "J1.1", 1.2, 0), record("A", "J1.2", -1.0001, 0)], "undecided"),
         ("a rectangle with a hole", ["%ADD14R,3X2X1*%", "D14*", "X0Y0D03*"], [record("A", "J1.1", 1, .4), record("A", "J1.2", -.6, 0)], "agrees"),
-        ("a point in the hole of a rectangle", ["%ADD14R,3X2X1*%", "D14*", "%SRX2Y1I5.0J0*%", "X0Y0D03*", "%SR*%"], [A, record("B", "J1.2", 5, 0)], "differs"),
+        ("a point in the hole of a rectangle", ["%ADD14R,3X2X1*%", "D14*", "%SRX2Y1I5.0J0*%", "X0Y0D03*", "%SR*%"], [record("A", "J1.1", 1, .4), record("B", "J1.2", 5, 0)], "differs"),
         ("a circle with another hole", ["%ADD14C,3X1.0000002*%", "D14*", "X0Y0D03*"], [A, B], "agrees"),
         ("a circle with a hole, of odd sizes", ["%ADD14C,3.0000001X1*%", "D14*", "%SRX2Y1I5.0J0*%", "X0Y0D03*", "%SR*%"], [A, B, record("B", "J2.1", 5, 1.4)], "agrees"),
         ("a point in such a hole", ["%ADD14C,3X1.0000001*%", "D14*", "X0Y0D03*"], [A, record("A", "J1.2", 0, 0)], "undecided"),
@@ -382,6 +382,12 @@ class Taken(made.Case):
 
     def test_bent_rows(self):
         self.try_rows(self.BENT_ROWS, BENT)
+
+    def test_on_the_cut(self):
+        """A point on the cut of a smaller area is missing there: what `between` has as undecided besides is not under the word."""
+        lines = ["%ADD14R,3X2X1*%", "D14*", "%SRX2Y1I5.0J0*%", "X0Y0D03*", "%SR*%"]
+        status, out, _ = self.told(having_between(), "cut", lines, [A, record("B", "J1.2", 5, 0)])
+        self.assertEqual((status, out), (1, " differs, between two bounds"))
 
     def test_kept_out(self):
         """What is not taken, and said without the word: an arc that has no place, and an arc and a primitive that `show` alone reads."""
