@@ -87,7 +87,9 @@ class Gaps(made.Case):
             for mm, status, word in (("1.01", 1, "gap-0"), ("0.99", 0, None), ("1", 11, "undecided gap-0")):
                 self.board({**CLOSE, "top.gbr": gerber(*arc), "n.ipc": netlist(record("A", "J1.1", 0, 0), record("B", "J1.2", 1.6, 0))})
                 told, out, _ = self.show("board", "--gaps", mm, program=program)
-                self.assertEqual((told, [line.split(":")[0].strip() for line in out.splitlines()[2:]]), (status, ["A and B", word] if word else []), out)
+                # The stand-in's `between` reads no arc, which is noted.
+                lines = [line.split(":")[0].strip() for line in out.splitlines() if not line.startswith("`between` was asked")][2:]
+                self.assertEqual((told, lines), (status, ["A and B", word] if word else []), out)
 
     JOINED_ROWS = [
         # copper, places of both points, distance, nets of each gap of the lower board, words of the first one
