@@ -4,17 +4,11 @@ Each is small, so that the stand-in for the program can judge it. They are made 
 """
 import io
 import json
-import os
-import sys
 import zipfile
 from typing import Dict, List, Union
 
-TESTS = os.path.join(os.path.dirname(os.path.dirname(os.path.abspath(__file__))), "tests")
-sys.path[:0] = [TESTS]
-
-import hinted  # noqa: E402
-import pages  # noqa: E402
-from made import draw, drill, flash, gerber, label, manifest, netlist, record, region  # noqa: E402
+from tests.fixtures import hinted, pages
+from tests.fixtures.made import draw, drill, flash, gerber, label, manifest, netlist, record, region
 
 Files = Dict[str, Union[str, bytes]]
 
