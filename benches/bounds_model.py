@@ -1,6 +1,6 @@
 """Random copper files of the forms that `show` puts between bounds, and whether a place is copper: by intervals of whole numbers.
 
-It shares no code with tools/show_board. A place is two whole numbers, quarters of a u (a tenth of a nanometre). An answer is True,
+It shares no code with tools/boardnet_show. A place is two whole numbers, quarters of a u (a tenth of a nanometre). An answer is True,
 False, or None: on a border, or not told by the intervals. Numbers are intervals (low, high) in units of ONE.
 """
 from fractions import Fraction as Q

@@ -49,7 +49,7 @@ def write(folder, layers):
     return made[-1][1]
 
 
-MENDS = "import sys; sys.path.insert(0, sys.argv[1]); from mends import copper_file; [copper_file.mended(open(name, 'rb').read()) for name in sys.argv[2:]]"
+MENDS = "import sys; sys.path.insert(0, sys.argv[1]); from boardnet_show.intake.mends import copper_mends; [copper_mends.mended(open(name, 'rb').read()) for name in sys.argv[2:]]"
 
 
 def timed(layers):

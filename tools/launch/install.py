@@ -29,7 +29,7 @@ front "$@"
 
 # What is copied from tools/: the front, the words, and the tools with their modules.
 FILES = ("launch/front.sh", "manifest", "show", "start.py")
-FOLDERS = ("manifest_files", "mends", "show_board")
+FOLDERS = ("boardnet_show",)
 # What a reader has of the checkout, and the boards of `selftest`.
 DOCUMENTS = ("README.md", "CHANGELOG.md", "docs", "examples")
 BOARDS = ("opens_and_shorts", "two_layer")
@@ -44,8 +44,8 @@ def tools_of(top):
     """The names of the tools' files below tools/."""
     tools, found = os.path.join(top, "tools"), list(FILES)
     for folder in FOLDERS:
-        found += [f"{folder}/{name}" for name in sorted(os.listdir(os.path.join(tools, folder)))]
-    return [name for name in found if os.path.isfile(os.path.join(tools, name))]
+        found += [name for name in below(tools, folder) if "__pycache__" not in name.split(os.sep)]
+    return found
 
 
 def below(top, name):

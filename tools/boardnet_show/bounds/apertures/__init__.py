@@ -1,0 +1,1 @@
+"""Apertures and macros as pieces within their shape and pieces round it."""

@@ -1,0 +1,75 @@
+"""One of the two files that are written in a copper file's place."""
+from boardnet_show.formats.gerber_words import DRAW, FLASH, MOVE
+from boardnet_show.formats.units import decimal_millimetres
+
+OWN = 900_000_000       # numbers of apertures that are made here
+
+
+def edges_of(spots):
+    """The words of a contour's edges."""
+    return [f"X{x}Y{y}D01*" for x, y in spots[1:]]
+
+
+class Side:
+    """A copper file that is being written: its lines, and for each word the command of the old file that it comes from."""
+
+    def __init__(self):
+        self.lines, self.sources, self.made = [], [], {}
+        self.at = self.pen = None
+
+    def word(self, text, source):
+        self.lines.append(text)
+        self.sources.append(source)
+
+    def select(self, number, source):
+        if self.pen != number:
+            self.word(f"D{number}*", source)
+            self.pen = number
+
+    def circle(self, radius, source):
+        if radius not in self.made:
+            self.made[radius] = OWN + len(self.made)
+            self.word(f"%ADD{self.made[radius]}C,{decimal_millimetres(2 * radius)}*%", source)
+        self.select(self.made[radius], source)
+
+    def move(self, spot, source):
+        if self.at != spot:
+            self.operate(spot, MOVE, source)
+
+    def operate(self, spot, operation, source):
+        self.word(f"X{spot[0]}Y{spot[1]}D0{operation}*", source)
+        self.at = spot
+
+    def run(self, spots, source, edges=None):
+        """A contour by its places, the first one at its end again; `edges` are their words, where they are known."""
+        self.operate(spots[0], MOVE, source)
+        self.lines += edges_of(spots) if edges is None else edges
+        self.sources += [source] * (len(spots) - 1)
+        self.at = spots[-1]
+
+    def region(self, corners, source):
+        self.word("G36*", source)
+        self.run(corners + corners[:1], source)
+        self.word("G37*", source)
+
+    def capsule(self, a, b, radius, source):
+        if self.pen is None or self.made.get(radius) != self.pen:
+            self.circle(radius, source)
+        if a == b:
+            self.operate(a, FLASH, source)
+        else:
+            self.move(a, source)
+            self.operate(b, DRAW, source)
+
+    def pieces(self, pieces, by, source):
+        """Pieces about a place."""
+        x, y = by
+        for piece in pieces:
+            if piece[0] == "area":
+                self.region([(u + x, v + y) for u, v in piece[1]] if any(by) else piece[1], source)
+            else:
+                _, a, b, radius = piece
+                self.capsule((a[0] + x, a[1] + y), (b[0] + x, b[1] + y), radius, source)
+
+    def file_text(self):
+        return "\n".join([*self.lines, ""])

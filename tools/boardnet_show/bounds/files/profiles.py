@@ -1,0 +1,168 @@
+"""Where the board is, for negative files: within the centre lines and contours of the files beside it that say by their own `TF.FileFunction`
+that they are its profile. Its inside is by even and odd of what closes.
+"""
+import os
+from collections import defaultdict
+from typing import NamedTuple
+
+from boardnet_show.base.wording import millimetres
+from boardnet_show.bounds.polarity.dark_and_clear import Object, box
+from boardnet_show.bounds.polarity.negative import around
+from boardnet_show.bounds.primitives.rounded_contours import Walked, rounded_contour
+from boardnet_show.formats import gerber_attributes
+from boardnet_show.geometry.exact import Refused
+from boardnet_show.geometry.segments import Segments, edges, odd_inside, segments_within
+from boardnet_show.intake.file_names import MOST_BYTES
+
+from .bounded_file import Copper
+
+HEAD = 4096         # bytes of a file in which its function is looked for
+ANTICLOCKWISE = 3
+
+
+class Outline(NamedTuple):
+    """Dark and clear objects that are the board's inside, the outermost first; why they are not known, and the box of all that is."""
+
+    objects: list
+    why: str
+    box: tuple
+
+
+def profiles_of(folder):
+    """The texts of the profile files of a folder; a file that cannot be read says nothing."""
+    found = []
+    for path in (os.path.join(folder, name) for name in sorted(os.listdir(folder))):
+        try:
+            if os.path.isfile(path) and os.path.getsize(path) <= MOST_BYTES:
+                with open(path, "rb") as file:
+                    if any(it.fields[1:2] == [b"Profile"] for it in gerber_attributes.functions(file.read(HEAD))):
+                        file.seek(0)
+                        found.append(file.read().decode("latin-1"))
+        except OSError:
+            pass
+    return found
+
+
+def outline_of(profiles, texts):
+    """The outline by the texts of profile files; where it is not known, the box of these and of all copper files' objects."""
+    lines, why = [], "" if profiles else "no file of the folder is its profile"
+    try:
+        for text in profiles:
+            lines += Profile(text).lines
+        loops = [Loop(contour) for contour in loops_of(lines)]
+        if profiles and not loops:
+            raise Refused("it has no line")
+        need_apart(loops)
+    except Refused as refused:
+        why = f"its profile says no inside: {refused}"
+    if not why:
+        return Outline([*nested(loops)], "", around(loop.box for loop in loops))
+    seen = [box(piece) for text in texts for it in Copper(text, cuts=True).objects for piece in it.both[1]]
+    seen += [(*map(min, zip(*its)), *map(max, zip(*its))) for its in (line[:2] for line in lines)]
+    return Outline([], why, around(seen))
+
+
+class Profile(Copper):
+    """Walks a profile file: `lines` are the parts of its centre lines and contours, each (start, end, centre or None, anticlockwise)."""
+
+    def __init__(self, text):
+        self.lines = []
+        super().__init__(text, cuts=True)
+        if self.clears or self.negative:
+            raise Refused("clear polarity")
+
+    def draw(self, start):
+        self.lines.append((start, self.spot, None, True))
+
+    def arc(self, start, centre):
+        if self.contours is not None:
+            super().arc(start, centre)
+        elif centre is not None:
+            self.lines.append((start, self.spot, centre, self.mode == ANTICLOCKWISE))
+
+    def flash(self):
+        raise Refused("a flash")
+
+    def steps(self, word):
+        if word != "SR":
+            raise Refused("step and repeat")
+
+    def block_word(self, word):
+        raise Refused("a block")
+
+    def end_region(self):
+        contours, self.contours = self.contours, None
+        for spot, *parts in contours:
+            for part in parts:
+                centre, end, anticlockwise = part if len(part) == 3 else (None, part, True)
+                self.lines.append((spot, end, centre, anticlockwise))
+                spot = end
+
+
+def loops_of(lines):
+    """Closed contours of lines and arcs that meet end to end, each line once; refused where one does not close, or more than two meet."""
+    once, ends = {}, defaultdict(list)
+    for start, end, centre, anticlockwise in lines:
+        if centre is None:
+            start, end = sorted((start, end))
+        elif not anticlockwise:
+            start, end = end, start
+        if start != end or centre is not None:
+            once[start, end, centre] = None
+    for line in once:
+        if line[0] != line[1]:
+            ends[line[0]].append(line)
+            ends[line[1]].append(line)
+    wrong = next((spot for spot, its in ends.items() if len(its) != 2), None)
+    if wrong:
+        raise Refused(f"{len(ends[wrong])} of its lines end at {', '.join(map(millimetres, wrong))} mm")
+    return [(start, (centre, end, True)) for start, end, centre in once if start == end] + [*rings(once, ends)]
+
+
+def rings(once, ends):
+    """The contours of lines of which two meet at each end."""
+    left = {line for line in once if line[0] != line[1]}
+    for line in once:
+        contour, spot = [line[0]], line[0]
+        while line in left:
+            left.remove(line)
+            start, end, centre = line
+            is_ahead = spot == start
+            spot = end if is_ahead else start
+            contour.append(spot if centre is None else (centre, spot, is_ahead))
+            line = next((it for it in ends[spot] if it in left), line)
+        if len(contour) > 1:
+            yield tuple(contour)
+
+
+class Loop:
+    """A closed contour: areas within it and round it, its corners by chords, and how far these are off at most."""
+
+    def __init__(self, contour):
+        walked, made = Walked(contour), rounded_contour(contour, True, False)
+        if not walked.is_told or len(walked.spots) < 4:
+            raise Refused("an arc or a loop of nearly no length")
+        self.corners, self.off = walked.spots[:-1], max((piece[3] for piece in walked.wide), default=0)
+        self.both = [("area", [*corners]) for corners in made.inner], [("area", [*made.outer]), *made.wide]
+        self.box = around(map(box, self.both[1]))
+
+    def size(self):
+        return (self.box[2] - self.box[0]) * (self.box[3] - self.box[1])
+
+
+def need_apart(loops):
+    """Refused where two contours come as near as their chords are off."""
+    its = [(k, edge) for k, loop in enumerate(loops) for edge in edges(loop.corners)]
+    grid, most = Segments([edge for _, edge in its]), 2 * max((loop.off for loop in loops), default=0) + 1
+    for k, (a, b) in its if len(loops) > 1 else ():
+        for near in grid.near(a, b, most):
+            other, line = its[near]
+            if other != k and segments_within(a, b, *line, loops[k].off + loops[other].off):
+                raise Refused(f"two of its contours meet near {', '.join(map(millimetres, a))} mm")
+
+
+def nested(loops):
+    """The contours in order of their size, which is dark within an even number of others, and clear within an odd one."""
+    for loop in sorted(loops, key=Loop.size, reverse=True):
+        outer = sum(odd_inside(other.corners, loop.corners[0]) for other in loops if other is not loop)
+        yield Object(outer % 2 == 0, loop.both, 0)

@@ -1,0 +1,76 @@
+"""The format and the unit of a copper file, and its lengths as whole u."""
+import re
+from fractions import Fraction as Q
+
+from boardnet_show.formats.units import SCALES, decimal_millimetres
+from boardnet_show.geometry.exact import Refused, decimal
+
+STEPS = re.compile(r"SRX(\d{1,9})Y(\d{1,9})I([^J]+)J(.+)")
+
+
+class Settings:
+    """`unit` is what a coordinate counts, in u, once both are known."""
+
+    def __init__(self):
+        self.scale = self.decimals = self.format = self.unit = None
+
+    def both(self, text):
+        for side in self.sides:
+            side.word(text, self.number)
+
+    def pass_on(self, text):
+        """What is left to `check`; within a block it would not see it."""
+        if self.blocks and not text.startswith(("%TA", "%TO", "%TD")):
+            raise Refused("a word in a block that is not known")
+        self.both(text)
+
+    def set_format(self, word):
+        match = re.fullmatch(r"FSLAX([1-6])([2-7])Y\1\2", word)
+        if not match or self.format not in (None, word):
+            raise Refused("a format that is not absolute with leading zeros left out")
+        self.format, self.decimals = word, int(match[2])
+        self.both("%FSLAX47Y47*%")
+        self.set_unit()
+
+    def set_scale(self, word, written):
+        if self.scale not in (None, SCALES[word]):
+            raise Refused("two units")
+        self.scale = SCALES[word]
+        self.both(written)
+        self.set_unit()
+
+    def set_unit(self):
+        if self.scale and self.decimals:
+            unit = Q(self.scale, 10 ** self.decimals)
+            self.unit = unit.numerator if unit.denominator == 1 else unit
+
+    def whole(self, length):
+        """A length in the file's unit as whole u."""
+        if not self.scale:
+            raise Refused("no unit")
+        return self.on_grid(length * self.scale)
+
+    @staticmethod
+    def on_grid(length):
+        if length.denominator != 1:
+            raise Refused("a place that is no whole tenth of a nanometre")
+        return length.numerator
+
+    def length(self, digits):
+        """A coordinate as whole u."""
+        if self.unit is None:
+            raise Refused("no format" if self.decimals is None else "no unit")
+        length = int(digits) * self.unit
+        return length if type(length) is int else self.on_grid(length)
+
+    def step(self, word):
+        """(columns, rows, across, up) of a block; None where the word has none, or another form."""
+        match = STEPS.fullmatch(word)
+        steps = [decimal(part) for part in match.groups()[2:]] if match and self.scale else [None]
+        if None in steps:
+            return None
+        return (int(match[1]), int(match[2]), *map(self.whole, steps))
+
+    def step_word(self, word):
+        found = self.step(word)
+        return "SRX{}Y{}I{}J{}".format(*found[:2], *map(decimal_millimetres, found[2:])) if found else word

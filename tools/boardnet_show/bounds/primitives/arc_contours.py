@@ -1,0 +1,84 @@
+"""A contour with arcs, and contours of whole corners that lie in it or hold it."""
+from boardnet_show.geometry.arcs import Arc
+from boardnet_show.geometry.segments import Bands, Segments, dot, edges, segments_within
+
+
+def contour_bound(parts, upper):
+    """parts: spots (the next corner of a straight edge) and Arcs, in order, closed. Corners of an area within the real one, or
+    round it, or None. Between a chain and its arc lies a sliver; what the two areas do not share lies in slivers. Where no other
+    edge enters a sliver and one place of it is outside the new area, or for UPPER in it, all of it is."""
+    arcs = [p for p in parts if isinstance(p, Arc)]
+    if not all(arc.sound for arc in arcs):
+        return None
+    corners, spans = assembled(parts, set())
+    bands = Bands(corners)
+    flipped = {k for k, arc in enumerate(arcs) if bands.odd(*sample(arc.inner, True)) != upper}
+    corners, spans = assembled(parts, flipped)
+    segments, bands = edges(corners), Bands(corners)
+    grid = Segments(segments)
+    for k, arc in enumerate(arcs):
+        chain = arc.outer if k in flipped else arc.inner
+        if not (arc.lies_outside() if k in flipped else arc.lies_inside()):
+            return None
+        if meets_sliver(arc, chain, spans[k], segments, grid) or bands.odd(*sample(chain, k not in flipped)) != upper:
+            return None
+    return corners
+
+
+def meets_sliver(arc, chain, span, segments, grid):
+    """Does an edge that is not of the chain come into a sliver? Edges from an end of the arc are tried by direction."""
+    most, (first, count), n = arc.leaves(chain), span, len(segments)
+    own = {(first + i) % n for i in range(count)}
+    for i in range(count):
+        a, b = segments[(first + i) % n]
+        for other in grid.near(a, b, most + 1) - own:
+            ends = segments[other]
+            cones = [(apex, at_first) for apex, at_first, here in ((a, True, i == 0), (b, False, i == count - 1)) if here and apex in ends]
+            if cones:
+                if any(enters(arc, chain, ends[1] if ends[0] == apex else ends[0], at_first) for apex, at_first in cones):
+                    return True
+            elif segments_within(a, b, *ends, most):
+                return True
+    return False
+
+
+def enters(arc, chain, far, at_first):
+    """Does the neighbour's edge, from the shared end to far, go into the cone that holds the first sliver? Inside the disc that
+    is the one between chord and tangent, outside the one between the chain and a chord as long as two tangents."""
+    at_start = at_first == arc.ccw
+    o, p = (chain[0], chain[1]) if at_start else (chain[-1], chain[-2])
+    u, v, g = (p[0] - o[0], p[1] - o[1]), arc.tangent(at_start), (far[0] - o[0], far[1] - o[1])
+    if chain is arc.outer:
+        q = arc.chain[1] if at_start else arc.chain[-2]
+        v = (q[0] - o[0], q[1] - o[1])
+    det = lambda s, t: s[0] * t[1] - s[1] * t[0]
+    if det(u, v) < 0:
+        u, v = v, u
+    return det(u, g) > 0 and det(g, v) > 0
+
+
+def sample(chain, outwards):
+    """A place half a u beside the middle of the longest edge of the chain, times 2^21: where its sliver lies."""
+    p, q = max(zip(chain, chain[1:]), key=lambda e: dot(e[0], e[1], e[1]))
+    normal = (q[1] - p[1], p[0] - q[0])                 # away from the centre, since the chain runs counterclockwise
+    if not outwards:
+        normal = (-normal[0], -normal[1])
+    most = max(abs(normal[0]), abs(normal[1]))
+    return tuple((p[k] + q[k] << 20) + (normal[k] << 20) // most for k in (0, 1))
+
+
+def assembled(parts, flipped):
+    """Corners, and for each arc its first edge and how many edges. Edge e goes from corner e to the next."""
+    corners, spans, k = [], [], 0
+    for part in parts:
+        if not isinstance(part, Arc):
+            corners.append(part)
+            continue
+        chain = part.outer if k in flipped else part.inner
+        chain = chain if part.ccw else chain[::-1]
+        spans.append((len(corners) - 1, len(chain) - 1))
+        corners += chain[1:]
+        k += 1
+    if len(corners) > 1 and corners[0] == corners[-1]:
+        corners.pop()
+    return corners, spans

@@ -1,0 +1,183 @@
+"""The command: its words, one board or a batch, what is written where, and the status."""
+import os
+import signal
+import sys
+
+from boardnet_show.base import garbage, writing
+from boardnet_show.base.progress import Progress
+from boardnet_show.base.scratch import Scratch
+from boardnet_show.base.statuses import UNWRITABLE, Stop, fault_of
+from boardnet_show.base.wording import printable
+from boardnet_show.judging import building
+from boardnet_show.judging.program import TOOLS, Program, found
+from boardnet_show.output import text_lines
+
+from . import options
+from .one_board import show
+
+SIGNALS = (signal.SIGINT, signal.SIGTERM, signal.SIGHUP)
+ONE_BOARD = ("rdb", "page", "svg", "keep", "ipc", "record", "verify")
+
+
+class Interrupted(BaseException):
+    """A signal that ends the run."""
+
+
+def section():
+    """The command's page in the help text."""
+    with open(os.path.join(TOOLS, "help.txt"), encoding="ascii") as file:
+        parts = file.read().split("\n= ")
+    return "boardnet " + next(part for part in parts if part.startswith("show ")).strip() + "\n"
+
+
+def words(given):
+    """The caller's words; a wrong one ends with status 2."""
+    asked = options.asked(given)
+    if asked.help or asked.h:
+        writing.write("-", section())
+        sys.exit(0)
+    if not asked.paths:
+        options.wrong("it wants a folder, a zip archive or a manifest")
+    for name in ONE_BOARD:
+        if len(asked.paths) > 1 and getattr(asked, name):
+            options.wrong(f"--{name} is for one PATH")
+    if asked.gaps is not None:
+        from boardnet_show.extras import spacing
+        asked.gaps = spacing.asked_distance(asked.gaps) or options.wrong("--gaps wants millimetres, over 0 and at most 10, with at most seven decimals")
+    if asked.format not in (None, "text", "github"):
+        options.wrong("--format is text or github")
+    if asked.at and not asked.svg:
+        options.wrong("--at says which finding --svg draws")
+    return asked
+
+
+def status_of(all_shown):
+    """0 where all agree, 1 where all were judged and some differ, else the status of the first that was not judged."""
+    unjudged = [shown.status for shown in all_shown if shown.status not in (0, 1)]
+    return unjudged[0] if unjudged else max(shown.status for shown in all_shown)
+
+
+def printed(asked, all_shown):
+    """What is printed."""
+    if asked.format == "github":
+        from boardnet_show.output import annotations
+        rows = [row for shown in all_shown for row in annotations.rows(shown)]
+    elif asked.q:
+        rows = [row for shown in all_shown for row in text_lines.quiet(shown)]
+    elif len(all_shown) > 1:
+        rows = [text_lines.summary(shown) for shown in all_shown]
+    else:
+        rows = text_lines.reader(all_shown[0], asked.all)
+    return "".join(printable(row) + "\n" for row in rows)
+
+
+def forms(asked, all_shown):
+    """Each FILE that is asked for with its text, or with None where there is nothing to write."""
+    first = all_shown[0]
+    if asked.json:
+        from boardnet_show.output import json_form
+        yield asked.json, json_form.json_text(all_shown)
+    if asked.junit:
+        from boardnet_show.output import junit
+        yield asked.junit, junit.junit_text(all_shown)
+    if asked.sarif:
+        from boardnet_show.output import sarif
+        yield asked.sarif, sarif.sarif_text(all_shown)
+    if asked.rdb:
+        from boardnet_show.output import rdb
+        yield asked.rdb, rdb.marker_database(first)
+    if asked.ipc:
+        yield asked.ipc, first.tester and first.tester.text
+    if asked.record:
+        from boardnet_show.extras import record
+        yield asked.record, first.record and record.record_text(first.record)
+    if asked.page or asked.svg:
+        yield from pictures(asked, first)
+
+
+def pictures(asked, shown):
+    if not shown.board or shown.board.shapes is None:
+        if asked.page:
+            from boardnet_show.output import record_page
+            yield asked.page, shown.record and record_page.page(shown)
+        if asked.svg:
+            yield asked.svg, None
+        print(f"boardnet: no picture is drawn, since the copper of {printable(shown.path)} is not known", file=sys.stderr)
+        return
+    from boardnet_show.output import page, svg
+    if asked.page:
+        yield asked.page, page.page_html(shown)
+    if asked.svg:
+        yield asked.svg, svg.picture(shown, asked.at)
+
+
+def write(asked, all_shown):
+    """Writes what was asked for, and prints the rest. Where a form goes to the standard output, nothing else does: what is told goes
+    to the standard error where there is no such form."""
+    is_form = False
+    for path, text in forms(asked, all_shown):
+        is_form = is_form or path == "-"
+        if text:
+            writing.write(path, text)
+        elif path == "-":
+            print(printed(asked, all_shown), end="", file=sys.stderr)
+    if not is_form:
+        writing.write("-", printed(asked, all_shown))
+
+
+def boards(asked, program):
+    """Each PATH in turn, in a scratch folder of its own."""
+    all_shown = []
+    for path in asked.paths:
+        with Scratch() as scratch:
+            all_shown.append(show(path, asked, program, scratch))
+    return all_shown
+
+
+def run(asked):
+    progress = Progress(quiet=asked.q)
+    try:
+        all_shown = boards(asked, Program(None if building.checkout() else found(), progress))
+        progress.begin("writing")
+        progress.end()
+        write(asked, all_shown)
+        return status_of(all_shown)
+    finally:
+        progress.end()
+
+
+def interrupted(number, _):
+    """Ends the run; a second signal does not end its tidying."""
+    for other in SIGNALS:
+        signal.signal(other, passed_over)
+    raise Interrupted(number)
+
+
+def passed_over(*_):
+    """Where a signal were ignored instead, Python would speak of one that came meanwhile."""
+
+
+def main(given):
+    asked = None
+    writing.notes()
+    garbage.collected()
+    for number in SIGNALS:
+        # What is ignored stays so, as nohup wants.
+        if signal.getsignal(number) != signal.SIG_IGN:
+            signal.signal(number, interrupted)
+    try:
+        asked = words(given)
+        return run(asked)
+    except Stop as stop:
+        print(f"boardnet: {printable(str(stop))}", file=sys.stderr)
+        return stop.status
+    except Interrupted as why:
+        # Python's own end would give signals their default back, so that one more of them changed the status.
+        os._exit(128 + why.args[0])
+    except BrokenPipeError:
+        os.dup2(os.open(os.devnull, os.O_WRONLY), 1)
+        return UNWRITABLE
+    except Exception as fault:
+        stop = fault_of(asked.paths[0] if asked else "show", fault)
+        print(f"boardnet: {printable(str(stop))}", file=sys.stderr)
+        return stop.status

@@ -1,0 +1,200 @@
+"""A board against another one: the other one's netlist for a tester, checked on this board, with places on both.
+
+The netlist is that of `tester`. Where this board is a moved, turned or mirrored copy, or a panel of it, the origin is found as for
+hints, and what is told is what `check` says of the moved netlist.
+"""
+import os
+from typing import NamedTuple
+
+from boardnet_show.base.statuses import UNDECIDED, UNJUDGED, BadCopper, Stop
+from boardnet_show.base.wording import counted, millimetres
+from boardnet_show.findings import between_bounds, findings
+from boardnet_show.findings.nearest_copper import gap_of_lines
+from boardnet_show.fitting.hints import Trials, best_placement
+from boardnet_show.fitting.placement import FORMS
+from boardnet_show.formats import ipc356
+from boardnet_show.geometry.box_tree import apart
+from boardnet_show.geometry.distances import from_line
+from boardnet_show.geometry.segments import box_of_line
+from boardnet_show.intake import mending, package
+from boardnet_show.judging import board_copper, judged, two_bounds
+from boardnet_show.netlists import pad_names, tester
+
+from .spacing import STEP, Lines, least
+
+KINDS = {"open": "parted", "short": "joined", "missing": "missing"}
+FEW = 3
+
+
+class Difference(NamedTuple):
+    """`words` are of this board, `there` of the other; places are (x, y, layer) on either, in u. It is `sure` but between bounds."""
+
+    id: str
+    kind: str
+    sure: bool
+    words: str
+    there: str
+    places: list
+    places_there: list
+
+    def name(self):
+        return self.id if self.sure else f"undecided {self.id}"
+
+    def sentence(self):
+        return self.words + (f" {self.there[0].upper()}{self.there[1:]}." if self.there else "")
+
+
+class Likeness(NamedTuple):
+    """`untouched` is what of the other board was not compared, or empty."""
+
+    path: str
+    status: int
+    line: str
+    placed: str
+    differences: list
+    untouched: str
+
+
+class Move:
+    """How places of the other board become places of this one, by the records of its netlist before and after."""
+
+    def __init__(self, before, after):
+        pairs = [((a.x, a.y), (b.x, b.y)) for a, b in zip(before, after)] if before is not after else []     # kept records are the same
+        for _, form in FORMS:
+            shifts = {tuple(v - w for v, w in zip(here, form(*there))) for there, here in pairs}
+            if len(shifts) == 1:
+                self.form, self.shift = form, shifts.pop()
+                return
+        self.form, self.shift = FORMS[0][1], (0, 0)
+
+    def back(self, place):
+        """The place of the other board."""
+        x, y = (v - w for v, w in zip(place, self.shift))
+        (a, c), (b, d) = self.form(1, 0), self.form(0, 1)
+        return a * x + c * y, b * x + d * y
+
+
+class Other:
+    """The other board: its records by their numbers, and its copper."""
+
+    def __init__(self, made, move):
+        self.made, self.move, self.board = made, move, made.board
+        self.lines = Lines(made.board)
+
+    def row(self, record):
+        return self.made.rows[record - 1]
+
+    def point(self, record):
+        """A record's place there."""
+        it = self.row(record)
+        x, y = it.at.x * self.made.unit, it.at.y * self.made.unit
+        return x, y, it.place.layers[0]
+
+    def nearest_piece(self, net, layer, place):
+        """The piece of a net on a layer that is nearest to a place."""
+        best = None
+        for line, r, piece in self.lines.of(net, layer)[0]:
+            if best is None or apart(box_of_line(*line, r), place * 2) < best[0] * abs(best[0]):
+                found = from_line(place, *line) - r, piece
+                best = found if best is None or found < best else best
+        return best and best[1]
+
+    def joins(self, record, gap):
+        """What is told of a net that this board parts: the copper there where it is parted here."""
+        net, place = self.row(record).place.net, self.move.back(gap.place)
+        piece = self.nearest_piece(net, gap.layer, place)
+        if piece is None:
+            return "", []
+        return f"there {self.board.source(piece)} is near that place, {self.board.copper_place(place, gap.layer)}", [(*place, gap.layer)]
+
+    def parts(self, first, second, layer):
+        """What is told of two nets that this board joins: how far apart they are there on that layer, and where."""
+        nets = [self.row(record).place.net for record in (first, second)]
+        if nets[0] == nets[1] or not all(self.lines.of(net, layer)[0] for net in nets):
+            return "", []
+        distance, a, b = least(self.lines, layer, *nets)
+        place = gap_of_lines(a[:2], b[:2], layer).place
+        told = (f"there they are {millimetres(distance // STEP * STEP)} mm apart on {self.board.copper_place(place, layer)}, between "
+                f"{self.board.source(a[2])} and {self.board.source(b[2])}")
+        return told, [(*place, layer)]
+
+
+def difference(board, other, finding):
+    """A finding of this board by the other one's netlist."""
+    records = [board.report.points[point][0] for point in finding.points]
+    there, places = "", []
+    here = [(*board.spot(point), board.layer(point)) for point in finding.points]
+    if finding.kind == "open" and finding.gap:
+        here.insert(0, (*finding.gap.place, finding.gap.layer))
+        there, places = other.joins(records[0], finding.gap)
+    elif finding.kind == "short":
+        here = [(*meet.place, meet.layer) for meet in finding.meets] + here
+        layer = finding.meets[0].layer if finding.meets else board.layer(finding.points[0])
+        there, places = other.parts(records[0], records[1], layer)
+    else:
+        piece = other.row(records[0]).place.pieces[0]
+        there = f"there {other.board.source(piece)} has it"
+    kind = KINDS[finding.kind]
+    return Difference(f"{kind}-{finding.number}", kind, finding.sure is not False, f"{finding.name}: {finding.sentence()}", there, here, places + [other.point(record) for record in records[:FEW]])
+
+
+def differences(program, shapes, answer, made, other_text):
+    """What the check of the other one's netlist finds. `shapes` are those of this board, or of the lower one of two, where they are known."""
+    after = ipc356.records(answer.package.read(answer.package.manifest.netlist))
+    other, bounded = Other(made, Move(ipc356.records(other_text), after)), answer.package.between
+    told, sources = (bounded[1], bounded[0].sides[0]) if bounded else (answer, {})
+    shapes = shapes or board_copper.shapes_of_judged(program, told)
+    board = between_bounds.board_of(told, sources, shapes, ties=answer.ties)
+    its = between_bounds.Findings(board).of(bounded[0]) if bounded else findings.all_findings(board)
+    return [difference(board, other, it) for it in its]
+
+
+def checked(program, told, text, ties):
+    """(answer, words of the placement) of this board with the other one's netlist, moved where that makes it fit."""
+    trials = Trials(program, ties)
+    answer = trials.of(told.package, {told.package.manifest.netlist: text})
+    if answer.report is None:
+        raise Stop(answer.status, answer.words)
+    if answer.is_misplaced():
+        best = best_placement(trials, answer)
+        if best and best[1].rank() < answer.rank():
+            return best[1], best[0].words.split(", `check` says")[0].replace("with the netlist", "the other board")
+    return answer, ""
+
+
+def reference(program, path, asked, scratch, board):
+    """The other board's netlist, as it was made and as a text; copper files that both boards have are read once."""
+    folder = os.path.join(scratch, "like")
+    os.makedirs(folder)
+    files = package.opened(path, asked, folder)
+    if files.manifest and not files.manifest.netlist:
+        pad_names.use(files, asked.no_drills)
+    mending.mend(files, program.progress)
+    theirs = judged.judge(program, files)
+    two_bounds.bounded(program, theirs)
+    known = board_copper.Known(board) if board and board.shapes else None
+    made = tester.made(program, theirs, os.path.basename(os.path.normpath(path)), known=known, is_told=False)
+    if made.text is None:
+        raise Stop(theirs.status, f"{path}: {'; '.join(made.lines)}")
+    return made, made.text.encode("latin-1")
+
+
+def add(program, told, shown, asked, scratch):
+    """Compares a board with another one."""
+    try:
+        made, text = reference(program, asked.like, asked, scratch, shown.board)
+        answer, placed = checked(program, told, text, shown.ties.allowed())
+        its = differences(program, shown.board and shown.board.shapes, answer, made.netlist, text)
+        if len(made.netlist.rows) < 2 and not its:
+            raise Stop(UNJUDGED, "it has one pad alone that can be compared")
+    except (Stop, BadCopper) as why:
+        shown.lacks(f"like {asked.like}", f"not compared with {asked.like}: {why}")
+        return
+    sure = sum(it.sure for it in its)
+    counts = [counted(sum(it.kind == kind for it in its), word) for kind, word in (("parted", "parted net"), ("joined", "joined net"), ("missing", "missing pad"))]
+    doubt = len(its) - sure + (not made.is_whole)
+    line = f"joins what {'it' if made.is_whole else 'its lower bound'} joins" if not its else ", ".join(word for word in counts if not word.startswith("0 "))
+    untouched = made.netlist.untouched()
+    line += f"; not compared: {untouched}" if untouched else ""
+    shown.like = Likeness(asked.like, 1 if sure else UNDECIDED if doubt else 0, line, placed, its, untouched)
+    shown.found(f"like {asked.like}", sure, doubt, f"like {asked.like}: {line}", tuple((it.name(), it.sentence(), it.places) for it in its))

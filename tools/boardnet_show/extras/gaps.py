@@ -1,0 +1,110 @@
+"""Nets that are too close as findings; of a board between bounds those that `gaps_between_bounds` tells."""
+from bisect import bisect_left
+from collections import defaultdict
+
+from boardnet_show.base.statuses import BadCopper, Stop
+from boardnet_show.base.wording import counted, millimetres, spoken
+from boardnet_show.findings.findings import Finding, doubt
+from boardnet_show.findings.nearest_copper import Gap
+from boardnet_show.formats.ipc356 import NO_NET
+from boardnet_show.netlists.tester import copper_of, with_copper
+
+from . import gaps_between_bounds
+from .requested import GAPS
+from .spacing import STEP, spacings
+
+FEW_NAMES = 2
+LEFT_OUT = "copper that the lower bound leaves out"
+
+
+class Nets:
+    """The names and the pins of a board's nets."""
+
+    def __init__(self, board):
+        self.board, self.points = board, defaultdict(list)
+        self.names = defaultdict(dict)
+        for point, (_, _, name, net) in enumerate(board.report.points):
+            if net >= 0:
+                self.names[net].setdefault(name)
+                if board.spot(point):
+                    self.points[net].append((board.spot(point)[0], point))
+        for its in self.points.values():
+            its.sort()
+
+    def numbers(self, net):
+        return [name for name in self.names[net] if self.board.name(name) != NO_NET]
+
+    def word(self, net):
+        names = [self.board.name(name) for name in self.numbers(net)]
+        return spoken(names, FEW_NAMES) if names else f"net {net} (without a name)"
+
+    def near(self, net, place):
+        """The test point of a net that is nearest to a place, or None."""
+        its, best = self.points[net], None
+        middle = bisect_left(its, (place[0], -1))
+        for side in (range(middle, len(its)), range(middle - 1, -1, -1)):
+            for k in side:
+                x, point = its[k]
+                if best and (x - place[0]) ** 2 > best[0]:
+                    break
+                found = (x - place[0]) ** 2 + (self.board.spot(point)[1] - place[1]) ** 2, point
+                best = found if best is None or found < best else best
+        return best and best[1]
+
+
+def finding(nets, number, spacing, distance="", sure=None, others=()):
+    """Two nets on a layer that are too close, and the pins near the place. Between bounds `distance` is in words, and a net and a piece
+    that the lower board lacks are None, with the piece's source among the `others`."""
+    board, known = nets.board, [net for net in spacing.nets if net is not None]
+    whats = spoken(LEFT_OUT if net is None else nets.word(net) for net in spacing.nets) if known else "two parts of " + LEFT_OUT
+    sources = [others[k] if piece is None else board.source(piece) for k, piece in enumerate(spacing.pieces)]
+    pins = [point for point in (nets.near(net, spacing.place) for net in known) if point is not None]
+    near = f"; near {spoken(map(board.pin, pins))}" if pins else ""
+    told = f"{whats} {distance or f'are {spacing.at_least()} mm apart'} on {board.copper_place(spacing.place, spacing.layer)}: {spoken(sources)}{near}."
+    names = [name for net in known for name in nets.numbers(net)]
+    one = Finding("gap", number, whats, told, pins, nets=known, names=names, gap=Gap(spacing.distance // STEP * STEP, spacing.place, spacing.layer))
+    one.pieces, one.sure = [piece for piece in spacing.pieces if piece is not None], sure
+    return one
+
+
+def rule(u):
+    """A sentence on what is counted."""
+    return f"gaps: two nets on a layer whose copper is closer than {millimetres(u)} mm; exactly that is no gap here"
+
+
+def listed_by(u, listed, found):
+    """What the program says beside it."""
+    even = f", of which {listed - found} that are exactly so far" if listed > found and u % 10 == 0 else ""
+    return f"The program's `gaps` lists what is at most that far apart: {counted(listed, 'pair')}{even}"
+
+
+def of_board(program, board, u):
+    """The gaps of a board, and the sentence on what is counted."""
+    found, listed = spacings(program, board, u)
+    nets = Nets(board)
+    return [finding(nets, number, it) for number, it in enumerate(found)], f"{rule(u)}. {listed_by(u, listed, len(found))}"
+
+
+def of_bounds(program, told, board, u):
+    """The gaps of a board between two, of which `board` is the lower one."""
+    high, nets = with_copper(program, told.package.between[2], told.package.sides.sources[1]), Nets(board)
+    found = gaps_between_bounds.gaps(program, board, high, u)
+    return [finding(nets, number, it, words, sure, others) for number, (sure, it, words, others) in enumerate(found)], rule(u)
+
+
+def add(program, told, shown, u):
+    """Adds the gaps to what is told of a board, and to its answer."""
+    try:
+        board = copper_of(program, told, shown.board)
+        found, words = of_bounds(program, told, board, u) if told.package.between else of_board(program, board, u)
+    except (Stop, BadCopper) as why:
+        shown.lacks(GAPS, f"gaps are not known: {why}")
+        return
+    shown.findings += found
+    shown.notes.append(words)
+    if shown.bounds:
+        shown.bounds.findings.extend((it.kind, it.sure, it.words[:-1], [(*it.gap.place, it.gap.layer)]) for it in found)
+    possible = sum(it.sure is False for it in found)
+    shown.gap_count = len(found) - possible
+    words = f"{counted(shown.gap_count, 'gap') if shown.gap_count else 'no gap'} under {millimetres(u)} mm" + (f" and {counted(possible, 'possible one')}" if possible else "")
+    shown.found(GAPS, shown.gap_count, possible, words, tuple((doubt(it) + it.id, it.sentence(), ()) for it in found))

@@ -1,0 +1,136 @@
+"""Nets whose copper is closer than a distance, each pair with its least distance on a layer, exact to u and rounded down.
+
+The program's `gaps` names the pairs, so that none is missed; here is how far apart they are, and where, among all pieces of both.
+"""
+import heapq
+from collections import defaultdict
+from typing import NamedTuple
+
+from boardnet_show.base.statuses import Stop
+from boardnet_show.base.wording import millimetres
+from boardnet_show.findings import nearest_copper
+from boardnet_show.geometry.box_tree import Tree, apart
+from boardnet_show.geometry.distances import of_lines
+from boardnet_show.geometry.segments import box_of_line
+
+STEP = 1_000        # distances are told in tenths of a micrometre
+MOST = 100_000_000  # 10 mm, the most that the program takes
+FEW = 64            # so many pairs of lines are looked at one by one
+
+
+class Spacing(NamedTuple):
+    """Two nets on a layer: their distance, rounded down to u, its place, and the two pieces there."""
+
+    layer: int
+    nets: tuple
+    distance: int
+    place: tuple
+    pieces: tuple
+
+    def at_least(self):
+        """The distance in millimetres, rounded down to a tenth of a micrometre."""
+        return millimetres(self.distance // STEP * STEP)
+
+    def at_most(self):
+        return millimetres((self.distance // STEP + 1) * STEP)
+
+
+def asked_distance(text):
+    """A distance in millimetres as u; None where it is none that can be asked for."""
+    head, _, tail = text.partition(".")
+    if not (head + tail).isascii() or not (head + tail).isdigit() or len(tail) > 7 or len(head) > 2:
+        return None
+    u = int(head or "0") * 10_000_000 + int(tail.ljust(7, "0"))
+    return u if 0 < u <= MOST else None
+
+
+def listed(program, package, u):
+    """What the program's `gaps` lists at that distance, or at the next whole nanometre: (layer, low, high, first, second)."""
+    answer = program.gaps(package, -(-u // 10))
+    if answer.status not in (0, 1):
+        raise Stop(answer.status, f"`gaps` says: {answer.line}")
+    return [tuple(map(int, line.split(" ")[1:])) for line in answer.out.decode("ascii").split("\n")[1:] if line]
+
+
+class Lines:
+    """The lines of each net on each layer: (line, radius, piece), with their boxes, and a tree of those where there are many. In place
+    of nets other groups may be given, as those of each piece."""
+
+    def __init__(self, board, groups=None):
+        self.board, self.pieces = board, board.pieces_of
+        self.trees, self.found = {}, {}
+        if groups is not None:
+            self.pieces = defaultdict(list)
+            for piece, its in groups.items():
+                for group in its:
+                    self.pieces[group].append(piece)
+
+    def of(self, net, layer):
+        key = net, layer
+        if key not in self.found:
+            radius, touching = self.board.shapes.radius, self.board.touching
+            spans = touching.spans
+            rows = [(line, max(radius[piece], 0), piece) for piece in self.pieces[net] if spans[piece][0] <= layer <= spans[piece][1]
+                    for line in touching.lines(piece)]
+            boxes = [box_of_line(*line, r) for line, r, _ in rows]
+            self.found[key] = rows, boxes
+        return self.found[key]
+
+    def tree(self, net, layer):
+        key = net, layer
+        if key not in self.trees:
+            self.trees[key] = Tree(self.of(net, layer)[1])
+        return self.trees[key]
+
+
+def measured(a, b):
+    """The distance of two lines with their radii, rounded down to u."""
+    return of_lines(a[0], b[0]) - a[1] - b[1]
+
+
+def least(lines, layer, low, high):
+    """(distance, row, row) of the two nearest lines of two nets on a layer."""
+    (ours, our_boxes), (theirs, their_boxes) = lines.of(low, layer), lines.of(high, layer)
+    if len(ours) * len(theirs) > FEW:
+        return by_trees(lines.tree(low, layer), lines.tree(high, layer), ours, theirs)
+    best = None
+    for a, box in zip(ours, our_boxes):
+        for b, other in zip(theirs, their_boxes):
+            if best is None or apart(box, other) < best[0] * best[0]:
+                found = measured(a, b)
+                best = (found, a, b) if best is None or found < best[0] else best
+    return best
+
+
+def by_trees(first, second, ours, theirs):
+    """The same by trees of boxes: what is not nearer than the nearest so far is not looked at."""
+    def entry(a, b):
+        return apart(first.levels[a[0]][a[1]], second.levels[b[0]][b[1]]), a, b
+    heap, best = [entry((len(first.levels) - 1, 0), (len(second.levels) - 1, 0))], None
+    while heap:
+        squared, a, b = heapq.heappop(heap)
+        if best is not None and squared >= best[0] * best[0]:
+            break
+        if a[0] == b[0] == 0:
+            one, other = ours[first.order[a[1]]], theirs[second.order[b[1]]]
+            found = measured(one, other)
+            best = (found, one, other) if best is None or found < best[0] else best
+            continue
+        parts = [(child, b) for child in first.children(*a)] if a[0] >= b[0] else [(a, child) for child in second.children(*b)]
+        for each in parts:
+            it = entry(*each)
+            if best is None or it[0] < best[0] * best[0]:
+                heapq.heappush(heap, it)
+    return best
+
+
+def spacings(program, board, u):
+    """The pairs of nets that are closer than u, in the order of layers and nets; and how many the program lists."""
+    rows, lines, found = listed(program, board.package, u), Lines(board), []
+    for layer, low, high, *_ in rows:
+        distance, a, b = least(lines, layer, low, high)
+        # What is rounded down to less than a whole number is less than it.
+        if distance < u:
+            place = nearest_copper.gap_of_lines(a[:2], b[:2], layer).place
+            found.append(Spacing(layer, (low, high), max(distance, 0), place, (a[2], b[2])))
+    return found, len(rows)

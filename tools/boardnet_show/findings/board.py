@@ -1,0 +1,115 @@
+"""What findings are told about: the report, the files that it speaks of, the netlist's records, and the copper where it is known."""
+from collections import defaultdict
+from functools import cached_property
+
+from boardnet_show.base.wording import millimetres
+from boardnet_show.formats.ipc356 import NO_NET
+from boardnet_show.judging.net_ties import Ties
+
+
+def touching(shapes, report):
+    from boardnet_show.geometry.touching import (        # a board that agrees wants none of it, and loading takes longer than a small board
+        Touching
+    )
+    return Touching(shapes, [source[3:] for source in report.sources])
+
+
+class Board:
+    """`shapes` is None where the copper is not known, `labels` (names of pieces by the files' own labels) where there are none."""
+
+    def __init__(self, package, report, records, shapes, labels, ties):
+        self.package, self.manifest, self.report = package, package.manifest, report
+        self.records, self.shapes, self.labels, self.ties = records, shapes, labels or {}, ties or Ties()
+        self.touching = touching(shapes, report) if shapes is not None else None
+
+    @cached_property
+    def pieces_of(self):
+        """The pieces of each net."""
+        found = defaultdict(list)
+        for piece, net in enumerate(self.report.net_of):
+            found[net].append(piece)
+        return found
+
+    @cached_property
+    def points_of(self):
+        """The test points of each net, those without copper under -1."""
+        found = defaultdict(list)
+        for point, (*_, net) in enumerate(self.report.points):
+            found[net].append(point)
+        return found
+
+    # ---- names
+
+    def name(self, number):
+        return self.report.names[number]
+
+    def spoken_name(self, number):
+        return "a pin without net (N/C)" if self.name(number) == NO_NET else self.name(number)
+
+    def name_of(self, point):
+        return self.report.points[point][2]
+
+    def side_of(self, number):
+        """What a name counts as where names meet: tied names are one."""
+        return self.ties.side(self.name(number))
+
+    # ---- points
+
+    def record(self, point):
+        number = self.report.points[point][0]
+        return self.records[number - 1] if number <= len(self.records) else None
+
+    def pin(self, point):
+        """A point by component and pin, or by its record."""
+        record = self.record(point)
+        if not record or not record.component:
+            return f"test record {self.report.points[point][0]}"
+        if record.component == "VIA":
+            return f"the via of test record {self.report.points[point][0]}"
+        return f"{record.component} pin {record.pin}" if record.pin else record.component
+
+    def spot(self, point):
+        """Where a point lies, in u: by the report, or by the netlist's columns, or None."""
+        if self.report.spots:
+            return self.report.spots[point]
+        record = self.record(point)
+        return (record.x, record.y) if record and None not in (record.x, record.y) else None
+
+    def layer(self, point):
+        return self.report.points[point][1]
+
+    def line(self, point):
+        """The line of the netlist that a point is from."""
+        record = self.record(point)
+        return record.line if record else 0
+
+    def point_words(self, point):
+        """A point with its layer and place."""
+        spot = self.spot(point)
+        place = f", {self.place_words(spot)}" if spot else ""
+        return f"{self.pin(point)} ({self.manifest.layer_word(self.layer(point))}{place})"
+
+    # ---- places and pieces
+
+    @staticmethod
+    def place_words(spot):
+        return f"{millimetres(spot[0])}, {millimetres(spot[1])} mm"
+
+    def copper_place(self, spot, layer):
+        """A place of the copper, rounded to a micrometre: it is where to look."""
+        x, y = (round(v, -4) for v in spot)
+        return f"{self.manifest.layer_word(layer)} ({self.manifest.copper[layer - 1]}) at {self.place_words((x, y))}"
+
+    def source(self, piece):
+        """Which command or line of which file made a piece."""
+        if not self.report.sources:
+            return f"piece {piece}"
+        file, command, copy, *_ = self.report.sources[piece]
+        name = self.manifest.files[file]
+        word = "line" if self.manifest.is_drilled(file) else "command"
+        flattened = " as flattened" if name in self.package.flattened and not self.manifest.is_drilled(file) else ""
+        return f"{name}{flattened} {word} {command}" + (f" copy {copy}" if copy else "")
+
+    def common_layer(self, p, q):
+        """The first layer that two pieces share."""
+        return max(self.report.sources[p][3], self.report.sources[q][3])

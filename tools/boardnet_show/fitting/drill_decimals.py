@@ -1,0 +1,103 @@
+"""How many decimals a drill file without points may mean, by holes that lie on through points of the netlist."""
+import re
+from typing import NamedTuple
+
+from boardnet_show.base.wording import spoken
+
+from .layer_order import is_near, near_cells
+from .placement import PLACE, body_lines, hits, records, text_of, unit_of
+
+BARE = re.compile(r"[XY][+-]?\d+(?![\d.])")
+DECIMALS = range(2, 6)
+MOST = 8            # readings that are tried
+
+
+class Reading(NamedTuple):
+    """Numbers get a point before their last `decimals` digits, filled up with zeros behind to `width` digits where there is one."""
+
+    decimals: int
+    width: int
+    words: str
+    zeros: str
+
+
+def readings(text):
+    """All that may be meant: with leading zeros left out, or with trailing ones where the numbers are not equally long."""
+    found = [Reading(d, 0, f"{d} implied decimals", "leading zeros left out or none") for d in DECIMALS]
+    lengths = {len(digits) for line, body in body_lines(text) if body for _, _, digits in PLACE.findall(line) if "." not in digits}
+    if len(lengths) > 1:
+        width = max(lengths)
+        found += [Reading(width - n, width, f"{n} digits before the point", "trailing zeros left out") for n in range(1, width - 1)]
+    return found
+
+
+def with_point(text, reading):
+    """The file with points, and its unit line without a word on zeros."""
+    def number(match):
+        axis, sign, digits = match.groups()
+        if "." in digits:
+            return match[0]
+        digits = digits.ljust(reading.width, "0") if reading.width else digits.rjust(reading.decimals + 1, "0")
+        return f"{axis}{sign}{digits[:-reading.decimals]}.{digits[-reading.decimals:]}"
+
+    return "".join(PLACE.sub(number, line) if body else re.sub(r"^(\s*(?:METRIC|INCH))[^\r\n]*", r"\1", line) for line, body in body_lines(text))
+
+
+class Fit(NamedTuple):
+    """A file by a reading: how many of its holes lie on a through point."""
+
+    name: str
+    reading: Reading
+    text: str
+    on: int
+    holes: int
+
+
+def fits(name, text, cells):
+    """The readings of a file that bring most holes onto through points, and all that bring more than half; all where none brings one."""
+    found = []
+    for reading in readings(text):
+        changed = with_point(text, reading)
+        holes = list(hits(changed))
+        found.append(Fit(name, reading, changed, sum(is_near(cells, x, y) for x, y in holes), len(holes)))
+    most = max(fit.on for fit in found)
+    return [fit for fit in found if fit.on == most or 2 * fit.on > fit.holes]
+
+
+def combined(by_file):
+    """One reading for each file: the same one for all where that fits, else each file's own."""
+    forms = [{(fit.reading.decimals, fit.reading.width > 0): fit for fit in its} for its in by_file]
+    same = [tuple(its[form] for its in forms) for form in forms[0] if all(form in its for its in forms)]
+    return sorted(same, key=lambda fit_all: -sum(fit.on for fit in fit_all))[:MOST] or likeliest(by_file)
+
+
+def likeliest(by_file):
+    """The first of all combinations as they would be sorted: what begins one of these is among the first of all beginnings."""
+    best = [(0, (), ())]
+    for its in by_file:
+        longer = [(off - fit.on, (*places, place), (*chosen, fit)) for off, places, chosen in best for place, fit in enumerate(its)]
+        best = sorted(longer, key=lambda row: row[:2])[:MOST]
+    return [chosen for _, _, chosen in best]
+
+
+def decimals_words(fit_all):
+    """With 3 implied decimals in a.drl and b.drl (..)."""
+    named = {}
+    for fit in fit_all:
+        named.setdefault((fit.reading.words, fit.reading.zeros), []).append(fit)
+    parts = [f"{words} in {spoken(fit.name for fit in group)} ({zeros}; {sum(fit.on for fit in group)} of {sum(fit.holes for fit in group)} holes on a through point)"
+             for (words, zeros), group in named.items()]
+    return "with " + " and ".join(parts)
+
+
+def implied(package):
+    """(words, changed files, holes on through points) for all readings that fit."""
+    netlist = text_of(package, package.manifest.netlist)
+    unit = unit_of(netlist)
+    files = {name: text_of(package, name) for name, _, _ in package.manifest.drills}
+    bare = {name: text for name, text in files.items() if any(BARE.search(line) for line, body in body_lines(text) if body)}
+    if not bare or unit is None:
+        return
+    cells = near_cells((r.x * unit, r.y * unit) for r in records(netlist) if r.access == 0)
+    for fit_all in combined([fits(name, text, cells) for name, text in bare.items()]):
+        yield decimals_words(fit_all), {fit.name: fit.text.encode("latin-1") for fit in fit_all}, sum(fit.on for fit in fit_all)

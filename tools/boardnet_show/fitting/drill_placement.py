@@ -1,0 +1,109 @@
+"""Drill files that count from elsewhere than the copper, by votes of holes that lie on centres of pads.
+
+As with netlists, a vote decides what is tried, and what is told is what `check` says of the changed copy.
+"""
+import re
+from fractions import Fraction as Q
+
+from boardnet_show.base.wording import spoken
+from boardnet_show.formats.units import decimal_millimetres
+
+from .layer_order import is_near, near_cells
+from .placement import (
+    ENOUGH, FORMS, MANY, PLACE, SAMPLE, all_flashes, body_lines, change, drill_unit, hits, moved, records, text_of,
+    unit_of, vote
+)
+
+STEP = 10_000           # a micrometre: what shifts of holes are rounded to
+TRIED = 4               # shifts of one file
+TOOL = re.compile(r"^(\s*T\d+)C(\d+\.?\d*|\.\d+)\s*$")
+# The form that takes a form back, by its number.
+BACK = (0, 1, 2, 3, 5, 4, 6, 7)
+
+
+# ---- a drill file, moved
+
+def drill_moved(text, form, by):
+    """The file in millimetres with all places through a form and moved by whole u, each coordinate written out; None without a unit."""
+    unit, at, out = drill_unit(text), [Q(0), Q(0)], []
+    if unit is None:
+        return None
+
+    def moved_place(part):
+        for axis, sign, digits in PLACE.findall(part):
+            at["XY".index(axis)] = Q(sign + digits) * unit
+        x, y = (round(v) + d for v, d in zip(form(*at), by))
+        return PLACE.sub("", part).rstrip() + f"X{decimal_millimetres(x)}Y{decimal_millimetres(y)}"
+
+    for line, body in body_lines(text):
+        tool = TOOL.match(line)
+        if body and PLACE.search(line) and not line.lstrip().startswith("T"):
+            line = "G85".join(moved_place(part) for part in line.strip().split("G85")) + "\n"
+        elif tool and not body:
+            line = f"{tool[1]}C{decimal_millimetres(round(Q(tool[2]) * unit))}\n"
+        elif not body:
+            line = re.sub(r"^(\s*)(?:INCH|METRIC)\b", r"\1METRIC", line)
+        out.append(line)
+    return "".join(out)
+
+
+# ---- how holes lie on pads
+
+class Holes:
+    """The holes of each drill file and the centres of pads of a package."""
+
+    def __init__(self, package):
+        self.package, self.pads = package, all_flashes(package)
+        self.of = {name: sorted(set(hits(text_of(package, name)))) for name, _, _ in package.manifest.drills}
+        cells = near_cells(self.pads)
+        # Files of which at most half of the holes lie on the middle of a pad.
+        self.off = [name for name, holes in self.of.items() if holes and self.pads and 2 * sum(is_near(cells, *hole) for hole in holes) <= len(holes)]
+
+    def candidates(self, names):
+        """(form, shift in u) that bring most holes of these files onto pads, the likeliest first."""
+        holes = sorted({hole for name in names for hole in self.of[name]})
+        sample, centres, found = holes[::max(1, len(holes) // SAMPLE)][:SAMPLE], sorted(self.pads), []
+        for turn, (_, form) in enumerate(FORMS if len(centres) <= MANY else FORMS[:1]):
+            found += [(-Q(n, len(sample)), turn > 0, turn, tuple(v * STEP for v in by)) for n, by in vote(sample, centres, form, STEP)]
+            if -min(found)[0] > ENOUGH:
+                break
+        return [(turn, by) for _, _, turn, by in sorted(found) if (turn, by) != (0, (0, 0))][:TRIED]
+
+    def files(self, names, turn, by):
+        """These drill files moved, or None."""
+        texts = {name: drill_moved(text_of(self.package, name), FORMS[turn][1], by) for name in names}
+        return None if None in texts.values() else {name: text.encode("latin-1") for name, text in texts.items()}
+
+
+def moved_drills(holes, names):
+    """(words, changed files) for drill files that do not lie on the copper's pads."""
+    who = "the drills" if len(names) == len(holes.of) else f"the drill file{'s' if len(names) > 1 else ''} {spoken(names)}"
+    for turn, by in holes.candidates(names):
+        files = holes.files(names, turn, by)
+        if files:
+            yield f"with {who} {change(turn, by)}", files
+
+
+# ---- the copper, moved: where netlist and drills fit each other, both go the other way
+
+def fit_each_other(package, holes):
+    """Whether most through points lie on holes."""
+    text = text_of(package, package.manifest.netlist)
+    unit, through = unit_of(text), [r for r in records(text) if r.is_through]
+    cells = near_cells(hole for found in holes.of.values() for hole in found)
+    return bool(unit and through) and 2 * sum(is_near(cells, r.x * unit, r.y * unit) for r in through) > len(through)
+
+
+def moved_copper(package, holes):
+    """(words, changed files) for copper that lies elsewhere than netlist and drills."""
+    name, names = package.manifest.netlist, list(holes.of)
+    text = text_of(package, name)
+    unit = unit_of(text)
+    for turn, by in holes.candidates(names):
+        steps = [round(Q(v, unit)) for v in by]
+        netlist = moved(text, FORMS[turn][1], steps)
+        shift = tuple(v * unit for v in steps)
+        files = holes.files(names, turn, shift)
+        if netlist is not None and files:
+            back = FORMS[BACK[turn]][1](*(-v for v in shift))
+            yield f"with the copper {change(BACK[turn], back)}", {name: netlist.encode("latin-1"), **files}

@@ -1,0 +1,263 @@
+"""Hints on a board whose files do not fit together: each one is what `check` says of a changed copy.
+
+A hint says what was changed and the answer; nothing is told that was not tried, the user's files are not touched, and the board's
+status stays what it is.
+"""
+from collections import namedtuple
+from functools import partial
+
+from boardnet_show.base.statuses import Stop
+from boardnet_show.intake.package import beside
+from boardnet_show.judging import judged
+from boardnet_show.judging.net_ties import Ties
+
+from . import access_codes, drill_placement
+from .layer_order import as_labelled, layerings
+from .placement import placements
+from .tool_settings import setting
+
+TRIED = 4           # placements that are checked, at most
+
+
+class Hint(namedtuple("Hint", "kind words answer_status answer_line explains", defaults=(False,))):
+    """`words` has the answer; `answer_status` and `answer_line` are the answer alone; `explains` says that it leaves less than half of
+    the findings."""
+
+    __slots__ = ()
+
+
+class Answer(namedtuple("Answer", "package status line words report ties", defaults=(Ties(),))):
+    """What `check` says of a package, or both bounds where only they can be asked; `report` is then the upper one's."""
+
+    __slots__ = ()
+
+    def missing(self):
+        return len(self.report.bare)
+
+    def rank(self):
+        opens, shorts, missing, parted = self.ties.counts(self.report)
+        return missing, opens + shorts + parted
+
+    def is_misplaced(self):
+        """More than one point of ten has no copper."""
+        return self.report is not None and self.missing() * 10 > len(self.report.points)
+
+    def is_wanting(self):
+        """So much is wrong that something else than the copper may be."""
+        return self.report is not None and self.status != 0 and (self.is_misplaced() or self.rank()[1] * 3 > len(self.report.names) + 3)
+
+
+class Trials:
+    """Changed copies, each in a folder of its own beside the package."""
+
+    def __init__(self, program, ties):
+        self.program, self.ties, self.looked = program, ties, {}
+
+    def holes(self, package):
+        """How the holes of a package lie on its pads, looked at once."""
+        if package.folder not in self.looked:
+            self.looked[package.folder] = drill_placement.Holes(package)
+        return self.looked[package.folder]
+
+    def answer(self, told):
+        """The answer on a judged package, by bounds where it is refused for its copper."""
+        if told.report or told.status != 3:
+            return self.plain(told)
+        from boardnet_show.geometry import (        # few boards want them, and loading takes longer than a small board
+            exact
+        )
+        from boardnet_show.judging import (        # few boards want them, and loading takes longer than a small board
+            two_bounds
+        )
+        if not two_bounds.is_outside(told.line):
+            return self.plain(told)
+        try:
+            both, _, high = two_bounds.judge(self.program, told.package, self.ties)
+        except exact.Refused as why:
+            return Answer(told.package, told.status, told.line, f"`check` says: {told.line}; no bounds: {why}", None)
+        return Answer(told.package, both.status, both.line, f"`check` says of both bounds: {both.line}", high.report, self.ties)
+
+    def plain(self, told):
+        status, line = self.ties.answer(told)
+        return Answer(told.package, status, line, f"`check` says: {line}", told.report, self.ties)
+
+    def of(self, package, files=None, told=None):
+        """The answer on a copy with other files or another manifest."""
+        try:
+            copy = package.changed(beside(package, "tried"), files, told)
+            return self.answer(judged.judge(self.program, copy))
+        except Stop as stop:
+            return Answer(package, stop.status, str(stop), f"`check` says: {stop}", None)
+
+
+def hint(kind, words, answer):
+    return Hint(kind, f"{words}, {answer.words}", answer.status, answer.line)
+
+
+def decimals(trials, base):
+    """Every reading of numbers without a point that fits, with its answer; where no hole says which fits, those that agree."""
+    from .drill_decimals import implied
+    for words, files, on in implied(base.package):
+        answer = trials.of(base.package, files)
+        if answer.report and (on or answer.status == 0):
+            yield hint("decimals", words, answer), answer
+
+
+def labelled(trials, base):
+    """The order of layers that the files themselves tell, where it is not refused."""
+    for words, told in as_labelled(base.package):
+        answer = trials.of(base.package, told=told)
+        if answer.report:
+            yield hint("layers", words, answer), answer
+
+
+def layers(trials, base):
+    """The order of layers that surface points ask for, where it leaves fewer faults."""
+    for words, told in layerings(base.package):
+        answer = trials.of(base.package, told=told)
+        if answer.report and answer.rank() < base.rank():
+            yield hint("layers", words, answer), answer
+
+
+def recoded(rule, trials, base):
+    """Access codes read otherwise, where that leaves fewer faults."""
+    for words, files in access_codes.recoded(base.package, *rule):
+        answer = trials.of(base.package, files)
+        if answer.report and answer.rank() < base.rank():
+            yield hint("access codes", words, answer), answer
+
+
+def best(trials, base, kind, changes, names):
+    """The best of some changes, tried until one agrees, where it leaves fewer faults."""
+    found = None
+    for (words, files), _ in zip(changes, range(TRIED)):
+        answer = trials.of(base.package, files)
+        if answer.report and answer.rank() < (found[1] if found else base).rank():
+            shown = "mirrored drills" if kind == "drills" and "mirrored upside down" in words else kind
+            found = hint(kind, words + setting(base.package, shown, names), answer), answer
+        if answer.status == 0:
+            break
+    return [found] if found else []
+
+
+def drills(trials, base):
+    """Drill files whose holes miss the pads moved onto them: all by the same change, then the first few each by its own."""
+    if not base.package.manifest.drills or not base.rank()[1] or base.is_misplaced():
+        return
+    holes = trials.holes(base.package)
+    if not holes.off:
+        return
+    together = best(trials, base, "drills", drill_placement.moved_drills(holes, holes.off), holes.off)
+    yield from together
+    if not together or together[0][1].status:
+        yield from each_alone(trials, together[0][1] if together else base, holes)
+
+
+def each_alone(trials, base, holes):
+    for name in holes.off[:TRIED] if len(holes.off) > 1 else ():
+        left = trials.holes(base.package)
+        for found, answer in best(trials, base, "drills", drill_placement.moved_drills(left, [name]), [name]) if name in left.off else ():
+            yield found, answer
+            base = answer
+
+
+def copper(trials, base):
+    """The copper moved, where netlist and drills fit each other and neither fits it."""
+    if base.is_misplaced() and base.package.manifest.drills:
+        holes = trials.holes(base.package)
+        if holes.off and drill_placement.fit_each_other(base.package, holes):
+            yield from best(trials, base, "copper", drill_placement.moved_copper(base.package, holes), base.package.manifest.copper[:1])
+
+
+def best_placement(trials, base):
+    """The best of the likeliest placements, tried until one agrees."""
+    found, without = None, trials.holes(base.package).off
+    for (words, files), _ in zip(placements(base.package, without), range(TRIED)):
+        answer = trials.of(base.package, files)
+        if answer.report and (found is None or answer.rank() < found[1].rank()):
+            words += setting(base.package, "placement", base.package.manifest.copper[:1])
+            found = hint("placement", words, answer), answer
+        if answer.status == 0:
+            break
+    return found
+
+
+def nowhere(base, best):
+    """That no placement fits, with the answer on the best that was tried."""
+    words = (f"no placement fits: of the units, mirrors, turns and origins with most votes the best leaves {best.missing()} of "
+             f"{len(base.report.points)} test points without copper; is the netlist of another board? Of the best {best.words}")
+    return Hint("no placement", words, best.status, best.line)
+
+
+def placed(trials, base):
+    """The best placement, and drills and layers once more, where they leave fewer faults and less than one point of five without copper."""
+    best = best_placement(trials, base)
+    if best is None:
+        return
+    first, last, further = best[1], best[1], []
+    for step in (layers, drills) if first.rank() < base.rank() else ():
+        for found, answer in step(trials, last) if last.status and (last.is_wanting() or last.missing()) else ():
+            further.append((found, answer))
+            last = answer
+    if first.rank() >= base.rank() or last.missing() * 5 > len(last.report.points):
+        if base.missing() * 2 > len(base.report.points):
+            yield nowhere(base, first), first
+        return
+    yield best
+    yield from further
+
+
+def arranged(trials, base):
+    """Layers in another order, and the netlist in another place."""
+    if base.missing() * 2 <= len(base.report.points):
+        for found, answer in layers(trials, base):
+            yield found, answer
+            base = answer
+    if base.is_misplaced():
+        yield from placed(trials, base)
+
+
+def fitted(trials, base):
+    """Hints on a board that was judged, each on top of those before it."""
+    last = base
+    for step in (*(partial(recoded, rule) for rule in access_codes.RULES), drills, copper, arranged):
+        if last.status == 0 or step is arranged and not last.is_wanting():
+            break
+        for found, answer in step(trials, last):
+            yield besides(found) if last is not base and found.kind != "no placement" else found, answer
+            last = answer
+
+
+def besides(found):
+    return found._replace(words=f"besides, {found.words}")
+
+
+def all_hints(program, told, ties):
+    trials = Trials(program, ties)
+    base = trials.answer(told)
+    for kind, changed in (("WrongLayer", labelled), ("ImpliedDecimals", decimals)):
+        if kind in base.words and not base.report:
+            found = list(changed(trials, base))
+            yield from (each for each, _ in found)
+            if found:
+                base = min((answer for _, answer in found), key=Answer.rank)
+    if base.report and base.status:
+        for found, answer in fitted(trials, base):
+            yield found._replace(explains=found.kind != "no placement" and sum(answer.rank()) * 2 < sum(base.rank()))
+
+
+def explain(found):
+    """Whether some hint explains more than half of the findings."""
+    return any(each.explains for each in found)
+
+
+def hints(program, told, ties=Ties()):
+    """What may be wrong with a judged package, each with the answer of `check` on a changed copy."""
+    if not told.package.manifest:
+        return []
+    found = []
+    try:
+        found.extend(all_hints(program, told, ties))
+    except (Stop, OSError, ValueError):
+        pass    # a hint changes no status: what was found so far is told
+    return found

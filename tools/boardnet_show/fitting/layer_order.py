@@ -1,0 +1,54 @@
+"""Which copper file is the top and which the bottom, by surface points that lie on centres of pads of one file."""
+from boardnet_show.intake import declarations
+
+from .placement import flashes, records, text_of, unit_of
+
+NEAR = 50_000       # 5 micrometres: two roundings of a netlist's place
+
+
+def near_cells(spots):
+    return {(x // NEAR, y // NEAR) for x, y in spots}
+
+
+def is_near(cells, x, y):
+    return any((x // NEAR + i, y // NEAR + j) in cells for i in (-1, 0, 1) for j in (-1, 0, 1))
+
+
+def scores(package, surface, unit):
+    """For the first and the last layer, how many of its surface points have a pad of each file."""
+    layers = package.manifest.layers
+    cells = [near_cells(flashes(package, k)) for k in range(layers)]
+    return [[sum(is_near(cells[k], r.x * unit, r.y * unit) for r in surface if r.access == access) for k in range(layers)]
+            for access in (1, layers)]
+
+
+def reordered(manifest, order):
+    """The manifest with its copper files in another order."""
+    return manifest.changed(copper=[manifest.copper[k] for k in order])
+
+
+def layerings(package):
+    """(words, manifest) with the outer files where the surface points are, or none where that is as it is. Inner files keep their order."""
+    text, layers = text_of(package, package.manifest.netlist), package.manifest.layers
+    unit = unit_of(text)
+    surface = [r for r in records(text) if not r.is_through]
+    if layers < 2 or unit is None or not surface:
+        return
+    top, bottom = scores(package, surface, unit)
+    best = max((top[a] + bottom[b], a == 0, b == layers - 1, a, b) for a in range(layers) for b in range(layers) if a != b)
+    total, *_, first, last = best
+    if total <= top[0] + bottom[-1]:
+        return
+    order = [first] + [k for k in range(layers) if k not in (first, last)] + [last]
+    told = reordered(package.manifest, order)
+    cannot = "; the netlist cannot tell the order of the inner layers" if layers > 3 else ""
+    yield f"with the layers in the order {', '.join(told.copper)} (where surface points have a pad of their own{cannot})", told
+
+
+def as_labelled(package):
+    """(words, manifest) with the files in the order of the layers that they say they are, where that is an order."""
+    numbers = declarations.layers(package)
+    if sorted(numbers) != list(range(1, package.manifest.layers + 1)):
+        return
+    told = reordered(package.manifest, [numbers.index(k) for k in range(1, len(numbers) + 1)])
+    yield f"with the layers in the order {', '.join(told.copper)}, as the files say", told

@@ -1,0 +1,238 @@
+"""Where a netlist may belong: its unit, mirror, turn and origin, by votes of places that lie on centres of pads and holes.
+
+A vote decides what is tried, and nothing else: what is told is what `check` says of the changed copy.
+"""
+import re
+from collections import Counter
+from fractions import Fraction as Q
+from functools import lru_cache
+
+from boardnet_show.base.wording import millimetres
+from boardnet_show.formats import ipc356
+from boardnet_show.formats.gerber_words import words_of
+from boardnet_show.formats.units import INCH, MM, SCALES, UNIT_WORDS
+from boardnet_show.geometry.exact import Refused
+
+SAMPLE = 40             # records that vote
+FEW, MANY = 8, 20_000   # centres
+ENOUGH = Q(3, 4)        # of the votes: no other centres are asked
+MOST = 999_999          # six digits
+PLACE = re.compile(r"([XY])([+-]?)(\d+\.?\d*|\.\d+)")
+# Operations of a copper file, and its format.
+OPERATION = re.compile(r"(?:G0?[123])?(?=[XYD])(?:X([+-]?\d+))?(?:Y([+-]?\d+))?(?:I[+-]?\d+)?(?:J[+-]?\d+)?(?:D0?([123]))?")
+FORMAT = re.compile(r"FSLAX\d(\d)Y\d\d")
+FORMS = [("", lambda x, y: (x, y)), ("mirrored left to right", lambda x, y: (-x, y)), ("mirrored upside down", lambda x, y: (x, -y)),
+         ("turned by half", lambda x, y: (-x, -y)), ("turned by a quarter", lambda x, y: (-y, x)), ("turned by three quarters", lambda x, y: (y, -x)),
+         ("mirrored and turned by a quarter", lambda x, y: (y, x)), ("mirrored and turned by three quarters", lambda x, y: (-y, -x))]
+
+
+# ---- netlists
+
+def text_of(package, name):
+    return package.read(name).decode("latin-1")
+
+
+class Record:
+    """The columns of a test record that say where; x and y in the netlist's unit."""
+
+    def __init__(self, line):
+        self.is_through, self.access = line[:3] == "317", int(line[39:41].strip() or 0)
+        self.x, self.y = (int(line[a:a + 7].replace(" ", "")) for a in (42, 50))
+
+
+def is_record(line):
+    return line[:3] in ("317", "327") and len(line) >= 57
+
+
+def records(text):
+    """The test records, or none where one is broken."""
+    try:
+        return [Record(line) for line in text.splitlines() if is_record(line)]
+    except ValueError:
+        return []
+
+
+def unit_of(text):
+    return ipc356.unit_of(text.encode("latin-1"))
+
+
+def moved(text, form, by):
+    """The netlist with all places through a form and moved by whole units; None where six digits do not hold them."""
+    out = []
+    for line in text.splitlines(keepends=True):
+        if is_record(line):
+            record = Record(line)
+            x, y = (v + d for v, d in zip(form(record.x, record.y), by))
+            if max(abs(x), abs(y)) > MOST:
+                return None
+            line = f"{line[:41]}X{x:+07d}Y{y:+07d}{line[57:]}"
+        out.append(line)
+    return "".join(out)
+
+
+def other_unit(text):
+    return re.sub(r"^(P[ \t]*UNITS[ \t]+CUST[ \t]+)([01])", lambda m: m[1] + ("1" if m[2] == "0" else "0"), text, count=1, flags=re.M)
+
+
+# ---- centres
+
+class Flashes:
+    """The places of a copper file's flashes, as its numbers, by its words; its unit and its format, None before they are said."""
+
+    def __init__(self):
+        self.x, self.y, self.spots, self.scale, self.decimals = "0", "0", set(), None, None
+
+    def word(self, extended, word):
+        if isinstance(word, tuple):
+            for x, y, code, number in word:
+                if not number:
+                    self.operation(x, y, code)
+        elif word in SCALES:
+            self.scale = self.scale or SCALES[word]
+        elif extended and FORMAT.match(word):
+            self.decimals = self.decimals or int(FORMAT.match(word)[1])
+        elif not extended and word[:1] in "GXYD" and OPERATION.fullmatch(word):
+            self.operation(*OPERATION.fullmatch(word).groups())
+
+    def operation(self, x, y, code):
+        self.x, self.y = x or self.x, y or self.y
+        if code == "3":
+            self.spots.add((self.x, self.y))
+
+
+def flashes(package, index):
+    """Centres of the flashes of a copper file, in u; none without one format and unit. Copies of blocks have no vote."""
+    found = Flashes()
+    try:
+        for extended, word, _ in words_of(text_of(package, package.manifest.copper[index]), plain=True):
+            found.word(extended, word)
+    except Refused:
+        return set()
+    if not found.scale or not found.decimals:
+        return set()
+    found, step = found.spots, Q(found.scale, 10 ** found.decimals)
+    in_u = {v: round(int(v) * step) for v in {v for place in found for v in place}}
+    return {(in_u[x], in_u[y]) for x, y in found}
+
+
+def all_flashes(package):
+    return set().union(*(flashes(package, index) for index in range(package.manifest.layers)))
+
+
+def drill_unit(text):
+    found = re.search(r"^\s*(METRIC|INCH)", text, re.M)
+    return {"METRIC": MM, "INCH": INCH}[found[1]] if found else None
+
+
+def body_lines(text):
+    """Each line of a drill file, and whether it stands in the body and is no comment."""
+    body = False
+    for line in text.splitlines(keepends=True):
+        yield line, body and not line.lstrip().startswith(";")
+        body = body or line.strip() == "%"
+
+
+@lru_cache(maxsize=MANY)
+def length(digits, unit):
+    """A number with a point in u, rounded as fractions are: a half to the even one."""
+    whole, _, part = digits.partition(".")
+    over = 10 ** len(part)
+    u, rest = divmod(int(whole + part) * unit, over)
+    return u + (2 * rest > over or 2 * rest == over and u % 2)
+
+
+def hits(text):
+    """Places of a drill file whose numbers have points, in u."""
+    unit, at = drill_unit(text), [0, 0]
+    for line, body in body_lines(text) if unit else ():
+        if body and "." in line and PLACE.search(line):
+            for part in line.split("G85"):
+                for axis, sign, digits in PLACE.findall(part):
+                    at["XY".index(axis)] = length(sign + digits, unit)
+                yield tuple(at)
+
+
+def voters(package, text, without):
+    """Places of records with centres that they may lie on: through points and holes, else all points and all centres. The holes
+    of some drill files have no vote."""
+    told = records(text)
+    holes = sorted({spot for name, _, _ in package.manifest.drills if name not in without for spot in hits(text_of(package, name))})
+    through = sorted({(r.x, r.y) for r in told if r.is_through})
+    enough = min(len(through), len(holes)) >= FEW
+    if enough:
+        yield through, holes
+    pads = sorted(set(holes) | all_flashes(package))
+    if told and pads and not (enough and len(pads) > MANY):
+        yield sorted({(r.x, r.y) for r in told}), pads
+
+
+# ---- votes
+
+def middle(counts):
+    values = sorted(counts.elements())
+    return values[len(values) // 2]
+
+
+def vote(sample, centres, form, unit):
+    """The shifts, in units, that bring most sampled places, in u, onto a centre: (votes, shift), the best two."""
+    turned, votes = [form(x, y) for x, y in sample], Counter()
+    for x, y in turned:
+        votes.update({((cx - x) // unit, (cy - y) // unit) for cx, cy in centres})
+    around = lambda c: sum(votes[c[0] + i, c[1] + j] for i in (0, 1) for j in (0, 1))
+    best = sorted(((around(cell), cell) for cell, _ in votes.most_common(6)), key=lambda v: (-v[0], v[1]))
+    for n, cell in best[:2]:
+        yield n, settled(turned, centres, cell, unit)
+
+
+def settled(turned, centres, cell, unit):
+    """The middle of the shifts near a cell, as whole units."""
+    shift = Counter(), Counter()
+    for x, y in turned:
+        for cx, cy in centres:
+            d = cx - x, cy - y
+            if all(0 <= d[k] - cell[k] * unit < 2 * unit for k in (0, 1)):
+                shift[0][d[0]] += 1
+                shift[1][d[1]] += 1
+    return tuple((2 * middle(counts) + unit) // (2 * unit) for counts in shift)
+
+
+def votes(package, text, declared, without=()):
+    """((less the share of the votes, changes), (other unit, form, shift)), over both units and eight forms."""
+    found = []
+    for places, centres in voters(package, text, without):
+        sample = places[::max(1, len(places) // SAMPLE)][:SAMPLE]
+        for other, unit in enumerate((declared, sum(UNIT_WORDS) - declared)):
+            for turn, (_, form) in enumerate(FORMS):
+                here = [(x * unit, y * unit) for x, y in sample]
+                found += [((-Q(n, len(sample)), other + (turn > 0) + (by != (0, 0))), (other, turn, by)) for n, by in vote(here, centres, form, unit)]
+        if found and -min(found)[0][0] > ENOUGH:
+            break
+    return sorted(found)
+
+
+def change(turn, by):
+    """A form and a shift in u, in words."""
+    words = [FORMS[turn][0]] if turn else []
+    words += [f"moved by ({millimetres(by[0])}, {millimetres(by[1])}) mm"] if tuple(by) != (0, 0) else []
+    return ", ".join(words)
+
+
+def spoken(other, turn, by, unit):
+    words = [f"read in the other unit ({UNIT_WORDS[unit]})"] if other else []
+    return "with the netlist " + ", ".join(filter(None, [*words, change(turn, (by[0] * unit, by[1] * unit))]))
+
+
+def placements(package, without):
+    """(words, changed files), the likeliest first; among equal votes the fewest changes first. Holes of some files have no vote."""
+    name = package.manifest.netlist
+    text = text_of(package, name)
+    declared = unit_of(text)
+    if declared is None or not records(text):
+        return
+    seen = {(0, 0, (0, 0))}
+    for _, (other, turn, by) in votes(package, text, declared, without):
+        changed = None if (other, turn, by) in seen else moved(text, FORMS[turn][1], by)
+        seen.add((other, turn, by))
+        if changed is not None:
+            unit = sum(UNIT_WORDS) - declared if other else declared
+            yield spoken(other, turn, by, unit), {name: (other_unit(changed) if other else changed).encode("latin-1")}

@@ -1,0 +1,225 @@
+"""Arcs about a whole centre between whole places, and chains of spots near them.
+
+How a chain was found does not matter: how far it is from its arc is reckoned afterwards, over whole numbers, outwards.
+"""
+from fractions import Fraction as Q
+from functools import cmp_to_key
+from math import isqrt
+
+from .exact import Refused, ceil_root, floor_root
+from .segments import cross, dot
+
+SAGITTA = 3600      # a chord leaves its arc by about 0.36 micrometres at most
+
+
+def directions(centre, start, end, is_whole):
+    """The axis directions strictly between start and end, or all but that of the start; counterclockwise."""
+    a = (start[0] - centre[0], start[1] - centre[1])
+    rel = lambda d: (a[0] * d[0] + a[1] * d[1], a[0] * d[1] - a[1] * d[0])
+    half = lambda v: 0 if v[1] > 0 or (v[1] == 0 and v[0] > 0) else 1
+
+    def order(p, q):
+        p, q = rel(p), rel(q)
+        if half(p) != half(q):
+            return half(p) - half(q)
+        turn = p[0] * q[1] - p[1] * q[0]
+        return -1 if turn > 0 else 1 if turn < 0 else 0
+
+    b = (end[0] - centre[0], end[1] - centre[1])
+    axes = [d for d in ((1, 0), (0, 1), (-1, 0), (0, -1)) if order(d, a) > 0 and (is_whole or order(d, b) < 0)]
+    return sorted(axes, key=cmp_to_key(order))
+
+
+def scaled(centre, d, radius):
+    """About centre + d * radius / |d|."""
+    n = isqrt((d[0] * d[0] + d[1] * d[1]) << 40) or 1
+    return centre[0] + rounded(d[0] * radius << 20, n), centre[1] + rounded(d[1] * radius << 20, n)
+
+
+def rounded(a, b):
+    return (2 * a + b) // (2 * b)
+
+
+def axis_points(centre, start, end, radius, is_whole):
+    """start, spots on the axes between, end: neighbours are at most a right angle apart."""
+    return [start, *(scaled(centre, d, radius) for d in directions(centre, start, end, is_whole or start == end)), end]
+
+
+def arc_points(centre, start, end, radius, is_whole=False):
+    """A chain of spots near the circle from start to end, neighbours at most about two sagittas' chord apart. A guess. Equal ends are
+    the whole circle."""
+    apart = min(radius * SAGITTA, radius * radius // 4)
+    axes = axis_points(centre, start, end, radius, is_whole)
+    keys = [p for k, p in enumerate(axes) if k in (0, len(axes) - 1) or min(dot(p, start, start), dot(p, end, end)) > apart]
+    out = [start]
+    for p, q in zip(keys, keys[1:]):
+        halve(centre, p, q, radius, out, 0)
+        out.append(q)
+    return [p for k, p in enumerate(out) if k == 0 or p != out[k - 1]]
+
+
+def halve(centre, p, q, radius, out, deep):
+    """Halves down to turns of about 25 degrees, then takes equal shares of the chord."""
+    chord = dot(p, q, q)
+    if 16 * chord > 3 * radius * radius and deep < 6:
+        m = scaled(centre, (p[0] + q[0] - 2 * centre[0], p[1] + q[1] - 2 * centre[1]), radius)
+        halve(centre, p, m, radius, out, deep + 1)
+        out.append(m)
+        halve(centre, m, q, radius, out, deep + 1)
+        return
+    steps = min(4096, isqrt(chord * 10 // (72 * radius * SAGITTA)) + 1)
+    for k in range(1, steps):
+        d = [(steps - k) * (p[j] - centre[j]) + k * (q[j] - centre[j]) for j in (0, 1)]
+        out.append(scaled(centre, d, radius))
+
+
+def goes_once(turn, chain):
+    """Counterclockwise all along, by a cross product about the centre, and not past the direction of its first spot."""
+    first, last = chain[0], len(chain) - 2
+    for k, (p, q) in enumerate(zip(chain, chain[1:])):
+        if turn(p, q) <= 0 or turn(first, p) < 0 <= turn(first, q) and not (k == last and turn(first, q) == 0):
+            return False
+    return True
+
+
+def arc_chain(centre, start, end, is_whole=False):
+    """(spots, most): at each angle of the sweep chain and arc are at most `most` apart, for every curve whose distance from
+    the centre stays between those of its ends; past half a turn its square may leave theirs by their difference, times one more than
+    the centre's distance from the line through both, told in distances of the ends and rounded down. So the circle through both ends
+    whose centre is nearest to the given one is such a curve, wherever it goes round that. Where no chain goes round once, its place
+    is the whole disc about the centre."""
+    near, far = sorted((dot(centre, start, start), dot(centre, end, end)))
+    least, most = isqrt(near), ceil_root(far)
+    if not least:
+        return [start, end], 2 * most + 1
+    turn = lambda p, q: cross(centre, p, q)
+    chain = arc_points(centre, start, end, (least + most) // 2, is_whole)
+    chain = chain if goes_once(turn, chain) else axis_points(centre, start, end, most, is_whole)
+    least, most = distances(centre, start, end)
+    return (chain, leaves(centre, chain, least, most)) if goes_once(turn, chain) else ([start, end], 2 * most + 1)
+
+
+def distances(centre, start, end):
+    """The least and the greatest distance from the centre that a curve may have, rounded outwards."""
+    near, far = sorted((dot(centre, start, start), dot(centre, end, end)))
+    swing = cross(centre, start, end)
+    spread = (far - near) * (-swing // dot(start, end, end) + 1) if swing < 0 else 0
+    return isqrt(max(near - spread, 0)), ceil_root(far + spread)
+
+
+def leaves(centre, chain, least, most):
+    """By how much at most a chain is off any distance between both."""
+    inner, outer = least, most
+    for p, q in zip(chain, chain[1:]):
+        inner = min(inner, isqrt(cross(centre, p, q) ** 2 // dot(p, q, q)))
+        outer = max(outer, ceil_root(dot(centre, q, q)))
+    return max(outer - least, most - inner)
+
+
+def chain_bounds(chain, most, radius):
+    """Draws along a chain: half a pen less or more."""
+    low, high = radius.__floor__() - most, radius.__ceil__() + most
+    pairs = list(zip(chain, chain[1:]))
+    return [("capsule", a, b, low) for a, b in pairs if low > 0], [("capsule", a, b, high) for a, b in pairs if radius > 0]
+
+
+def is_loop(centre, start, end):
+    """Whether both ends are in one direction from the centre at two distances: a whole turn, or none."""
+    return dot(centre, start, start) != dot(centre, end, end) and cross(centre, start, end) == 0 <= dot(centre, start, end)
+
+
+def is_meant(centre, start, end):
+    """Whether the ends are in one line with the centre, or so alike in their distances that the circle through both with the nearest centre
+    goes round it: as `IsMeant` of the crate `arcs` says it. Of another arc nobody knows where its copper is."""
+    unlike, swing = abs(dot(centre, start, start) - dot(centre, end, end)), cross(centre, start, end)
+    return swing == 0 or unlike <= dot(start, end, end) or unlike <= 2 * abs(swing)
+
+
+def need_meant(centre, start, end):
+    if not is_meant(centre, start, end):
+        raise Refused("an arc whose ends are too unlike in their distances from its centre")
+
+
+def draw_bounds(centre, start, end, radius):
+    """(chain, draws below and above) of a draw counterclockwise; as the checks of the crate `arcs` take them, but where an end is the centre.
+    Ends in one direction at two distances may be a whole turn apart or none: above is a whole turn, below nothing, and there is no chain."""
+    if radius > 0:
+        need_meant(centre, start, end)
+    if is_loop(centre, start, end):
+        return None, ([], chain_bounds(*arc_chain(centre, start, end, True), radius)[1])
+    chain, most = arc_chain(centre, start, end)
+    return chain, chain_bounds(chain, most, radius)
+
+
+class Arc:
+    """An arc in a contour, for LOWER: the circle through both ends whose centre is nearest to the given one.
+
+    `ccw` tells the way it is walked. `inner` is a chain of chords in the disc, `outer` one of tangents outside it."""
+
+    def __init__(self, centre, start, end, ccw):
+        self.ccw = ccw
+        a, b = (start, end) if ccw else (end, start)
+        d = (b[0] - a[0], b[1] - a[1])
+        self.n = 2 * (d[0] ** 2 + d[1] ** 2) or 1
+        shift = dot(centre, b, b) - dot(centre, a, a)
+        self.c = tuple(centre[k] * self.n + shift * d[k] for k in (0, 1))       # times n
+        self.a, self.b = a, b
+        self.chain, _ = arc_chain(centre, a, b)
+        self.square = self.off2(a)
+        off = floor_root(self.square) // self.n
+        self.sound = len(self.chain) > 2
+        around = (round(Q(self.c[0], self.n)), round(Q(self.c[1], self.n)))
+        least = isqrt(min(dot(centre, a, a), dot(centre, b, b)))
+        radius = min(off, least)
+        self.inner = [a] + [scaled(around, (p[0] - around[0], p[1] - around[1]), radius - 3) for p in self.chain[1:-1]] + [b]
+        out = 4 + max(abs(isqrt(dot(around, p, p)) - off) for p in self.chain)
+        self.outer = [a] + [self.tip(around, off, out, p, q) for p, q in zip(self.chain, self.chain[1:])] + [b]
+
+    @staticmethod
+    def tip(around, off, out, p, q):
+        """Where the tangents of two neighbours meet, and a little further out. A guess."""
+        m = (p[0] + q[0] - 2 * around[0], p[1] + q[1] - 2 * around[1])
+        square = (m[0] ** 2 + m[1] ** 2) or 1
+        m = (m[0] * (2 * off * off), m[1] * (2 * off * off))
+        far = isqrt(m[0] ** 2 + m[1] ** 2) or 1
+        return tuple(around[k] + rounded(m[k], square) + rounded(out * m[k], far) for k in (0, 1))
+
+    def rel(self, p):
+        return p[0] * self.n - self.c[0], p[1] * self.n - self.c[1]
+
+    def off2(self, p):
+        x, y = self.rel(p)
+        return x * x + y * y
+
+    def lies_inside(self):
+        return self.runs(self.inner) and all(self.off2(p) <= self.square for p in self.inner)
+
+    def lies_outside(self):
+        """The chain starts and ends not towards the centre, and its other edges keep off the disc."""
+        chain = self.outer
+        towards = lambda p, q: sum(u * v for u, v in zip(self.rel(p), (q[0] - p[0], q[1] - p[1]))) < 0
+        if not self.runs(chain) or towards(chain[0], chain[1]) or towards(chain[-1], chain[-2]):
+            return False
+        return all(self.turn(p, q) ** 2 >= self.square * self.n ** 2 * dot(p, q, q) for p, q in zip(chain[1:-1], chain[2:-1]))
+
+    def turn(self, p, q):
+        (a, b), (c, d) = self.rel(p), self.rel(q)
+        return a * d - b * c
+
+    def runs(self, chain):
+        return goes_once(self.turn, chain)
+
+    def leaves(self, chain):
+        """How far chain and circle are apart at most, rounded up, and 1 at least."""
+        most = 1
+        for p, q in zip(chain, chain[1:]):
+            low = floor_root(Q(self.turn(p, q) ** 2, self.n ** 4 * dot(p, q, q)))
+            far = ceil_root(Q(max(self.off2(p), self.off2(q)), self.n ** 2))
+            radius = floor_root(Q(self.square, self.n ** 2))
+            most = max(most, radius + 1 - low, far - radius)
+        return most
+
+    def tangent(self, at_start):
+        """The direction of the arc away from its end, times n."""
+        x, y = self.rel(self.a if at_start else self.b)
+        return (-y, x) if at_start else (y, -x)

@@ -1,0 +1,128 @@
+"""Which pieces touch, exactly, over whole numbers: a second look at the copper that only says where, never whether."""
+from . import box_grid, nearest_places
+from .box_tree import Tree
+from .segments import box_of_line, cross, point_within, segments_within
+
+FEW_EDGES = 24
+MOST_PAIRS = 100_000    # lines of two pieces that are all compared
+AROUND = sorted(((x, y) for x in range(-2, 3) for y in range(-2, 3)), key=lambda step: (step[0] ** 2 + step[1] ** 2, step))
+
+
+def common(a, b):
+    """The box that two boxes share, or None."""
+    box = max(a[0], b[0]), max(a[1], b[1]), min(a[2], b[2]), min(a[3], b[3])
+    return box if box[0] <= box[2] and box[1] <= box[3] else None
+
+
+class Touching:
+    """Answers on pairs of pieces; edges of areas are kept in trees."""
+
+    def __init__(self, shapes, spans):
+        self.shapes, self.spans = shapes, spans
+        self.edges, self.trees, self.box = {}, {}, shapes.box
+
+    def lines(self, piece):
+        """The lines of a piece: one of a capsule, the edges of an area."""
+        if piece not in self.edges:
+            places = self.shapes.places(piece)
+            is_area = self.shapes.is_area(piece)
+            self.edges[piece] = list(zip(places, places[1:] + places[:1])) if is_area else [(places[0], places[-1])]
+        return self.edges[piece]
+
+    def anchors(self, piece):
+        """Where a capsule begins and ends, or the middle of an area, doubled."""
+        if self.shapes.is_area(piece):
+            left, low, right, high = self.box(piece)
+            return {(left + right, low + high)}
+        return {(2 * x, 2 * y) for x, y in self.shapes.places(piece)}
+
+    def lines_near(self, piece, box):
+        """The lines of a piece whose boxes meet a box."""
+        lines = self.lines(piece)
+        if len(lines) <= FEW_EDGES:
+            return [(p, q) for p, q in lines if max(p[0], q[0]) >= box[0] and min(p[0], q[0]) <= box[2]
+                    and max(p[1], q[1]) >= box[1] and min(p[1], q[1]) <= box[3]]
+        if piece not in self.trees:
+            self.trees[piece] = Tree([box_of_line(p, q, 0) for p, q in lines])
+        return [lines[k] for k in self.trees[piece].meeting(box)]
+
+    def is_inside(self, piece, place):
+        """Whether a place lies inside an area, by how many edges a ray to the right meets."""
+        x, y = place
+        is_in = False
+        for (x1, y1), (x2, y2) in self.lines_near(piece, (x, y, self.box(piece)[2], y)):
+            if (y1 > y) != (y2 > y):
+                turn = cross((x1, y1), (x2, y2), place)
+                is_in ^= (turn > 0) == (y2 > y1)
+        return is_in
+
+    def holds(self, piece, place):
+        """Whether a piece has a place."""
+        if not self.shapes.is_area(piece):
+            return point_within(place, *self.lines(piece)[0], self.shapes.radius[piece])
+        return any(point_within(place, a, b, 0) for a, b in self.lines_near(piece, (*place, *place))) or self.is_inside(piece, place)
+
+    def touch(self, p, q):
+        """Whether two pieces share a place, and a layer."""
+        if self.spans[p][0] > self.spans[q][1] or self.spans[q][0] > self.spans[p][1]:
+            return False
+        box = common(self.box(p), self.box(q))
+        if not box:
+            return False
+        r = max(self.shapes.radius[p], 0) + max(self.shapes.radius[q], 0)
+        if not self.shapes.is_area(p) and not self.shapes.is_area(q):
+            return segments_within(*self.lines(p)[0], *self.lines(q)[0], r)
+        wide = box[0] - r, box[1] - r, box[2] + r, box[3] + r
+        theirs = self.lines_near(q, wide)
+        if any(segments_within(a, b, c, d, r) for a, b in self.lines_near(p, wide) for c, d in theirs):
+            return True
+        return self.is_within(p, q) or self.is_within(q, p)
+
+    def is_within(self, inner, outer):
+        """Whether a piece has its first place inside an area."""
+        return self.shapes.is_area(outer) and self.is_inside(outer, self.shapes.places(inner)[0])
+
+    def pairs(self, pieces):
+        """The pairs of these pieces that touch, each once."""
+        for i, j in box_grid.pairs([self.box(piece) for piece in pieces]):
+            if self.touch(pieces[j], pieces[i]):
+                yield pieces[j], pieces[i]
+
+    def touching_place(self, p, q):
+        """A place in both of two touching pieces; where no whole one is found, in one of them and near the other."""
+        box = common(self.box(p), self.box(q))
+        for inner, outer in ((p, q), (q, p)):
+            for x, y in self.shapes.places(inner)[:60]:
+                if box[0] <= x <= box[2] and box[1] <= y <= box[3] and self.holds(outer, (x, y)):
+                    return x, y
+        r = max(self.shapes.radius[p], 0), max(self.shapes.radius[q], 0)
+        squared, here, there = self.nearest_lines(p, q, box, sum(r))
+        x, y = nearest_places.towards(here, there, squared ** 0.5 * r[0] / (sum(r) or 1), squared ** 0.5)
+        return self.held((round(x), round(y)), p, q)
+
+    def nearest_lines(self, p, q, box, r):
+        """How far apart lines of two touching pieces are, squared, and their nearest places: of all, or where there are many of the first that touch."""
+        wide = box[0] - r, box[1] - r, box[2] + r, box[3] + r
+        ours, theirs = self.lines_near(p, wide) or self.lines(p), self.lines_near(q, wide) or self.lines(q)
+        if len(ours) * len(theirs) <= MOST_PAIRS:
+            return min(nearest_places.between(a, b) for a in ours for b in theirs)
+        for a in ours:
+            for b in self.lines_near(q, box_of_line(*a, r)):
+                if segments_within(*a, *b, r):
+                    return nearest_places.between(a, b)
+        return nearest_places.between(ours[0], theirs[0])
+
+    def held(self, place, *pieces):
+        """The whole place nearest to one that all pieces have; else that some have; else one of their own places."""
+        x, y = place
+        around = [(x + dx, y + dy) for dx, dy in AROUND]
+        for wanted in (all, any):
+            for spot in around:
+                if wanted(self.holds(piece, spot) for piece in pieces):
+                    return spot
+        return min((spot for piece in pieces for spot in self.shapes.places(piece)), key=lambda spot: ((spot[0] - x) ** 2 + (spot[1] - y) ** 2, spot))
+
+    def middle(self, piece):
+        """The middle of a piece's box where the piece has it, else the nearest of its own places."""
+        left, low, right, high = self.box(piece)
+        return self.held(((left + right) // 2, (low + high) // 2), piece)

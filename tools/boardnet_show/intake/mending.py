@@ -1,0 +1,79 @@
+"""Mended copies in the scratch folder, and how the answer says that they were judged."""
+import os
+
+from boardnet_show.base.statuses import REFUSED, UNJUDGED, Stop
+from boardnet_show.base.wording import counted
+from boardnet_show.formats.drill_plating import unplated_hole, unread_function
+from boardnet_show.intake.mends import mended_files as mends, netlist_mends
+
+
+def mend(package, progress):
+    """Rewrites what `check` refuses and the files say otherwise, in the package's folder; what was mended is noted in it."""
+    if not package.manifest:
+        return
+    progress.begin("looking for what to mend")
+    drills = [name for name, _, _ in package.manifest.drills]
+    need_functions(package)
+    need_plated(package, drills)
+    netlist = package.manifest.netlist
+    need_names(package, netlist)
+    # A copy of a netlist that lies elsewhere cannot stand under its name, which is said where one is wanted.
+    for name, data, told in mends.of_files(lambda name: (read if name == netlist else bytes_of)(package, name), package.manifest.copper, drills, netlist):
+        package.put(name, data)
+        package.mends += told
+
+
+def need_functions(package):
+    """Refuses a drill file that says of itself what `check` would refuse, in a form that it passes over."""
+    for name, first, last in package.manifest.drills:
+        data = bytes_of(package, name)
+        kind, line = unread_function(data, first, last) or ("", 0)
+        if kind:
+            place = sum(len(it) + 1 for it in data.split(b"\n")[:line - 1])
+            from . import export_advice     # as below
+            way = export_advice.way(kind.split()[-1], export_advice.tool_of(data))
+            raise Stop(REFUSED, f"{name}: {kind} at line {line}, byte {place}, by a form of the file function that `check` passes over"
+                       + (f"; to export: {way}" if way else ""))
+
+
+def need_plated(package, drills):
+    """Refuses a drill file with holes that it calls unplated and that `check` would take as plated."""
+    for name in drills:
+        data = bytes_of(package, name)
+        line = unplated_hole(data)
+        if line:
+            from . import export_advice     # few boards are refused
+            raise Stop(REFUSED, f"{name}: line {line} makes a hole that the file itself calls unplated, and what it says of the others does not fit or is "
+                                f"missing, so that hole would join layers; to export: {export_advice.way('MixedPlating', export_advice.tool_of(data))}")
+
+
+def need_names(package, name):
+    """Refuses a netlist of which it is not known which records are of one net."""
+    why = netlist_mends.unclear(read(package, name))
+    if why:
+        raise Stop(REFUSED, f"{name}: {why}: have each name stand for one net, and each net have one name")
+
+
+def read(package, name):
+    """The bytes of a file; none where it cannot be read, which `check` says."""
+    try:
+        return package.read(name)
+    except OSError:
+        return b""
+
+
+def bytes_of(package, name):
+    """The bytes of a file beside the manifest."""
+    return b"" if os.path.isabs(name) else read(package, name)
+
+
+def say(package, shown):
+    """Has the answer's line and notes say what was mended, and the line of a refusal the way out."""
+    shown.mends = package.mends
+    if package.mends:
+        shown.notes = [f"mended: {it.words}" for it in package.mends] + shown.notes
+        if shown.status != UNJUDGED:
+            shown.line += f", after {counted(len(package.mends), 'mend')}"
+    if shown.status == REFUSED:
+        from . import export_advice     # as above
+        shown.line += export_advice.way_out(shown.line, lambda name: bytes_of(package, name))

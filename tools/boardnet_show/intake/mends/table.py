@@ -1,0 +1,59 @@
+"""The table of mends: what each sees, what it writes, and why nothing of the board changes. docs/using/mends.md has the same rows."""
+from collections import namedtuple
+
+from .mend import Mended
+
+
+class Row(namedtuple("Row", "kind sees writes why told")):
+    """`sees`, `writes` and `why` are the guide's words; `told` ends the sentence that names a mend."""
+
+    __slots__ = ()
+
+
+# Drill files.
+PLATING, UNIT, FORM, ENDS, MACHINE, LIFT, FORCE = "plating", "unit", "unit form", "header's end", "machine", "lift", "in force"
+# Netlists.
+ALIAS = "alias"
+# Copper files.
+IDENTITY, STRAIGHT, STATE, FORMAT, END, UNUSED, LINES, TURN, CONTOUR = \
+    "identity", "straight", "state", "format", "end", "unused", "macro lines", "macro turn", "contour"
+
+ROWS = (
+    Row(PLATING, "a drill file of plated and unplated holes, or of unplated ones alone (`MixedPlating`, or no file function) where each tool says which it is: by `; #@! TA.AperFunction,Plated,..` "
+        "or `NonPlated,..` before it, `;TYPE=PLATED` or `NON_PLATED` before tools, or comments of Allegro or Fritzing",
+        "the holes of plated tools alone; `Plated` for `MixedPlating`; a place that went on from a hole that goes gets both coordinates",
+        "an unplated hole joins nothing", "each tool says whether it is plated"),
+    Row(UNIT, "`M71`, `M72`, `METRIC` or `INCH` again, where it says the header's unit", "an empty line", "the unit is in force", "says the unit that the header says: left out"),
+    Row(FORM, "`METRIC` or `INCH` with digits (`,000.000`, `,TZ,0000.00`), or in their place `M71` or `M72` in the header, where every number of the file has a point",
+        "the unit alone", "a number with a point needs no word on its zeros", "says more than the unit, and every number has a point: the unit alone is kept"),
+    Row(ENDS, "`M95` in the header", "`%`", "both end the header", "ends the header: written as `%`"),
+    Row(MACHINE, "feed, speed, retract, hits and depth of a tool (`F`, `S`, `B`, `H`, `Z`); lines of `F` and `S`; `ATC`, `BLKD`, `DETECT`, `OSTOP`, `SBK`, `SG`, `TCST` "
+        "with `,ON` or `,OFF`; `M47` with a message", "the tool's diameter alone; an empty line", "they say how the machine runs, and not where a hole is",
+        "says how the machine runs: left out"),
+    Row(LIFT, "`M17` with the tool down", "`M16`", "both lift the tool", "lifts the tool: written as `M16`"),
+    Row(FORCE, "`ICI,OFF`, `VER,1`, `G40`, `G93X0Y0`; `FMAT,2` in the body; `G05` in the header; `M17` with the tool up; `%` before `M48` or behind `M30`",
+        "an empty line", "it is in force without it", "says what is in force anyway: left out"),
+    Row(IDENTITY, "`OF`, `MI`, `IR` of 0 and `SF` of 1, however written (`OFA0.00000B0.00000`); `SRX1Y1` without steps; a hole of size 0 in an aperture",
+        "the same as `check` takes it (`OFA0B0`)", "it moves, mirrors, turns, scales and repeats nothing", "changes nothing, by its value: written as `check` takes it"),
+    Row(STRAIGHT, "`I` and `J` of 0 where lines are straight", "the word without them", "a straight line has no centre", "has a centre of 0 and is straight: written without it"),
+    Row(STATE, "`G02`, `G03` alone before no draw; `G55` before a flash; `M01`", "an empty comment; the word without `G55`", "no draw is one of their arcs; the others are without effect",
+        "has no effect: left out"),
+    Row(FORMAT, "`FS` with the lengths of codes (`N2`, `G2`, `D2`, `M2`)", "`FS` without them", "they say nothing of places", "has lengths of codes: written without them"),
+    Row(END, "`M00` as the last word", "`M02`", "both end the file", "ends the file: written as `M02`"),
+    Row(UNUSED, "an aperture outside the profile that no draw and no flash has, with its selections; a macro that no other aperture names",
+        "an attribute without a meaning; an empty comment", "it makes no copper", "is used by no draw and no flash: left out"),
+    Row(LINES, "a macro's word that is broken over lines beside a comma or at its end, or has blanks there", "the word in one line", "a blank there ends no number",
+        "is a macro's word over several lines, or with blanks: joined"),
+    Row(TURN, "a macro's rotation that is a parameter, where its apertures say multiples of 90 for it", "one macro for each value, with the value in the parameter's place",
+        "the value is what the parameter stands for", "has a rotation by its apertures' parameters: written by their values"),
+    Row(CONTOUR, "a contour of more than 100,000 edges, in a file without clear polarity and steps", "several contours, parted by chords between two corners; the first in its place, "
+        "the others at the file's end, with the net name of the contour", "a chord lies in the copper and meets no edge, and of two parts none enters the other", ""),
+    Row(ALIAS, "a netlist's names that stand for one whole name (`P  NNAME1 A`, `P  NNAME2 A`)", "one of them in all records", "equal whole names are one net", ""),
+)
+TOLD = {row.kind: row.told for row in ROWS}
+
+
+def described(name, found):
+    """A mend in one sentence."""
+    more = f" (and {found.more} more)" if found.more else ""
+    return Mended(name, found.line, found.kind, f"{name}: line {found.line}, `{found.text}`{more}, {found.what or TOLD[found.kind]}")

@@ -1,0 +1,249 @@
+"""A board's files in a scratch folder, from a folder, a zip archive or a manifest. Nothing is written beside the user's files."""
+import errno
+import os
+import stat
+from itertools import chain, count
+
+from boardnet_show.base.statuses import FULL, NOT_UNDERSTOOD, REFUSED, UNCLEAR, UNREADABLE, UNWRITABLE, Stop
+from boardnet_show.formats import manifest
+
+from .file_names import MOST_BYTES, Refused
+
+# Declared net ties, beside the manifest.
+TIES = "ties.txt"
+
+
+class Package:
+    """The files under their own names in `folder`; `manifest` is None where `name` is no manifest."""
+
+    def __init__(self, told, folder, name="m.json"):
+        self.manifest, self.folder, self.name = told, folder, name
+        # Copper files that `flatten` rewrote, and what it said of those that it refused.
+        self.flattened, self.outside = set(), {}
+        # Those files as they were before, and where each file of the scratch folder came from.
+        self.before, self.came = {}, {}
+        # What was left out and what was guessed, in words, where the manifest was made here.
+        self.left_out, self.guessed = [], []
+        # What was rewritten before `check`, as mends/mend.py says.
+        self.mends = []
+        # What the two packages say between which it lies, once they are made, and why there are none that hold.
+        self.between = self.sides = None
+        self.no_bounds = ""
+        # Where the board is, once a negative file asked for it.
+        self.outline = None
+        # The bounds of copper files that were made, by their bytes; copies have them too.
+        self.made = {}
+        # How the files are called where the user has them, and whether the manifest was made here.
+        self.home, self.is_made = "", False
+        # The folder where they lie with all that is beside them, of a zip archive that of what was in it.
+        self.around = folder
+        # The netlist of the copper's own names, where they are judged by one, and the one that it stands for, or nothing; the ties
+        # that pads of several nets declare.
+        self.own, self.theirs, self.ties = "", "", []
+
+    def path(self, name):
+        return os.path.join(self.folder, name)
+
+    def read(self, name):
+        with open(self.path(name), "rb") as file:
+            return file.read()
+
+    def put(self, name, data):
+        """Replaces a file in the scratch folder; what a link leads to stays as it is."""
+        if os.path.isabs(name):
+            raise Stop(UNREADABLE, f"{name}: only files beside the manifest can be changed in a copy")
+        path = self.path(name)
+        os.makedirs(os.path.dirname(path), exist_ok=True)
+        if os.path.lexists(path):
+            os.remove(path)
+        with open(path, "wb") as file:
+            file.write(data)
+
+    def link(self, name, source):
+        """Has a file under its name by a link, or not at all where there is none: then `check` says so."""
+        path = self.path(name)
+        if os.path.isabs(name) or os.path.lexists(path) or not os.path.exists(source):
+            return
+        os.makedirs(os.path.dirname(path), exist_ok=True)
+        os.symlink(os.path.abspath(source), path)
+        self.came[name] = os.path.abspath(source)
+
+    def is_taken(self, name):
+        """Whether a name is that of a file of the board, be it there or not."""
+        its = self.manifest.names() if self.manifest else []
+        return name in {os.path.normpath(each) for each in [self.name, TIES, *its]}
+
+    def free_name(self, stem, ending):
+        """A name of a file that the package does not have."""
+        number, name = 0, stem + ending
+        while self.is_taken(name) or os.path.lexists(self.path(name)):
+            number += 1
+            name = f"{stem}{number}{ending}"
+        return name
+
+    def report_name(self):
+        """The name of the report in the folder, the same each time: no file of the board has it."""
+        names = chain(["report.txt"], (f"report{number}.txt" for number in count(1)))
+        return next(name for name in names if not self.is_taken(name))
+
+    def changed(self, folder, files=None, told=None):
+        """Another package of the same files but for those that are given, in a folder of its own."""
+        copy = Package(told or self.manifest, folder, self.name)
+        copy.flattened, copy.home, copy.around = set(self.flattened) - set(files or ()), self.home, self.around
+        copy.before = {name: data for name, data in self.before.items() if name in copy.flattened}
+        copy.own, copy.mends, copy.made = self.own, self.mends, self.made
+        os.makedirs(folder)
+        for name, data in (files or {}).items():
+            copy.put(name, data)
+        for name in copy.manifest.names():
+            copy.link(name, self.path(name))
+        copy.put(self.name, copy.manifest.json_text().encode())
+        return copy
+
+    def told_path(self, name):
+        """A file as the caller would open it."""
+        return os.path.join(self.home, name)
+
+
+def inner(scratch, names):
+    """A folder so deep in the scratch folder that names with `..` stay in it."""
+    deep = max([name.split("/").count("..") for name in names], default=0)
+    return os.path.join(scratch, *["in"] * deep, "board")
+
+
+def room(scratch, names):
+    """Such a folder, made."""
+    folder = inner(scratch, names)
+    os.makedirs(folder)
+    return folder
+
+
+def beside(package, word):
+    """A folder for a changed copy of a package, in a folder of its own beside that of the package; it is not there yet."""
+    number = 0
+    while os.path.exists(f"{package.folder}.{word}{number}"):
+        number += 1
+    return inner(f"{package.folder}.{word}{number}", package.manifest.names())
+
+
+def need_plain(home, names, inside=None):
+    """Refuses names that lead elsewhere than to plain files of at most as many bytes as `check` takes; with a folder, than into it.
+    Nothing is read before; what is not there is left to `check`."""
+    for name in names:
+        path = os.path.join(home, name)
+        if inside and not os.path.realpath(path).startswith(os.path.realpath(inside) + os.sep):
+            raise Stop(UNREADABLE, f"{name}: cannot be read: it is not in the archive")
+        try:
+            its = os.stat(path)
+        except (OSError, ValueError):
+            continue
+        if not stat.S_ISREG(its.st_mode):
+            why = os.strerror(errno.EISDIR) if stat.S_ISDIR(its.st_mode) else "it is no plain file"
+            raise Stop(UNREADABLE, f"{name}: cannot be read: {why}")
+        if its.st_size > MOST_BYTES:
+            raise Stop(REFUSED, f"{name}: longer than {MOST_BYTES} bytes")
+
+
+def of_manifest(path, scratch, inside=None):
+    """The package of a manifest that is there; with a folder its files are to lie there."""
+    home, name = os.path.dirname(path), os.path.basename(path)
+    need_plain(home, [name, TIES], inside)
+    with open(path, "rb") as file:
+        data = file.read(MOST_BYTES + 1)
+    told = manifest.of_text(data)
+    need_plain(home, told.names() if told else [], inside)
+    package = Package(told, room(scratch, told.names() if told else []), name)
+    package.home, package.around = home, home or "."
+    package.put(name, data)
+    package.came[name] = os.path.abspath(path)
+    for each in [*(told.names() if told else []), TIES]:
+        package.link(each, os.path.join(home, each))
+    return package
+
+
+def of_folder(home, asked, scratch):
+    """The package of a folder without a manifest, by what the files say of themselves."""
+    from . import gathering as gathered        # most boards have a manifest
+    need_plain(home, [TIES])
+    found = gathered.gather(home)
+    try:
+        plan = gathered.Plan(found, asked.netlist, asked.no_drills, may_lack_netlist=True)
+    except Refused as why:
+        left_out = "".join(f"\n  left out: {name}: {reason}" for name, reason in found.left_out)
+        raise Stop(UNCLEAR, f"{why}{left_out}") from None
+    guessed = [f"{name} as {what}: {why}" for name, what, why in plan.guessed]
+    if guessed and not asked.yes:
+        raise Stop(UNCLEAR, "the files do not say all of what they are: if this is right, say --yes; else write m.json by hand"
+                   + "".join(f"\n  would be taken: {word}" for word in guessed))
+    told = manifest.Manifest(plan.manifest)
+    package = Package(told, room(scratch, told.names()))
+    package.home, package.around, package.guessed, package.is_made = home, home, guessed, True
+    package.left_out = [f"{name}: {why}" for name, why in found.left_out]
+    package.put("m.json", told.json_text().encode())
+    for name in filter(None, [*told.names(), TIES]):
+        package.link(name, os.path.join(home, name))
+    return package
+
+
+def is_archive(path):
+    if not os.path.isfile(path):
+        return False
+    import zipfile          # most boards come in no archive, and loading takes long
+    # One that was cut off is none by its content; it is refused as what its name says.
+    return path.lower().endswith(".zip") or zipfile.is_zipfile(path)
+
+
+def unpacked(path, scratch):
+    """The folder of a zip archive's files, in the scratch folder."""
+    from . import archives
+    folder = os.path.join(scratch, "unpacked")
+    archives.extract(path, folder)
+    return folder
+
+
+def opened(path, asked, scratch, inside=None):
+    """The package of a folder, a zip archive or a manifest; with a folder the files are to lie there."""
+    if not path:
+        raise Stop(NOT_UNDERSTOOD, "PATH is empty: it is a folder, a zip archive or a manifest")
+    try:
+        if is_archive(path):
+            folder = unpacked(path, scratch)
+            package = opened(folder, asked, scratch, folder)
+            package.home = path
+            return package
+        if not os.path.isdir(path):
+            return of_manifest(path, scratch)
+        if os.path.exists(os.path.join(path, "m.json")):
+            return of_manifest(os.path.join(path, "m.json"), scratch, inside)
+        return of_folder(path, asked, scratch)
+    except Refused as why:
+        raise Stop(UNCLEAR, str(why)) from None
+    except OSError as error:
+        if error.errno in FULL:
+            raise
+        inside = os.path.relpath(error.filename or path, path)
+        raise Stop(UNREADABLE, ("" if inside == "." else f"{inside}: ") + f"cannot be read: {error.strerror}") from None
+
+
+def need_netlist(package, asked):
+    """Refuses a netlist that is asked for where the manifest names another: the answer would be by that."""
+    its = package.manifest.netlist if package.manifest else None
+    if asked.netlist and its and its != asked.netlist:
+        raise Stop(NOT_UNDERSTOOD, f"--netlist {asked.netlist}: {package.name} names {its}, so have it name the other")
+
+
+def keep(package, report, folder):
+    """Copies the package as it was judged, and its report, to a folder that must not be there yet."""
+    if os.path.exists(folder):
+        raise Stop(UNWRITABLE, f"{folder} is there already: --keep wants a new folder")
+    import shutil           # loading takes long, as above
+    try:
+        shutil.copytree(package.folder, folder)
+        with open(os.path.join(folder, package.report_name()), "wb") as file:
+            file.write(report)
+    except OSError as error:
+        shutil.rmtree(folder, ignore_errors=True)
+        raise Stop(UNWRITABLE, f"{folder}: {error.strerror}: cannot be written") from None
+    except BaseException:
+        shutil.rmtree(folder, ignore_errors=True)
+        raise

@@ -1,0 +1,105 @@
+"""The program, run in the scratch folder: its status, its output, and its line."""
+import os
+import subprocess
+from collections import namedtuple
+
+from boardnet_show.base.statuses import Stop
+
+from . import building
+
+TOOLS = os.path.dirname(os.path.dirname(os.path.dirname(os.path.abspath(__file__))))
+# Where the program lies: beside the tools where it is installed, in a checkout where the gate or the launcher leaves it.
+PLACES = (os.path.join(TOOLS, "boardnet"), os.path.join(os.path.dirname(TOOLS), "crates", "boardnet", "out", "boardnet"))
+NO_PROGRAM = 127
+
+
+class Answer(namedtuple("Answer", "status out line")):
+    """What a command of the program answered; `line` is its line without `boardnet: `."""
+
+    __slots__ = ()
+
+
+def found():
+    """The program's place; where BOARDNET names one, no other is run."""
+    named = os.environ.get("BOARDNET")
+    for path in (named,) if named else PLACES:
+        if os.access(path, os.X_OK) and not os.path.isdir(path):
+            return os.path.abspath(path)
+    if named:
+        raise Stop(NO_PROGRAM, f"BOARDNET names {named}, which is no program that can be run")
+    raise Stop(NO_PROGRAM, "the program is not built; `boardnet show` builds it, and BOARDNET names one that lies elsewhere")
+
+
+class Program:
+    """The program; where it is not built yet, `path` is None until its first command."""
+
+    def __init__(self, path, progress):
+        self.path, self.progress = path, progress
+        self.running = self.unbuilt = None
+
+    def built(self, package, words):
+        """Has the program built; that is tried once."""
+        if self.unbuilt:
+            raise self.unbuilt
+        try:
+            self.progress.end()
+            building.build(package, words)
+            self.path = found()
+        except Stop as stop:
+            self.unbuilt = stop
+            raise
+
+    def run(self, package, *words):
+        """Runs a command on a package's files."""
+        if not self.path:
+            self.built(package, words)
+        how = {"cwd": package.folder, "stdin": subprocess.DEVNULL, "stdout": subprocess.PIPE, "stderr": subprocess.PIPE}
+        try:
+            self.running = subprocess.Popen([self.path, *words], **how)
+        except OSError as error:
+            raise Stop(NO_PROGRAM, f"{self.path}: {error.strerror}") from None
+        out, notes = self.ended()
+        status, self.running = self.running.returncode, None
+        if not 0 <= status <= 6:
+            raise Stop(NO_PROGRAM, f"{self.path} {words[0]} ended with {status}")
+        lines = [line for line in notes.decode("utf-8", "replace").split("\n") if line.startswith("boardnet: ")]
+        return Answer(status, out, lines[0][len("boardnet: "):] if lines else "")
+
+    def ended(self):
+        """The output of the running command, and what it noted."""
+        try:
+            while True:
+                try:
+                    return self.running.communicate(timeout=1)
+                except subprocess.TimeoutExpired:
+                    self.progress.tell()
+        except BaseException:
+            self.running.kill()
+            self.running.wait()
+            raise
+
+    def check(self, package):
+        self.progress.begin("checking")
+        return self.run(package, "check", package.name)
+
+    def audit(self, package, report):
+        self.progress.begin("auditing the report")
+        name = package.report_name()
+        package.put(name, report)
+        return self.run(package, "audit", package.name, name)
+
+    def between(self, package, lower, upper, counts):
+        self.progress.begin("proving the bounds")
+        return self.run(package, "between", package.name, lower, upper, counts)
+
+    def flatten(self, package, name):
+        self.progress.begin(f"flattening {name}")
+        return self.run(package, "flatten", name)
+
+    def x2(self, package):
+        self.progress.begin("reading the labels of the copper")
+        return self.run(package, "x2", package.name)
+
+    def gaps(self, package, nanometres):
+        self.progress.begin("looking for nets that are close")
+        return self.run(package, "gaps", package.name, str(nanometres))

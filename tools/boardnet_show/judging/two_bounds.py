@@ -1,0 +1,229 @@
+"""A board with copper outside the profile between two boards within it: what holds of both holds of the board.
+
+Each piece of the lower board lies in copper of the board, joined in itself, and the board's copper in pieces of the upper one;
+drills, netlist and names are the same. So what is joined below is joined on the board, and what is joined there is joined above
+(the law `verdicts_decide` of the crate `covers`): no opens and no missing points below and no shorts above make the board agree;
+shorts below, and opens and missing points above, are the board's (a point of such an open may be missing there). Other opens and
+missing points below, and other shorts above, are undecided. That the two boards are such bounds is not proved, but where the program
+says so (`between_command`): this script makes them, by whole numbers, and its tests compare them with fractions.
+"""
+import copy
+import hashlib
+import os
+import re
+from typing import NamedTuple
+
+from boardnet_show.base.statuses import UNDECIDED, UNJUDGED, fault_of
+from boardnet_show.base.wording import counted
+from boardnet_show.formats import ipc356
+from boardnet_show.formats.gerber_words import line_numbers
+from boardnet_show.geometry.exact import Refused
+from boardnet_show.intake.package import beside
+
+from . import judged, nothing_judged
+from .both_reports import Joint
+from .net_ties import Ties, lost
+from .upper_joins import Differing
+
+# ClearPolarity, Arc, Macro, Block, Polygon, Hole, Transform, ApertureTwice, PenNotCircle, OffGrid, NegativeFile, TooManyVertices,
+# NoOperation: what copper files hold that bounds may be given for.
+OUTSIDE = re.compile(r"(.*): Gerber (1[0-6]|18|19|23|26|28|29) |(.*): flatten ")
+SIDES = ("lower", "upper")
+BETWEEN = ", between two bounds"
+
+
+class Bounded(NamedTuple):
+    """The answer on a board between two; `findings` are (kind, sure, words, places), places (x, y, layer) with x and y in u.
+    `points` are those of each finding, `sides` what both boards are made of, `notes` what else is to be told."""
+
+    status: int
+    line: str
+    findings: list
+    left_out: list
+    points: tuple = ()
+    sides: tuple = ()
+    notes: tuple = ()
+
+
+class Made(NamedTuple):
+    """What is kept of the bounds of a copper file, as `Copper` and `Sides` have it."""
+
+    replaced: int
+    is_bent: bool
+    rows: dict
+    unlike: dict
+    lost: list
+    sources: tuple
+
+
+class Sides(NamedTuple):
+    """The two packages of a board, with the words' sources by side and file, and what is left out below. `rows` are by file those of
+    the commands that `between` reads, None where a file has other copper outside the profile; `unlike` are the commands that make
+    other copper on both sides; `is_bent` says that regions with arcs are among those of `rows`."""
+
+    packages: tuple
+    sources: tuple
+    left_out: list
+    rows: dict
+    unlike: dict
+    is_bent: bool
+
+
+def is_outside(line):
+    """Whether a refusal is of a kind that bounds can answer."""
+    return bool(OUTSIDE.match(line))
+
+
+def outline_of(package):
+    """The outline of a board with negative files, looked for once."""
+    from boardnet_show.bounds.files import profiles
+    if not package.outline:
+        texts = [package.read(name).decode("latin-1") for name in dict.fromkeys(package.manifest.copper)]
+        package.outline = profiles.outline_of(profiles.profiles_of(package.around), texts)
+    return package.outline
+
+
+def sides_of(package, name, is_coarse=False):
+    from boardnet_show.bounds.files import (        # most boards have no bounds, and loading takes longer than a small board
+        bounded_file
+    )
+    try:
+        return bounded_file.of_text(package.read(name).decode("latin-1"), lambda: outline_of(package), is_coarse)
+    except Refused as why:
+        raise Refused(f"{name}: {why}") from None
+    except Exception as fault:
+        raise fault_of(package.told_path(name), fault) from fault
+
+
+def told_once(text, lost):
+    """What a file leaves out, each kind once: with its first command, that one's line, and how many more there are."""
+    kinds = {}
+    for what in lost:
+        words, _, command = what.rpartition(" at command ")
+        kinds.setdefault(words, []).append(int(command))
+    lines = line_numbers(text, [its[0] for its in kinds.values()])
+    return [f"{words} at command {its[0]}, line {lines[its[0]]}" + (f", and {len(its) - 1} more" if len(its) > 1 else "") for words, its in kinds.items()]
+
+
+def key_of(package, name, is_coarse):
+    return hashlib.sha256(package.read(name)).digest(), is_coarse
+
+
+def made_once(package, name, is_coarse):
+    """The bounds of a copper file with the texts of both sides, which copies of the package that have the file too read again."""
+    key = key_of(package, name, is_coarse)
+    made, paths = package.made.get(key, (None, []))
+    if made and (paths or not made.replaced):
+        return made, [read_whole(path) for path in paths]
+    copper = sides_of(package, name, is_coarse)
+    rows = copper.rows if copper.replaced == len(copper.rows) else None
+    lost = told_once(package.read(name).decode("latin-1"), copper.lost)
+    made = Made(copper.replaced, copper.is_bent, rows, copper.unlike, lost, tuple(side.sources for side in copper.sides))
+    if not copper.negative:     # these lie within a board's outline
+        package.made[key] = made, []
+    return made, [side.file_text().encode("latin-1") for side in copper.sides]
+
+
+def read_whole(path):
+    with open(path, "rb") as file:
+        return file.read()
+
+
+def of_package(package, is_coarse=False):
+    """Both sides of each copper file that holds something outside the profile; the others are the same files. Coarse ones have areas
+    within regions as `between` wants them."""
+    files, sources, left_out, rows, unlike, replaced, is_bent = ({}, {}), ({}, {}), [], {}, {}, 0, False
+    for name in dict.fromkeys(package.manifest.copper):
+        copper, texts = made_once(package, name, is_coarse)
+        is_bent = is_bent or copper.is_bent
+        left_out += [f"{name}: {what}" for what in copper.lost]
+        replaced += copper.replaced
+        rows[name] = copper.rows
+        unlike[name] = copper.unlike
+        for text, its, data, origin in zip(texts, copper.sources, files, sources):
+            if copper.replaced:
+                data[name], origin[name] = text, its
+    if any(map(os.path.isabs, files[0])):
+        raise Refused("a copper file is named by its whole path, so it has no copy that could be changed")
+    if not replaced:
+        raise Refused("nothing in the copper files is of a kind that has bounds")
+    made = tuple(package.changed(beside(package, side), data) for side, data in zip(SIDES, files))
+    for name in files[0]:
+        if key_of(package, name, is_coarse) in package.made:
+            package.made[key_of(package, name, is_coarse)][1][:] = [its.path(name) for its in made]
+    return Sides(made, sources, left_out, rows, unlike, is_bent)
+
+
+def is_same_board(one, other):
+    """Whether two packages have the same files."""
+    return one.manifest.json_text() == other.manifest.json_text() and all(one.read(name) == other.read(name) for name in one.manifest.names())
+
+
+def both_judged(program, sides, before=()):
+    """What the program says of both packages, each report audited; one like another that was judged before is not judged again."""
+    told = []
+    for number, (side, package) in enumerate(zip(SIDES, sides.packages)):
+        known = before and before[number]
+        answer = known if known and is_same_board(known.package, package) else judged.judge(program, package)
+        if answer.report is None:
+            raise Refused(f"the {side} board: {answer.line}")
+        told.append(answer)
+    return told
+
+
+def answered(program, package, sides, low, high, ties):
+    """The joint answer of two judged packages."""
+    records = ipc356.records(package.read(package.manifest.netlist))
+    joint = Joint(low.report, high.report, records, package.manifest, ties)
+    findings = joint.findings()
+    if any(not sure for _, sure, *_ in findings):
+        findings = [*map(Differing(program, low, high, sides.sources).placed, findings)]
+    certain, doubt = (sum(it[1] is sure for it in findings) for sure in (True, False))
+    certain += len(lost(ties, high.report))
+    if joint.agrees():
+        status, word = 0, "agrees"
+    else:
+        status, word = (1, "differs") if certain else (UNDECIDED, "undecided")
+    told = [f"{counted(certain, 'finding')} certain"] if certain else []
+    told += [f"{counted(doubt, 'finding')} undecided"] if doubt else []
+    word += ties.words(len(ties.ties) - len(ties.parted(low.report))) if ties.ties else ""
+    line = word + BETWEEN + (f": {', '.join(told)}" if told else "") + f" (lower {low.line}; upper {high.line})"
+    return Bounded(status, line, [it[:4] for it in findings], sides.left_out, tuple(it[4] for it in findings), sides.sources)
+
+
+def judged_by(program, package, sides, ties, before=()):
+    """(answer, lower, upper) of both sides of a package; Refused where one is. `before` is such an answer by other sides."""
+    low, high = both_judged(program, sides, before[1:])
+    return answered(program, package, sides, low, high, ties), low, high
+
+
+def judge(program, package, ties):
+    """The same by sides that are made once; Refused where no bounds can be given."""
+    if package.no_bounds:
+        raise Refused(package.no_bounds)
+    if not package.between:
+        package.sides = of_package(package)
+        package.between = judged_by(program, package, package.sides, ties)
+    return package.between
+
+
+def bounded(program, told, ties=Ties()):
+    """The answer on a refused package whose copper is outside the profile, or None where bounds have nothing to say."""
+    if told.status != 3 or not told.package.manifest or not is_outside(told.line):
+        return None
+    try:
+        answer, _, high = judge(program, told.package, ties)
+    except Refused as why:
+        return Bounded(3, f"{told.line}; no bounds: {why}", [], [])
+    nothing = "" if answer.status else nothing_judged.why_nothing(high.report)
+    return answer._replace(status=UNJUDGED, line=nothing) if nothing else answer
+
+
+def own_commands(report, manifest, sources):
+    """The report with the user's commands in place of those of the copy."""
+    told = copy.copy(report)
+    if report.sources and sources:
+        by_file = [sources.get(name) for name in manifest.files]
+        told.sources = [(file, by_file[file][command - 1] if by_file[file] else command, number, top, bottom)
+                        for file, command, number, top, bottom in report.sources]
+    return told

@@ -1,0 +1,15 @@
+"""A netlist of the copper's own names: how it begins, and what an answer by it says. `pad_names` makes it, and is loaded where it does."""
+import os
+
+from boardnet_show.base.statuses import UNDECIDED
+
+FIRST = "by the copper's own names, so that only opens and shorts against those are known: "
+MADE = "C made by boardnet show of the copper's own attributes"
+# Statuses of an answer: agrees, differs, undecided.
+ANSWERS = (0, 1, UNDECIDED)
+
+
+def made_before(package):
+    """The package's netlist, where it was made here, as --keep keeps it; else nothing."""
+    name = package.manifest.netlist
+    return name if os.path.exists(package.path(name)) and package.read(name).startswith(MADE.encode()) else ""

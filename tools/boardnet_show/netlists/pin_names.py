@@ -1,0 +1,110 @@
+"""Where a netlist and the copper's own names tell different things of one pin.
+
+Tools cut and respell names for a netlist's 14 columns, so names are not compared by their letters: each name of the netlist is
+paired with the label that most of its pins have, and a pin is told where its two names are not a pair. Where names of several pins
+are a pair and do not look alike, that is told too.
+"""
+from collections import Counter
+
+from boardnet_show.base.wording import counted, spoken
+from boardnet_show.formats import ipc356
+
+FEW = 6
+
+
+def pins_of(package, name):
+    """The names of each pin in a netlist."""
+    found = {}
+    for record in ipc356.records(package.read(name)):
+        if record.pin:
+            found.setdefault((record.component, record.pin), set()).add(record.name)
+    return found
+
+
+def whole_names(package, name, pins):
+    """The same with aliases as what they stand for."""
+    whole = ipc356.aliases(package.read(name))
+    return {pin: {whole.get(each) or each for each in its} for pin, its in pins.items()}
+
+
+def alone(pins):
+    """N/C, and the names that one of these pins alone has: it may be named otherwise."""
+    counts = Counter(name for names in pins.values() for name in names)
+    return {name for name, count in counts.items() if count == 1} | {ipc356.NO_NET}
+
+
+def pairs(theirs, ours):
+    """Pairs of names of these pins, one to one, with how many pins share them: the most first, of two such pairs one of equal letters."""
+    counts = Counter((a, b) for pin in theirs for a in theirs[pin] for b in ours[pin] if ipc356.NO_NET not in (a, b))
+    taken, pair = set(), {}
+    for (a, b), count in sorted(counts.items(), key=lambda row: (-row[1], row[0][0].upper() != row[0][1].upper(), row[0])):
+        if a not in pair and b not in taken:
+            pair[a] = b, count
+            taken.add(b)
+    return pair
+
+
+def spelled(name):
+    """The letters and digits of a name."""
+    return "".join(c for c in name.upper() if c.isalnum())
+
+
+def is_respelled(a, b):
+    """Whether a netlist's name is the other one cut or written with other signs."""
+    a, b = spelled(a), spelled(b)
+    return a == b or len(a) >= 4 and (b.startswith(a) or b.endswith(a))
+
+
+def cut_pin(pin):
+    """A pin as a netlist's columns have it."""
+    return pin[0][:6], pin[1][:4]
+
+
+def listed(some, said):
+    return spoken([said(it) for it in some[:FEW]] + ([f"{len(some) - FEW} more"] if len(some) > FEW else []), FEW + 1)
+
+
+def pin_word(pin):
+    return f"{pin[0]} pin {pin[1]}"
+
+
+def differences(package):
+    """Sentences on pins and names that only one has or that differ, as notes; one where there is none."""
+    try:
+        pins = pins_of(package, package.theirs)
+    except OSError:
+        return [f"the netlist {package.theirs} cannot be read, so the copper's names are compared with nothing"]
+    theirs, ours = (whole_names(package, name, its) for name, its in ((package.theirs, pins), (package.own, pins_of(package, package.own))))
+    # Where columns cut a pin, its whole name stands in our comments alone.
+    short = {cut_pin(pin): pin for pin in ours}
+    theirs = {short.get(pin, pin): names for pin, names in theirs.items()}
+    both = theirs.keys() & ours.keys()
+    theirs_of, ours_of = ({pin: its[pin] for pin in both} for its in (theirs, ours))
+    pair = pairs(theirs_of, ours_of)
+    told = [f"the netlist {package.theirs} says otherwise: {words}" for words in [*by_pin(theirs_of, ours_of, pair), *by_name(pair), *missing(theirs, ours)]]
+    return told or [f"the netlist {package.theirs} says the same of all {counted(len(both), 'pin')}"]
+
+
+def by_pin(theirs, ours, pair):
+    """The pins whose names are no pair, and of which at least one has the name of another pin."""
+    some, others = alone(theirs), alone(ours)
+
+    def is_same(pin):
+        paired = {pair[name][0] if name in pair else None for name in theirs[pin]} == ours[pin]
+        return paired or theirs[pin] <= some and ours[pin] <= others
+    wrong = sorted(pin for pin in theirs if not is_same(pin))
+    if wrong:
+        yield listed(wrong, lambda pin: f"{pin_word(pin)} is of {spoken(sorted(theirs[pin]))} there and of {spoken(sorted(ours[pin]))} by the copper's names")
+
+
+def by_name(pair):
+    """Names of several pins that do not look like each other."""
+    other = sorted((a, b) for a, (b, count) in pair.items() if count > 1 and not is_respelled(a, b))
+    if other:
+        yield listed(other, lambda both: f"what is {both[0]} there is {both[1]} by the copper's names")
+
+
+def missing(theirs, ours):
+    for words, lost in (("has no record of", ours.keys() - theirs.keys()), ("alone has", theirs.keys() - ours.keys())):
+        if lost:
+            yield f"it {words} {listed(sorted(lost), pin_word)}"

@@ -1,0 +1,52 @@
+"""Each cause of a status that is not 0, with the line of the file that it is about: what annotations and SARIF say."""
+from typing import Iterator, NamedTuple, Optional
+
+from boardnet_show.base.statuses import UNDECIDED
+from boardnet_show.extras.requested import GAPS
+from boardnet_show.findings.findings import doubt
+from boardnet_show.judging.net_ties import lost
+
+from .text_lines import summary
+
+# What each kind of cause is, in a sentence.
+KINDS = {
+    "open": "Test points of one net name that no copper joins",
+    "short": "Net names that copper joins",
+    "missing": "Test points without copper",
+    "gap": "Nets whose copper is too close",
+    "tie": "Declared ties of names that no test point has",
+    "beside": "What was asked for besides the netlist",
+    "board": "Why the board is not judged",
+}
+
+
+class Cause(NamedTuple):
+    """What is amiss: its kind, its name among the findings, what is told, whether it is certain, and the line of the netlist; the file is
+    None where it is about the board as a whole, the line then 0."""
+
+    kind: str
+    name: str
+    words: str
+    is_certain: bool
+    file: Optional[str] = None
+    line: int = 0
+
+
+def of_findings(shown) -> Iterator[Cause]:
+    netlist = shown.board.package.told_path(shown.board.manifest.netlist)
+    for finding in shown.findings:
+        place = (netlist, shown.board.line(finding.points[0])) if finding.points else (None, 0)
+        yield Cause(finding.kind, doubt(finding) + finding.id, finding.sentence(), finding.sure is not False, *place)
+    for words in lost(shown.ties, shown.board.report):
+        yield Cause("tie", "tie", words, True)
+
+
+def causes_of(shown) -> Iterator[Cause]:
+    """All of one board; where nothing else says why, its own line does."""
+    found = list(of_findings(shown)) if shown.board else []
+    for beside in shown.besides:
+        if beside.what != GAPS or beside.status not in (1, UNDECIDED):
+            found += [Cause("beside", name, words, beside.status != UNDECIDED) for name, words, _ in beside.causes()]
+    if shown.status and (not found or shown.status not in (1, UNDECIDED)):
+        found.append(Cause("board", "board", summary(shown), shown.status != UNDECIDED))
+    yield from found

@@ -1,0 +1,100 @@
+"""The findings as JSON (docs/using/forms.md, "The JSON form"). Lengths are millimetres, exact."""
+from boardnet_show.formats import indented_json
+from boardnet_show.formats.ipc356 import NO_NET
+from boardnet_show.judging import net_ties
+
+FORM = 2
+# As many points of a part of an open are told.
+MOST_OF_A_PART = 12
+
+
+def mm(u):
+    """A number whose decimal text is exact: u has at most eleven digits."""
+    return u / 10_000_000
+
+
+def place_object(spot, layer):
+    x, y = map(mm, spot) if spot else (None, None)
+    return {"x": x, "y": y, "layer": layer}
+
+
+def point(board, number):
+    record, layer, name, net = board.report.points[number]
+    found = board.record(number)
+    return {"point": number, "record": record, "line": board.line(number), "component": found.component if found else "",
+            "pin": found.pin if found else "", "name": board.name(name), "net": net if net >= 0 else None,
+            **place_object(board.spot(number), layer)}
+
+
+def piece(board, number):
+    if not board.report.sources:
+        return {"piece": number}
+    file, command, copy, top, bottom = board.report.sources[number]
+    word = "line" if board.manifest.is_drilled(file) else "command"
+    return {"piece": number, "file": board.manifest.files[file], word: command, "copy": copy, "top": top, "bottom": bottom,
+            **({"label": board.labels[number]} if number in board.labels else {})}
+
+
+def meet(board, found):
+    pieces = [{**piece(board, number), "of": found.names[0] if at <= found.near else found.names[1] if at >= found.far else None}
+              for at, number in enumerate(found.chain)]
+    return {"names": list(found.names), **place_object(found.place, found.layer), "touch": [piece(board, number) for number in found.touch],
+            "between": [piece(board, number) for number in found.between], "path": pieces}
+
+
+def finding(board, one):
+    told = {"id": one.id, "kind": one.kind, "names": [board.name(name) for name in one.names], "words": one.words, "hints": one.hints,
+            "points": [point(board, number) for number in one.points], "nets": one.nets}
+    if one.parts:
+        told["parts"] = [{"count": len(part), "points": [point(board, number) for number in part[:MOST_OF_A_PART]]} for part in one.parts]
+    if one.gap:
+        told["gap"] = {"distance": round(mm(max(one.gap.distance, 0)), 6), **place_object(one.gap.place, one.gap.layer), "below": one.gap.below}
+    if one.kind == "gap":
+        told["pieces"] = [piece(board, number) for number in one.pieces]
+    if one.sure is not None:
+        told["sure"] = one.sure
+    if one.kind == "short":
+        told["labelled"], told["meets"] = one.is_labelled, [meet(board, found) for found in one.meets]
+    return told
+
+
+def absent_ties(shown):
+    """The ties of names that no test point has, as findings without a place."""
+    for number, (it, words) in enumerate(net_ties.absent(shown.ties, shown.board.report)):
+        yield {"id": f"tie-{number}", "kind": "tie", "names": list(it.names), "words": words, "hints": [], "points": [], "nets": [],
+               **({"sure": True} if shown.bounds else {})}
+
+
+def like_of(likeness):
+    """The comparison with another board."""
+    places = lambda its: [place_object((x, y), layer) for x, y, layer in its]
+    return {"path": likeness.path, "status": likeness.status, "line": likeness.line, "placed": likeness.placed, "not_compared": likeness.untouched, "differences": [
+        {**each._asdict(), "places": places(each.places), "places_there": places(each.places_there)} for each in likeness.differences]}
+
+
+def board_of(shown):
+    """One board."""
+    told = {"path": shown.path, "status": shown.status, "line": shown.line, "notes": shown.notes,
+            "mends": [it._asdict() for it in shown.mends],
+            "hints": [hint._asdict() for hint in shown.hints]}
+    if shown.bounds:
+        told["bounds"] = {"findings": [{"kind": kind, "sure": sure, "words": words, "places": [place_object((x, y), layer) for x, y, layer in places]}
+                                       for kind, sure, words, places in shown.bounds.findings], "left_out": list(shown.bounds.left_out)}
+    if shown.gap_count is not None:
+        told["gaps"] = shown.gap_count
+    if shown.like:
+        told["like"] = like_of(shown.like)
+    if shown.tester:
+        told["tester"] = {"written": shown.tester.text is not None, "lines": shown.tester.lines}
+    if not shown.board:
+        return told
+    board = shown.board
+    unnamed = sum(board.name(name) == NO_NET for _, _, name, _ in board.report.points)
+    return {**told, "audit": shown.audit, "copper": board.manifest.copper, "drills": [name for name, _, _ in board.manifest.drills],
+            "netlist": board.manifest.netlist, "own_names": bool(board.package.own), "ties": list(net_ties.told_of(board.ties, board.report)),
+            "pieces": board.report.pieces, "points": len(board.report.points), "unnamed_points": unnamed,
+            **shown.counts(), **shown.found_counts(), "flood": shown.flood, "findings": [*(finding(board, it) for it in shown.findings), *absent_ties(shown)]}
+
+
+def json_text(all_shown):
+    return indented_json.indented({"boardnet_show": FORM, "boards": [board_of(shown) for shown in all_shown]}) + "\n"

@@ -1,0 +1,66 @@
+"""The findings as JUnit's XML: a suite a board, a case a net name, which fails where a finding is listed under it."""
+from typing import NamedTuple
+
+from boardnet_show.base.wording import printable
+from boardnet_show.findings.findings import doubt
+from boardnet_show.judging.net_ties import lost
+
+from .markup import escaped, for_xml
+
+
+def quoted(text):
+    """A text as the value of an attribute, in the quotes that it has not."""
+    told = escaped(text).replace("\n", "&#10;").replace("\r", "&#13;").replace("\t", "&#9;")
+    return f'"{told}"' if '"' not in told else f"'{told}'" if "'" not in told else '"' + told.replace('"', "&quot;") + '"'
+
+
+class Case(NamedTuple):
+    """A case, with what is amiss: names with their words; `word` is XML's for it."""
+
+    name: str
+    causes: list
+    word: str = "failure"
+
+    def row(self, title):
+        head = f"  <testcase classname={quoted(title)} name={quoted(self.name)}"
+        if not self.causes:
+            return head + "/>"
+        told = "\n".join(escaped(printable(f"{name}: {words}")) for name, words in self.causes)
+        message = quoted(", ".join(dict.fromkeys(name for name, _ in self.causes)))
+        return f"{head}><{self.word} message={message}>{told}</{self.word}></testcase>"
+
+
+def whole(shown, status, line):
+    """The one case of a board whose names are not told one by one: it passes, fails or is an error as the board's status says."""
+    return Case("check", [(line, line)] if status else [], "failure" if status == 1 else "error")
+
+
+def of_names(shown):
+    """A case for each net name, and one for ties that have no place."""
+    failures = {}
+    for it in shown.findings:
+        for name in it.names if it.kind != "gap" else ():
+            failures.setdefault(name, []).append((doubt(it) + it.id, it.sentence()))
+    nowhere = [("tie", words) for words in lost(shown.ties, shown.board.report)]
+    cases = [Case(name, failures.get(number, [])) for number, name in enumerate(shown.board.report.names)]
+    return cases + ([Case("ties", nowhere)] if nowhere else [])
+
+
+def cases_of(shown):
+    """All cases: no status but 0 is without one that fails or is an error."""
+    status, line = shown.verdict or (shown.status, shown.line)
+    cases = of_names(shown) if shown.board and status in (0, 1) else [whole(shown, status, line)]
+    cases += [Case(it.what, [cause[:2] for cause in it.causes()], "failure" if it.status == 1 else "error") for it in shown.besides]
+    return cases if not shown.status or any(it.causes for it in cases) else [*cases, whole(shown, shown.status, shown.line)]
+
+
+def suite(shown):
+    cases = cases_of(shown)
+    failed, errors = (sum(bool(it.causes) and it.word == word for it in cases) for word in ("failure", "error"))
+    head = f'<testsuite name={quoted(shown.title)} tests="{len(cases)}" failures="{failed}" errors="{errors}">'
+    return [head, *(it.row(shown.title) for it in cases), "</testsuite>"]
+
+
+def junit_text(all_shown):
+    rows = [row for shown in all_shown for row in suite(shown)]
+    return for_xml("\n".join(['<?xml version="1.0" encoding="UTF-8"?>', "<testsuites>", *rows, "</testsuites>", ""]))

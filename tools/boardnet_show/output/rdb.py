@@ -1,0 +1,77 @@
+"""The findings as a marker database of KLayout (*.lyrdb): lengths are micrometres."""
+from boardnet_show.base.statuses import UNDECIDED
+from boardnet_show.extras.requested import GAPS
+from boardnet_show.findings.findings import doubt
+from boardnet_show.judging.net_ties import lost
+
+from .markup import escaped, for_xml
+
+KINDS = {"open": "Parts of a name that no copper joins", "short": "Names that copper joins", "missing": "Test points without copper",
+         "gap": "Nets that are too close", "wider": "Copper that the upper of two bounds has and the lower one has not",
+         "tie": "Declared ties of names that no test point has", "beside": "What was asked for besides", "board": "Why the board is not judged"}
+# Half the side of the box round a place, in u.
+HALF = 1_000_000
+
+
+def micrometres(u):
+    sign, u = "-" if u < 0 else "", abs(u)
+    return f"{sign}{u // 10_000}.{u % 10_000:04d}".rstrip("0").rstrip(".")
+
+
+def at(place):
+    return f"{micrometres(place[0])},{micrometres(place[1])}"
+
+
+def box(place):
+    x, y = place
+    return f"box: ({at((x - HALF, y - HALF))};{at((x + HALF, y + HALF))})"
+
+
+def values(board, finding):
+    """What KLayout marks: the line across an open, boxes round the places of the others."""
+    spots = [board.spot(point) for point in finding.points]
+    if finding.kind == "open" and None not in spots:
+        yield f"edge: ({at(spots[0])};{at(spots[1])})"
+    if finding.gap:
+        yield box(finding.gap.place)
+    for meet in finding.meets:
+        yield box(meet.place)
+    if finding.kind == "missing" or finding.kind == "short" and not finding.meets:
+        yield from (box(spot) for spot in spots if spot)
+    yield quoted(finding.sentence())
+
+
+def quoted(words):
+    return "text: '" + words.replace("\\", "\\\\").replace("'", "\\'") + "'"
+
+
+def item(kind, name, marked):
+    told = "".join(f"<value>{escaped(value)}</value>" for value in marked)
+    return (f"  <item><tags/><category>{kind}</category><cell>board</cell><visited>false</visited><multiplicity>1</multiplicity>"
+            f"<comment>{escaped(name)}</comment><image/><values>{told}</values></item>")
+
+
+def items_of(shown):
+    """Every cause of a status that is not 0, and where a board that lies between two bounds is wider above."""
+    its, wider = items_of_board(shown) if shown.board else ([], [])
+    its += [item("beside", name, [*(box(place[:2]) for place in places), quoted(words)])
+            for beside in shown.besides if beside.what != GAPS or beside.status not in (1, UNDECIDED) for name, words, places in beside.causes()]
+    return (its if its or not shown.status else [item("board", f"status {shown.status}", [quoted(shown.line)])]) + wider
+
+
+def items_of_board(shown):
+    board = shown.board
+    its = [item(finding.kind, doubt(finding) + finding.id, values(board, finding)) for finding in shown.findings]
+    its += [item("tie", "tie", [quoted(words)]) for words in lost(shown.ties, board.report)]
+    return its, [item("wider", f"{board.manifest.layer_word(layer)}", [f"polygon: ({';'.join(map(at, corners))})"]) for layer, corners in shown.wider]
+
+
+def marker_database(shown):
+    categories = "".join(f"<category><name>{kind}</name><description>{told}</description><categories/></category>" for kind, told in KINDS.items())
+    items = items_of(shown)
+    rows = ['<?xml version="1.0" encoding="utf-8"?>', "<report-database>",
+            f"  <description>{escaped(shown.title)}: {escaped(shown.line)}</description>", "  <original-file/>",
+            "  <generator>boardnet show</generator>", "  <top-cell>board</top-cell>", "  <tags/>",
+            f"  <categories>{categories}</categories>", "  <cells><cell><name>board</name><variant/><layout-name/><references/></cell></cells>",
+            "  <items>", *items, "  </items>", "</report-database>", ""]
+    return for_xml("\n".join(rows))

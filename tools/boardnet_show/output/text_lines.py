@@ -1,0 +1,93 @@
+"""Findings as lines: grouped by name for a reader, one a line for `grep`."""
+from boardnet_show.base.statuses import UNJUDGED
+from boardnet_show.base.wording import counted
+from boardnet_show.findings.findings import doubt
+from boardnet_show.judging.net_ties import lost
+
+MOST = 20
+
+
+def heading(shown):
+    return f"{shown.path}: {shown.line}"
+
+
+def summary(shown):
+    """One line of a batch."""
+    return heading(shown)
+
+
+def notes(shown):
+    """What is told before the findings."""
+    told = [*shown.notes, *([shown.flood] if shown.flood else [])]
+    return told + [f"hint: {hint.words}" for hint in shown.hints]
+
+
+def bounded(shown):
+    """What a board between two bounds leaves out below."""
+    return [f"  left out of the lower bound: {word}" for word in shown.bounds.left_out] if shown.bounds else []
+
+
+def grouped(findings):
+    """The findings by their names, in order of first appearance."""
+    groups = {}
+    for finding in findings:
+        groups.setdefault(finding.name, []).append(finding)
+    return groups
+
+
+def blocks(shown):
+    """The lines of each finding, the first of a name with the name."""
+    for name, members in grouped(shown.findings).items():
+        for at, finding in enumerate(members):
+            head = [name] if at == 0 else []
+            yield head + [f"  {doubt(finding)}{finding.id}: {finding.words}"] + [f"      {hint}" for hint in finding.hints]
+
+
+def reader(shown, is_all):
+    """What is printed of one board: at most twenty lines of findings where not all are wanted."""
+    yield heading(shown) + (f" ({shown.audit})" if shown.audit and shown.status != UNJUDGED and not shown.bounds else "")
+    yield from notes(shown)
+    printed, told = 0, 0
+    for block in blocks(shown):
+        if not is_all and told and printed + len(block) > MOST:
+            break
+        yield from block
+        printed, told = printed + len(block), told + 1
+    left = len(shown.findings) - told
+    if left:
+        yield f"{counted(left, 'further finding')}: --all prints them, --page FILE shows them"
+    yield from cut(bounded(shown), is_all)
+    yield from cut(list(extra_lines(shown)), is_all)
+
+
+def cut(rows, is_all):
+    return rows if is_all or len(rows) <= MOST else [*rows[:MOST], f"{len(rows) - MOST} more lines: --all prints them"]
+
+
+def quiet(shown):
+    """A line `file:line: id: words` for each finding, as editors and CI read them, and one for the board."""
+    if shown.board:
+        netlist = shown.board.package.told_path(shown.board.manifest.netlist)
+        yield from (f"{shown.path}: {words}" for words in lost(shown.ties, shown.board.report))
+        for finding in shown.findings:
+            place = f"{netlist}:{shown.board.line(finding.points[0])}" if finding.points else shown.path
+            yield f"{place}: {doubt(finding)}{finding.id}: {finding.sentence()}"
+    for row in bounded(shown):
+        yield f"{shown.path}: {row.strip()}"
+    for hint in shown.hints:
+        yield f"{shown.path}: hint: {hint.words}"
+    for row in extra_lines(shown):
+        yield f"{shown.path}: {row.strip()}"
+    yield summary(shown)
+
+
+def extra_lines(shown):
+    """What is told of it in lines."""
+    if shown.like:
+        yield f"like {shown.like.path}: {shown.like.line}" + (f" ({shown.like.placed})" if shown.like.placed else "")
+        for it in shown.like.differences:
+            yield f"  {it.name()}: {it.sentence()}"
+    if shown.tester:
+        first, *rest = shown.tester.lines
+        yield f"netlist for a tester: {first}"
+        yield from (f"  {words}" for words in rest)

@@ -1,0 +1,1 @@
+"""Tests of what is made where it is asked for."""

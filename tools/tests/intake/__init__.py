@@ -1,0 +1,1 @@
+"""Tests of what makes files ready to judge."""

@@ -1,0 +1,1 @@
+"""Tests of the launcher, what is installed and packaged, and the plugin."""
