@@ -1,0 +1,27 @@
+"""The states of places in a picture: for each `x y` of standard input, in pixels from its lower left, 1, 0, b or -.
+
+Called as picture_side.py PICTURE REACH by a Python that has Pillow. A place is within where all pixels as far as REACH from its own are
+bright, outside where none is, else near a border; one nearer than that to the picture's edge is not told.
+"""
+import sys
+
+
+def main(path: str, reach: int) -> None:
+    from PIL import Image
+    Image.MAX_IMAGE_PIXELS = None
+    picture = Image.open(path).convert("L")
+    width, height = picture.size
+    pixel = picture.load()
+    told = []
+    for line in sys.stdin:
+        x, y = map(int, line.split())
+        if min(x, y) < reach or x >= width - reach or y >= height - reach:
+            told.append("-")
+            continue
+        some = [pixel[i, height - 1 - j] > 127 for i in range(x - reach, x + reach + 1) for j in range(y - reach, y + reach + 1)]
+        told.append("1" if all(some) else "b" if any(some) else "0")
+    print("".join(told))
+
+
+if __name__ == "__main__":
+    main(sys.argv[1], int(sys.argv[2]))
