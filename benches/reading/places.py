@@ -94,8 +94,11 @@ def beside(rng: random.Random, piece: Piece) -> Spot:
         far *= rng.choice((-1, 1))
         dx, dy = b[0] - a[0], b[1] - a[1]
         return micrometres(a[0] + along * dx // 1000 - dy * far // length, a[1] + along * dy // 1000 + dx * far // length)
-    x, y = rng.choice([it for it in ((rng.randint(-999, 999), rng.randint(-999, 999)), (999, 0)) if it != (0, 0)])
-    length, end = isqrt(x * x + y * y), rng.choice((a, b))
+    x, y = rng.randint(-999, 999), rng.randint(1, 999) * rng.choice((-1, 1))
+    end, other = rng.choice(((a, b), (b, a)))
+    if x * (end[0] - other[0]) + y * (end[1] - other[1]) < 0:
+        x, y = -x, -y       # off the end, and not along the piece
+    length = isqrt(x * x + y * y)
     return micrometres(end[0] + x * far // length, end[1] + y * far // length)
 
 
