@@ -13,7 +13,8 @@ U = 10_000
 MILLIMETRE, INCH = 1_000 * U, 25_400 * U
 # Micrometres from a border, to both sides; of places at random how far past the outermost piece.
 STEPS, MARGIN = (2, 3, 5, 15, 30, 60), 1_000
-AREA = -1
+# Lengths of short vectors are taken in these parts.
+AREA, FINE = -1, 1_000
 PART = re.compile(rb"%ADD(\d+)C,([\d.]+)\*%|X(-?\d+)Y(-?\d+)D0([12])\*|(G36|G37)\*|D(\d+)\*")
 DEFINED, CHOSEN = re.compile(r"T0*(\d+)[^\n;]*?C([\d.]+)"), re.compile(r"T0*(\d+)\s*$")
 
@@ -98,8 +99,8 @@ def beside(rng: random.Random, piece: Piece) -> Spot:
     end, other = rng.choice(((a, b), (b, a)))
     if x * (end[0] - other[0]) + y * (end[1] - other[1]) < 0:
         x, y = -x, -y       # off the end, and not along the piece
-    length = isqrt(x * x + y * y)
-    return micrometres(end[0] + x * far // length, end[1] + y * far // length)
+    length = isqrt((x * x + y * y) * FINE * FINE)
+    return micrometres(end[0] + x * far * FINE // length, end[1] + y * far * FINE // length)
 
 
 def near(rng: random.Random, pieces: List[Piece], count: int) -> List[Spot]:
