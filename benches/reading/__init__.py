@@ -1,6 +1,7 @@
 """The parts of benches/readers: what boardnet reads in a file, what other readers read, and what is asked of both.
 
-A place is (x, y) in whole micrometres. A state is COPPER, BARE, NEAR (a border is within the tolerance), or None (not asked, not read).
+A place is (x, y) in whole micrometres. A state is COPPER, BARE, NEAR (a border is within the tolerance), or None (not
+asked, not read).
 """
 import os
 import sys
@@ -12,8 +13,10 @@ FAREST = 999_999
 
 
 def sides_of(text):
-    """The lower and the upper side of a copper file outside the profile, as `show` writes them, or None. This alone is of tools/:
-    no command gives these two as files, and whole areas are compared with them."""
+    """The lower and the upper side of a copper file outside the profile, as `show` writes them, or None.
+
+    This alone is of tools/: no command gives these two as files, and whole areas are compared with them.
+    """
     sys.path.insert(0, os.path.join(TOP, "tools"))
     try:
         from show_board import two_sides

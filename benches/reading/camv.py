@@ -1,4 +1,4 @@
-"""What camv-rnd reads, by the SVG that it writes: lines, polygons, discs, boxes and arcs, in order, some of which clear."""
+"""What camv-rnd reads, by the SVG that it writes: lines, polygons, discs, boxes and arcs, in order; some clear."""
 import math
 import os
 import re
@@ -9,7 +9,7 @@ from . import BARE, COPPER, NEAR
 from .others import Told, put, run, version
 
 # Its own limit of time: it does not end on some files.
-SECONDS = 20
+SECONDS = 10
 # Micrometres: its SVG has millimetres of four decimals, and circles are told by corners.
 TOLERANCE, MARGIN = 30, 5
 # Copper below 0 is left out of its drawing, so what can be moved is read this far off.
@@ -135,14 +135,15 @@ def moved(data: bytes) -> Tuple[bytes, float]:
     if not form or b"G91" in data:
         return data, 0.0
     step = MOVED[unit] * 10 ** int(form[1])
-    put_off = lambda word: word[1] + b"%d" % (int(word[2]) + step)
+    put_off = lambda told: told[1] + b"%d" % (int(told[2]) + step)
+    word_of = lambda word: word if word.strip().startswith(b"G04") else re.sub(rb"([XY])([+-]?\d+)", put_off, word)
     parts, is_extended, head = [], False, True
     for part in re.split(rb"(%)", data):
         is_extended ^= part == b"%"
         if part == b"%" or is_extended:
             parts.append(part)
             continue
-        words = [word if word.strip().startswith(b"G04") else re.sub(rb"([XY])([+-]?\d+)", put_off, word) for word in part.split(b"*")]
+        words = [word_of(word) for word in part.split(b"*")]
         if head and any(word.strip() for word in words):
             # A first coordinate that is left out is 0 in the file.
             words[0], head = b"X%dY%dD02*\n" % (step, step) + words[0].lstrip(), False
@@ -171,14 +172,17 @@ class Camv:
     def is_there(self) -> bool:
         return bool(self.version)
 
-    def tolerance(self, data: bytes) -> str:
+    @property
+    def tolerance(self) -> str:
         return f"{TOLERANCE} um"
 
     def states(self, data: bytes, kind: str, places: List[Tuple[int, int]]) -> Told:
         body, off = moved(data) if kind == "copper" else moved_holes(data)
         with tempfile.TemporaryDirectory() as folder:
-            path, out = put(folder, "f.gbr" if kind == "copper" else "f.drl", body), os.path.join(folder, "f.svg")
-            said = "; ".join(dict.fromkeys(run(["camv-rnd", "-x", "svg", "--outfile", out, path], folder, SECONDS).strip().split("\n")))
+            path = put(folder, "f.gbr" if kind == "copper" else "f.drl", body)
+            out = os.path.join(folder, "f.svg")
+            said = run(["camv-rnd", "-x", "svg", "--outfile", out, path], folder, SECONDS).strip()
+            said = "; ".join(dict.fromkeys(said.split("\n")))
             if not os.path.exists(out):
                 return Told(None, said)
             with open(out, encoding="utf-8", errors="replace") as file:

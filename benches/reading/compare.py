@@ -1,4 +1,4 @@
-"""Files in all readers: places, what each reads of them, whole areas, and the smallest files that still differ."""
+"""Files in all readers: places, what each reads of them, whole areas, and smaller files that still differ."""
 import random
 import time
 import traceback
@@ -13,16 +13,16 @@ from .others import Told
 from .smallest import joined, parts_of, smallest
 
 Place = Tuple[int, int]
-# Of the places that differ at first sight so many are looked at again; the smallest file is sought for one of each reader.
-MOST_AGAIN, MOST_TRIALS = 12, {"gerbv": 150, "KLayout": 60, "camv-rnd": 100}
-SAME_IN, SAME_OUT, DIFFER, CLOSE, BETWEEN, UNSEEN, SETTLED = "same, copper", "same, none", "differ", "near a border", "between bounds", "not in view", "settled by a second look"
+# Of the places that differ at first sight so many are looked at again first; so many files are tried for a smaller one.
+MOST_AGAIN, MOST_TRIALS = 12, {"gerbv": 150, "KLayout": 80, "camv-rnd": 100}
+SAME_IN, SAME_OUT, DIFFER, SETTLED = "same, copper", "same, none", "differ", "settled by a second look"
+CLOSE, BETWEEN, UNSEEN = "near a border", "between bounds", "not in view"
 
 
 class Asked(NamedTuple):
-    """What is asked of each file: places of each sort, a seed, and whether smallest files are sought."""
+    """What is asked of each file: places of each sort, and a seed."""
     places: int = 2_000
     seed: int = 1
-    smaller: bool = True
 
 
 class Differing(NamedTuple):
@@ -46,7 +46,6 @@ class Row(NamedTuple):
     left: List[Left] = []
     said: Dict[str, str] = {}
     unread: List[str] = []
-    smaller: Dict[str, bytes] = {}
     fault: str = ""
     seconds: float = 0
 
@@ -76,9 +75,11 @@ class Work:
 
     def task(self) -> Task:
         """What KLayout is asked: of one file both have the same area, of two the real copper lies between them."""
-        names = ["below", "above"][:len(self.flats)]
-        pairs = {0: [], 1: [("file", "below", True)], 2: [("below", "file", False), ("file", "above", False)]}[len(self.flats)]
-        return Task({"file": self.file.data, **dict(zip(names, self.flats))}, self.file.kind, self.places, pairs, self.asked.places, self.asked.seed)
+        flats = dict(zip(("below", "above"), self.flats))
+        pairs = [("below", "file", False), ("file", "above", False)]
+        pairs = pairs if len(flats) == 2 else [("file", name, True) for name in flats]
+        given = {"file": self.file.data, **flats}
+        return Task(given, self.file.kind, self.places, pairs, self.asked.places, self.asked.seed)
 
     def add(self, looked: Looked) -> Looked:
         """Takes the places that KLayout adds, which its states have too."""
@@ -108,12 +109,12 @@ def sort_of(bounds: Tuple[int, int], state: Optional[int]) -> str:
 def judged(work: Work, told: Told) -> Tuple[Counter, List[Differing]]:
     """Counts of a reader's states, and the places that it has otherwise."""
     sorts = [sort_of(bounds, state) for bounds, state in zip(work.bounds, told.states)]
-    differ = [Differing(work.places[k], work.bounds[k][0], told.states[k]) for k, sort in enumerate(sorts) if sort == DIFFER]
-    return Counter(sorts), differ
+    off = [k for k, sort in enumerate(sorts) if sort == DIFFER]
+    return Counter(sorts), [Differing(work.places[k], work.bounds[k][0], told.states[k]) for k in off]
 
 
 def settled(reader, file: File, counts: Counter, differ: List[Differing]) -> List[Differing]:
-    """Those that still differ where they are looked at again; where none of the first is settled, the rest is not looked at."""
+    """Those that still differ where they are looked at again; where none of the first is settled, the rest is not."""
     left, first = [], differ[:MOST_AGAIN]
     for some in (first, differ[MOST_AGAIN:]):
         again = [reader.again(file.data, file.kind, it.place).states for it in some]
@@ -135,18 +136,17 @@ def alone(states: Dict[str, List[Optional[int]]], work: Work) -> List[Place]:
     return found
 
 
-def smaller(reader, work: Work, it: Differing) -> bytes:
-    """A smaller file that boardnet and a reader have otherwise at that place, as they do here."""
-    kind, ours = work.file.kind, work.ours
+def smaller(file: File, reader, it: Differing, ours: Ours) -> bytes:
+    """A smaller file that boardnet and a reader have otherwise at that place, as they do in this one; or nothing."""
 
     def holds(parts: List[bytes]) -> bool:
         data = joined(parts)
-        reading = ours.reading(data, kind)
-        if not reading.below or ours.states(reading, kind, [it.place])[0] != (it.ours, it.ours):
+        reading = ours.reading(data, file.kind)
+        if not reading.below or ours.states(reading, file.kind, [it.place])[0] != (it.ours, it.ours):
             return False
-        return reader.again(data, kind, it.place).states == [it.other]
+        return reader.again(data, file.kind, it.place).states == [it.other]
 
-    parts = parts_of(work.file.data, kind)
+    parts = parts_of(file.data, file.kind)
     return joined(smallest(parts, holds, MOST_TRIALS[reader.name])) if holds(parts) else b""
 
 
@@ -163,12 +163,9 @@ def finished(work: Work, readers: list, looked: Optional[Looked]) -> Row:
             found = settled(reader, file, counts[reader.name], found)
             differ.update({reader.name: found} if found else {})
     still = {it.place for found in differ.values() for it in found}
-    row = Row(file.name, file.kind, work.reading.how, work.reading.why, work.pieces, len(work.places), counts, differ,
+    return Row(file.name, file.kind, work.reading.how, work.reading.why, work.pieces, len(work.places), counts, differ,
               [place for place in alone(read, work) if place in still], looked.left if looked else [],
               {name: it.said for name, it in told.items() if it.said}, [name for name in told if name not in read])
-    if not work.asked.smaller:
-        return row
-    return row._replace(smaller={reader.name: smaller(reader, work, differ[reader.name][0]) for reader in readers if reader.name in differ})
 
 
 def compared(files: List[File], ours: Ours, readers: list, asked: Asked) -> List[Row]:

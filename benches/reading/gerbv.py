@@ -47,7 +47,8 @@ def inches(value: int, per: int = INCH, digits: int = 6) -> str:
 def words_of(view: View, out: str, path: str) -> List[str]:
     # A fifth of a pixel more, so that the count of pixels is not one less by rounding.
     size = "x".join(inches((5 * n + 1) * view.pitch, 5 * INCH) for n in (view.wide, view.high))
-    return ["gerbv", "-x", "png", "-D", inches(INCH * INCH // view.pitch), "-B", "0", "-b", "#000000", "-f", "#FFFFFFFF",
+    colours = ["-B", "0", "-b", "#000000", "-f", "#FFFFFFFF"]
+    return ["gerbv", "-x", "png", "-D", inches(INCH * INCH // view.pitch), *colours,
             "-O", f"{inches(view.left)};{inches(view.low)}", "-W", size, "-o", out, path]
 
 
@@ -62,8 +63,9 @@ class Gerbv:
     def is_there(self) -> bool:
         return bool(self.version and self.python)
 
-    def tolerance(self, data: bytes) -> str:
-        return f"{REACH} pixels of {PITCHES[0]} um, in views over 100 mm of up to {PITCHES[-1]} um; what differs is looked at again at 1 um"
+    @property
+    def tolerance(self) -> str:
+        return f"{REACH} pixels of {PITCHES[0]} um, of views over 100 mm up to {PITCHES[-1]}; of what differs 1 um"
 
     def states(self, data: bytes, kind: str, places: List[Tuple[int, int]], pitch: int = 0) -> Told:
         view = view_of(places, pitch)
@@ -74,7 +76,8 @@ class Gerbv:
             if not os.path.exists(out):
                 return Told(None, said)
             asked = "".join("%d %d\n" % view.pixel(place) for place in places)
-            done = subprocess.run([self.python, SIDE, out, str(REACH)], input=asked.encode(), stdout=subprocess.PIPE, check=True)
+            words = [self.python, SIDE, out, str(REACH)]
+            done = subprocess.run(words, input=asked.encode(), stdout=subprocess.PIPE, check=True)
         return Told([STATES[it] for it in done.stdout.decode().strip()], said)
 
     def again(self, data: bytes, kind: str, place: Tuple[int, int]) -> Told:
@@ -84,5 +87,6 @@ class Gerbv:
 
 def said_of(text: str) -> str:
     """gerbv's messages, each once, without those of attributes."""
-    rows = [IDLE.sub("", row).strip() for row in text.split("\n") if row.strip() and not re.search(r"extension found %T[FAOD]%", row)]
-    return "; ".join(dict.fromkeys(row for row in rows if row))
+    rows = [row for row in text.split("\n") if not re.search(r"extension found %T[FAOD]%", row)]
+    told = [IDLE.sub("", row).strip() for row in rows]
+    return "; ".join(dict.fromkeys(row for row in told if row))

@@ -1,4 +1,4 @@
-"""What KLayout reads, asked of its importer of PCB files: states of places, places near its borders, and what is left of two files' copper."""
+"""What KLayout's importer of PCB files reads: states of places, places near borders, what is left of two areas."""
 import json
 import os
 import re
@@ -21,7 +21,7 @@ OFFSET = re.compile(rb"I([+-]?\d+)(?:J([+-]?\d+))?|J([+-]?\d+)")
 
 
 class Left(NamedTuple):
-    """What one of two files has alone, but for the tolerance: parts, square nanometres, and boxes in nanometres of some."""
+    """What one of two files has alone, but for the tolerance: parts, square nanometres, and boxes of some."""
     parts: int
     area: int
     boxes: List[List[int]]
@@ -35,7 +35,7 @@ class Looked(NamedTuple):
 
 
 class Task(NamedTuple):
-    """What is asked of some files of one kind; the states and the borders are of the first, whose tolerance counts, times `wider`."""
+    """What is asked of files of a kind; states and borders are of the first, whose tolerance counts, times `wider`."""
     files: Dict[str, bytes]
     kind: str
     places: List[Tuple[int, int]]
@@ -51,8 +51,9 @@ class Task(NamedTuple):
         steps = [2, 3, 5, 20, 60] if least < 3 * MICROMETRE else [2 * least // MICROMETRE, 4 * least // MICROMETRE]
         os.mkdir(folder)
         files = {name: put(folder, name + end, text) for name, text in self.files.items()}
-        return {"files": files, "of": of, "circle": CIRCLE if len(data) < LARGE else COARSE, "tolerance": least, "places": self.places,
-                "pairs": self.pairs, "borders": min(self.borders, MOST_BORDERS), "steps": steps, "seed": self.seed}
+        circle, borders = CIRCLE if len(data) < LARGE else COARSE, min(self.borders, MOST_BORDERS)
+        return {"files": files, "of": of, "circle": circle, "tolerance": least, "places": self.places,
+                "pairs": self.pairs, "borders": borders, "steps": steps, "seed": self.seed}
 
 
 def tolerance(data: bytes) -> int:
@@ -78,8 +79,9 @@ class KLayout:
     def is_there(self) -> bool:
         return bool(self.version)
 
-    def tolerance(self, data: bytes) -> str:
-        return f"1 um; of files with arcs 0.0049 of the longest radius more, for its 32 chords; of what differs {WIDER} times that"
+    @property
+    def tolerance(self) -> str:
+        return f"1 um, with arcs 0.0049 of the longest radius more, for 32 chords; of what differs {WIDER} times that"
 
     def looked(self, tasks: List[Task]) -> List[Looked]:
         """The answers to tasks, by one run: KLayout takes seconds to begin."""
@@ -99,13 +101,13 @@ class KLayout:
         return self.looked([Task({"f": data}, kind, places)])[0].told
 
     def again(self, data: bytes, kind: str, place: Tuple[int, int]) -> Told:
-        """A place looked at with a wider square: in a sharp corner borders lie further apart than chords and arcs do."""
+        """A place looked at with a wider square: in a sharp corner borders are further apart than chords and arcs."""
         return self.looked([Task({"f": data}, kind, [place], wider=WIDER)])[0].told
 
 
 def looked_of(told: dict) -> Looked:
-    said = "; ".join(told["errors"].values())
-    return Looked(Told(told.get("states"), said), [tuple(it) for it in told.get("borders", [])], [Left(**it) for it in told["left"]])
+    states = Told(told.get("states"), "; ".join(told["errors"].values()))
+    return Looked(states, [tuple(it) for it in told.get("borders", [])], [Left(**it) for it in told["left"]])
 
 
 def said_of(text: str) -> List[str]:

@@ -1,8 +1,9 @@
-"""Run by klayout -b: reads Gerber or drill files with KLayout's importer, and writes the answers to tasks; both are JSON.
+"""Run by klayout -b: reads Gerber or drill files with KLayout's importer and writes answers to tasks, both as JSON.
 
-A task: `files`, names and paths in a folder of its own; `circle`, corners of a full circle; `tolerance` in nanometres; `of`, a name, and `places` of
-whose states are asked; `borders`, a count of places to choose near its edges, `steps` from them and a `seed`; `pairs` of names [a, b, is_both],
-of which what is in a alone, or in one alone, is left once both sides of each border are taken off by the tolerance.
+A task: `files`, names and paths in a folder of its own; `circle`, corners of a full circle; `tolerance` in nanometres;
+`of`, a name, and `places` whose states are asked; `borders`, a count of places to choose near its edges, whose states
+are told too, `steps` from them and a `seed`; `pairs` of names [a, b, is_both], of which what is in a alone, or in one
+alone, is left once its borders are moved in by the tolerance.
 """
 import json
 import os
@@ -44,8 +45,9 @@ def region_of(path, circle):
 def states(region, places, tolerance):
     """1 where a square about a place lies within, 0 where it is outside, else -1."""
     boxes = pya.Region()
-    for x, y in set(map(tuple, places)):
-        boxes.insert(pya.Box(x * MICROMETRE - tolerance, y * MICROMETRE - tolerance, x * MICROMETRE + tolerance, y * MICROMETRE + tolerance))
+    for spot in set(map(tuple, places)):
+        x, y = (v * MICROMETRE for v in spot)
+        boxes.insert(pya.Box(x - tolerance, y - tolerance, x + tolerance, y + tolerance))
     boxes.merged_semantics = False
     at = lambda box: (box.bbox().center().x // MICROMETRE, box.bbox().center().y // MICROMETRE)
     within, met = ({at(box) for box in some.each()} for some in (boxes.inside(region), boxes.interacting(region)))
@@ -70,8 +72,9 @@ def left(one, other, is_both, tolerance):
     rest = (one ^ other) if is_both else one - other
     rest = rest.sized(-tolerance)
     rest.merge()
-    boxes = [part.bbox() for _, part in zip(range(20), rest.each())]
-    return {"parts": rest.count(), "area": rest.area(), "boxes": [[box.left, box.bottom, box.right, box.top] for box in boxes]}
+    some = [part.bbox() for _, part in zip(range(20), rest.each())]
+    boxes = [[box.left, box.bottom, box.right, box.top] for box in some]
+    return {"parts": rest.count(), "area": rest.area(), "boxes": boxes}
 
 
 def answer(task):

@@ -1,13 +1,15 @@
 """Netlists that tools write, read back: each record once by boardnet, and each pad of the copper named once.
 
-Records are read here by their columns alone, and the pads of copper by their attributes; no code is shared with what is compared.
+Records are read here by their columns alone, and the pads of copper by their attributes; no code is shared with what is
+compared.
 """
 import json
 import os
 import re
-import subprocess
 from collections import Counter
 from typing import Dict, Iterator, List, NamedTuple, Tuple
+
+from .ours import command
 
 RECORD = re.compile(r"3[12]7(.{14}).{3}(.{6})(.)(.{4}).{7}A(\d\d)X([-+ ]\d{6})Y([-+ ]\d{6})")
 UNITS = {"CUST 0": 25_400, "CUST 1": 10_000}
@@ -27,7 +29,9 @@ class Record(NamedTuple):
 def records_of(text: str) -> List[Record]:
     unit = UNITS[re.search(r"^P +UNITS +(CUST [01])", text, re.M)[1]]
     rows = [RECORD.match(line) for line in text.splitlines()]
-    return [Record(row[1].strip(), f"{row[2].strip()}-{row[4].strip()}", int(row[5]), (int(row[6]) * unit, int(row[7]) * unit)) for row in rows if row]
+    pin = lambda row: f"{row[2].strip()}-{row[4].strip()}"
+    place = lambda row: (int(row[6]) * unit, int(row[7]) * unit)
+    return [Record(row[1].strip(), pin(row), int(row[5]), place(row)) for row in rows if row]
 
 
 def pads_of(text: str) -> Counter:
@@ -53,7 +57,7 @@ def packages(paths: List[str]) -> Iterator[str]:
 
 
 def compared(folder: str, program: str) -> Dict[str, object]:
-    """Counts of a package that `check` takes: records, points of the report that are not theirs, pads without a record or with two."""
+    """Counts of a package: records, points of the report that are not theirs, pads without a record or with two."""
     with open(os.path.join(folder, "m.json"), encoding="utf-8") as file:
         manifest = json.load(file)
     texts = {}
@@ -61,14 +65,14 @@ def compared(folder: str, program: str) -> Dict[str, object]:
         with open(os.path.join(folder, name), encoding="latin-1") as file:
             texts[name] = file.read()
     records = records_of(texts[manifest["netlist"]])
-    done = subprocess.run([program, "check", "m.json"], cwd=folder, stdout=subprocess.PIPE, stderr=subprocess.PIPE, check=False)
-    told = {"records": len(records), "line": done.stderr.decode("utf-8", "replace").strip().split("\n")[0]}
-    if done.returncode in (0, 1):
-        told["points amiss"] = amiss(records, done.stdout.decode(), len(manifest["copper"]))
+    done = command([program, "check", "m.json"], folder)
+    told = {"records": len(records), "line": done.line}
+    if done.status in (0, 1):
+        told["points amiss"] = amiss(records, done.out.decode(), len(manifest["copper"]))
     named = Counter(record.pin for record in records)
     pads = sum((pads_of(texts[name]) for name in manifest["copper"]), Counter())
-    told.update({"pads": len(pads), "pads without a record": sum(not named[pin] for pin in pads), "pads with records of two places": twice(records, pads)})
-    return told
+    unnamed, more = sum(not named[pin] for pin in pads), twice(records, pads)
+    return {**told, "pads": len(pads), "pads without a record": unnamed, "pads with records of two places": more}
 
 
 def twice(records: List[Record], pads: Counter) -> int:
@@ -85,5 +89,7 @@ def amiss(records: List[Record], report: str, layers: int) -> int:
     points: Dict[int, set] = {}
     for told in POINT.finditer(report):
         points.setdefault(int(told[2]), set()).add((int(told[3]), spots[int(told[1])]))
-    wanted = [{(layer, record.place) for layer in ({1, layers} if record.access == 0 else {record.access})} for record in records]
-    return sum(points.get(number, set()) != it for number, it in enumerate(wanted, 1)) + max(0, len(points) - len(records))
+    asked = lambda record: {1, layers} if record.access == 0 else {record.access}
+    wanted = [{(layer, record.place) for layer in asked(record)} for record in records]
+    other = sum(points.get(number, set()) != it for number, it in enumerate(wanted, 1))
+    return other + max(0, len(points) - len(records))

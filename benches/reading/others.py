@@ -21,9 +21,9 @@ class Told(NamedTuple):
 def run(words: List[str], folder: str, seconds: int = SECONDS) -> str:
     """What a reader prints, errors too."""
     more = {"QT_QPA_PLATFORM": "offscreen", "HOME": folder, "PYTHONDONTWRITEBYTECODE": "1"}
+    how = {"cwd": folder, "env": {**os.environ, **more}, "timeout": seconds, "check": False}
     try:
-        done = subprocess.run(words, cwd=folder, stdin=subprocess.DEVNULL, stdout=subprocess.PIPE, stderr=subprocess.STDOUT,
-                              env={**os.environ, **more}, timeout=seconds, check=False)
+        done = subprocess.run(words, stdin=subprocess.DEVNULL, stdout=subprocess.PIPE, stderr=subprocess.STDOUT, **how)
     except subprocess.TimeoutExpired:
         return f"stopped after {seconds} seconds"
     return done.stdout.decode("utf-8", "replace")
@@ -53,6 +53,7 @@ def python_with_pictures() -> str:
     """A Python that has Pillow, or nothing."""
     with tempfile.TemporaryDirectory() as folder:
         for python in PYTHONS:
-            if os.access(python, os.X_OK) and run([python, "-c", "import PIL.Image; print('is', 'there')"], folder, 20) == "is there\n":
+            words = [python, "-c", "import PIL.Image; print('is', 'there')"]
+            if os.access(python, os.X_OK) and run(words, folder, 20) == "is there\n":
                 return python
     return ""

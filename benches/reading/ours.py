@@ -1,4 +1,4 @@
-"""What boardnet reads in one copper or drill file, asked by commands: the program's `check` and `flatten`, and `show`."""
+"""What boardnet reads in a copper or drill file, asked by commands: the program's `check` and `flatten`, and `show`."""
 import json
 import os
 import re
@@ -34,7 +34,7 @@ LATE = Answer(-1, b"", "too long")
 
 
 class Reading(NamedTuple):
-    """How boardnet takes a file: `how` is a word of HOWS, `why` the kind of what `check` refuses, `below` and `above` files that it takes."""
+    """How boardnet takes a file, a word of HOWS; the kind of what `check` refuses; what it takes below and above."""
     how: str
     why: str
     below: bytes = b""
@@ -53,9 +53,9 @@ def netlist(places: Iterable[Place]) -> bytes:
 
 def command(words: List[str], folder: str, seconds: int = SECONDS, **more: str) -> Answer:
     """Runs a command in a folder."""
+    how = {"cwd": folder, "env": {**os.environ, **more}, "timeout": seconds, "check": False}
     try:
-        done = subprocess.run(words, cwd=folder, stdin=subprocess.DEVNULL, stdout=subprocess.PIPE, stderr=subprocess.PIPE,
-                              timeout=seconds, env={**os.environ, **more}, check=False)
+        done = subprocess.run(words, stdin=subprocess.DEVNULL, stdout=subprocess.PIPE, stderr=subprocess.PIPE, **how)
     except subprocess.TimeoutExpired:
         return LATE
     return Answer(done.returncode, done.stdout, done.stderr.decode("utf-8", "replace").strip().split("\n")[0])
@@ -78,7 +78,8 @@ class Ours:
         with tempfile.TemporaryDirectory() as folder:
             drills = [{"file": name, "from": 1, "to": 1} for name in files if name.endswith(".drl")]
             manifest = {"copper": ["c.gbr"], "drills": drills, "netlist": "n.ipc"}
-            for name, data in {"c.gbr": EMPTY, **files, "n.ipc": netlist(places), "m.json": json.dumps(manifest).encode()}.items():
+            more = {"n.ipc": netlist(places), "m.json": json.dumps(manifest).encode()}
+            for name, data in {"c.gbr": EMPTY, **files, **more}.items():
                 with open(os.path.join(folder, name), "wb") as file:
                     file.write(data)
             answer = command(words, folder, BOARDNET=self.program)
@@ -148,7 +149,8 @@ class Ours:
     def states(self, reading: Reading, kind: str, places: List[Place]) -> Bounds:
         """Of each place what the lower and the upper file say."""
         below = self.states_of(reading.below, kind, places)
-        return list(zip(below, below if reading.above is reading.below else self.states_of(reading.above, kind, places)))
+        is_one = reading.above is reading.below
+        return list(zip(below, below if is_one else self.states_of(reading.above, kind, places)))
 
 
 def name_of(kind: str) -> str:

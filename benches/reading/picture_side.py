@@ -1,7 +1,7 @@
 """The states of places in a picture: for each `x y` of standard input, in pixels from its lower left, 1, 0, b or -.
 
-Called as picture_side.py PICTURE REACH by a Python that has Pillow. A place is within where all pixels as far as REACH from its own are
-bright, outside where none is, else near a border; one nearer than that to the picture's edge is not told.
+Called as picture_side.py PICTURE REACH by a Python that has Pillow. A place is within where all pixels as far as REACH
+from its own are bright, outside where none is, else near a border; one nearer than that to the edge is not told.
 """
 import sys
 
@@ -18,7 +18,8 @@ def main(path: str, reach: int) -> None:
         if min(x, y) < reach or x >= width - reach or y >= height - reach:
             told.append("-")
             continue
-        some = [pixel[i, height - 1 - j] > 127 for i in range(x - reach, x + reach + 1) for j in range(y - reach, y + reach + 1)]
+        near = range(-reach, reach + 1)
+        some = [pixel[x + i, height - 1 - y - j] > 127 for i in near for j in near]
         told.append("1" if all(some) else "b" if any(some) else "0")
     print("".join(told))
 

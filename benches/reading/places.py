@@ -1,4 +1,4 @@
-"""The pieces of a file, as far as places are chosen by them: at random, and a few micrometres off their borders. All in whole numbers."""
+"""Places in a file, at random and a few micrometres off the borders of its pieces. All in whole numbers."""
 import random
 import re
 from decimal import Decimal
@@ -52,7 +52,7 @@ def pieces_of(flat: bytes) -> List[Piece]:
         elif told[7]:
             radius = sizes[told[7]]
         else:
-            corners = corners + [(int(told[3]), int(told[4]))] if is_area or told[5] == b"1" else [(int(told[3]), int(told[4]))]
+            corners = (corners if is_area or told[5] == b"1" else []) + [(int(told[3]), int(told[4]))]
             found += [Piece(radius, corners)] if not is_area and told[5] == b"1" else []
     return found
 
@@ -62,7 +62,7 @@ def whole(text: str, unit: int) -> int:
 
 
 def holes_of(data: bytes) -> List[Piece]:
-    """Roughly the holes, slots and routs of a drill file whose numbers have points: modes are not followed, since places alone are chosen."""
+    """Roughly the holes, slots and routs of a drill file whose numbers have points. Modes are not followed."""
     text = data.decode("latin-1")
     unit = INCH if re.search(r"^(INCH|M72)", text, re.M) else MILLIMETRE
     sizes, radius, at, found = {}, MILLIMETRE // 2, (0, 0), []
@@ -90,11 +90,12 @@ def beside(rng: random.Random, piece: Piece) -> Spot:
     """A place near the border of a piece."""
     step = rng.choice(STEPS) * rng.choice((-1, 1)) * U
     a, b = rng.choice(piece.edges) if piece.radius == AREA else (piece.corners[0], piece.corners[-1])
-    far, along, length = step if piece.radius == AREA else piece.radius + step, rng.choice((0, rng.randrange(1001))), distance(a, b)
+    far, length = step if piece.radius == AREA else piece.radius + step, distance(a, b)
     if length and (piece.radius == AREA or rng.random() < .5):
-        far *= rng.choice((-1, 1))
+        far, along = far * rng.choice((-1, 1)), rng.choice((0, rng.randrange(1001)))
         dx, dy = b[0] - a[0], b[1] - a[1]
-        return micrometres(a[0] + along * dx // 1000 - dy * far // length, a[1] + along * dy // 1000 + dx * far // length)
+        x, y = a[0] + along * dx // 1000, a[1] + along * dy // 1000
+        return micrometres(x - dy * far // length, y + dx * far // length)
     x, y = rng.randint(-999, 999), rng.randint(1, 999) * rng.choice((-1, 1))
     end, other = rng.choice(((a, b), (b, a)))
     if x * (end[0] - other[0]) + y * (end[1] - other[1]) < 0:
@@ -107,7 +108,8 @@ def near(rng: random.Random, pieces: List[Piece], count: int) -> List[Spot]:
     """Places near borders: of pieces one by one, and of all length alike."""
     if not pieces:
         return []
-    chosen = rng.choices(pieces, k=count - count // 2) + rng.choices(pieces, [piece.length + 1 for piece in pieces], k=count // 2)
+    lengths = [piece.length + 1 for piece in pieces]
+    chosen = rng.choices(pieces, k=count - count // 2) + rng.choices(pieces, lengths, k=count // 2)
     return told([beside(rng, piece) for piece in chosen])
 
 
@@ -121,7 +123,8 @@ def box_of(pieces: List[Piece]) -> Tuple[int, int, int, int]:
 def anywhere(rng: random.Random, pieces: List[Piece], count: int) -> List[Spot]:
     """Places at random in the box of pieces and a little past it."""
     left, low, right, high = box_of(pieces)
-    return told([(rng.randint(left - MARGIN, right + MARGIN), rng.randint(low - MARGIN, high + MARGIN)) for _ in range(count)])
+    some = lambda least, most: rng.randint(least - MARGIN, most + MARGIN)
+    return told([(some(left, right), some(low, high)) for _ in range(count)])
 
 
 def told(places: List[Spot]) -> List[Spot]:

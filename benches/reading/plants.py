@@ -1,4 +1,5 @@
-"""Faults planted in the reading rules: boardnet is handed a file that says what the faulty rule would read in the true one.
+"""Faults planted in the reading rules: boardnet is handed a file that says what the faulty rule would read in the true
+one.
 
 The others read the true one, so the bench has to see each: by the rules' own columns, and by places of random files.
 """
@@ -22,7 +23,8 @@ def other_way(data: bytes, kind: str) -> bytes:
     """Arcs turn the other way, and so do figures of macros."""
     if kind == "drill":
         return data
-    arcs = re.sub(rb"(?<![\w.])G(0?)([23])(?=[XYIJD*])", lambda told: b"G" + told[1] + (b"3" if told[2] == b"2" else b"2"), data)
+    other = {b"2": b"3", b"3": b"2"}
+    arcs = re.sub(rb"(?<![\w.])G(0?)([23])(?=[XYIJD*])", lambda told: b"G" + told[1] + other[told[2]], data)
     turned = lambda told: told[1] + (told[2][1:] if told[2].startswith(b"-") else b"-" + told[2])
     return re.sub(rb"(\*\s*(?:4|5|20|21|22|7),[^*%]*,)(-?[\d.]+)(?=\*)", turned, arcs)
 
@@ -34,4 +36,5 @@ def ends_of_obrounds(data: bytes, kind: str) -> bytes:
     return re.sub(rb"^((?:[XY][-+.\d]+)+)G85(?:[XY][-+.\d]+)+", rb"\1", data, flags=re.M)
 
 
-PLANTS: Dict[str, Callable[[bytes, str], bytes]] = {"radius": radius_for_diameter, "turn": other_way, "obround": ends_of_obrounds}
+PLANTS: Dict[str, Callable[[bytes, str], bytes]] = {
+    "radius": radius_for_diameter, "turn": other_way, "obround": ends_of_obrounds}

@@ -1,13 +1,15 @@
-"""Random lawful files that mix the words of all forms, each the same for the same seed. Lengths are whole numbers of the file's last place."""
+"""Random lawful files that mix the words of all forms, each the same for the same seed. Lengths are in last places."""
 import random
 from typing import List, Tuple
 
-# Forms: those of `check`; pads by macros; clear polarity, arcs, holes and polygons; changed and repeated objects too; drills.
+# Forms: those of `check`; pads by macros; clear polarity, arcs, holes and polygons; changed objects too; drills.
 FORMS = ("plain", "macros", "clear", "changed", "drill")
 SPAN, INCH_TENTHS = 12, 254       # Half the board's side in millimetres; tenths of a millimetre in an inch.
 # Directions about a middle, in the order of their turns: contours about them do not cross themselves.
-ROUND = ((5, 0), (4, 2), (4, 3), (3, 4), (1, 5), (0, 5), (-2, 4), (-3, 4), (-4, 3), (-5, 1), (-5, 0), (-4, -2), (-4, -3), (-3, -4), (-1, -5),
-         (0, -5), (2, -4), (3, -4), (4, -3), (5, -1))
+ROUND = ((5, 0), (4, 2), (4, 3), (3, 4), (1, 5), (0, 5), (-2, 4), (-3, 4), (-4, 3), (-5, 1),
+         (-5, 0), (-4, -2), (-4, -3), (-3, -4), (-1, -5), (0, -5), (2, -4), (3, -4), (4, -3), (5, -1))
+# The corners of a square with a hole, by a cut to it: in turn in its halves and those of its hole.
+CUT_IN = ("-a-a", "+a-a", "+a+a", "-a+a", "-a0", "-b0", "-b+b", "+b+b", "+b-b", "-b-b", "-b0", "-a0")
 IDLE = ("G04 a comment X1Y1D03*", "*", "%TA.AperFunction,Conductor*%", "%TD*%", "%LNabc*%")
 HEADS = ("%IPPOS*%", "%INx*%", "%OFA0B0*%", "G75*", "G01*", "%LPD*%")
 CHANGES = ("%LMX*%", "%LMXY*%", "%LR90*%", "%LR30*%", "%LS1.5*%")
@@ -90,7 +92,8 @@ class Copper(Random):
 
     def operation(self, spot: Spot, code: int, is_whole: bool = False) -> None:
         """A move, draw or flash; coordinates that stay may be left out, and the code of a draw behind a draw."""
-        text = "".join(axis + self.coordinate(v) for axis, v, old in zip("XY", spot, self.at) if is_whole or v != old or self.chance(50))
+        stands = lambda v, old: is_whole or v != old or self.chance(50)
+        text = "".join(axis + self.coordinate(v) for axis, v, old in zip("XY", spot, self.at) if stands(v, old))
         if not (code == 1 and self.last == 1 and text and self.chance(30)):
             text += f"D{code}" if self.chance(10) else f"D0{code}"
         if self.mode in (0, 1) and self.chance(15):
@@ -117,7 +120,8 @@ class Copper(Random):
         name = "C" if not self.made else self.rng.choice(names)
         self.number += self.rng.choice((1, 1, 1, 5))
         zero = "0" if self.chance(7) else ""
-        words = {"C": self.circle, "H": self.holed, "P": self.polygon, "M": self.macro}.get(name, lambda: self.sides(name))()
+        how = {"C": self.circle, "H": self.holed, "P": self.polygon, "M": self.macro}.get(name)
+        words = how() if how else self.sides(name)
         self.word(f"%ADD{zero}{self.number}{words}*%")
         self.made[self.number] = name
 
@@ -170,13 +174,15 @@ class Copper(Random):
         if code == 5:
             return f"5,1,{self.rng.randint(3, 12)},0,0,{part(self.size(500, 2_000))},{turn}"
         if code == 21:
-            return f"21,1,{part(self.size(400, 2_000))},{part(self.size(400, 2_000))},{part(self.off())},{part(self.off())},{turn}"
+            sides = f"{part(self.size(400, 2_000))},{part(self.size(400, 2_000))}"
+            return f"21,1,{sides},{part(self.off())},{part(self.off())},{turn}"
         if code == 20:
             (x, y), more = (self.off(), self.off()), self.size(500, 2_000)
             to = self.rng.choice(((x + more, y), (x, y + more)))
             return f"20,1,{part(self.size(300, 1_000))},{','.join(map(self.decimal, (x, y, *to)))},{turn}"
         corners = self.contour((self.off(500), self.off(500)), 1_500)
-        return f"4,1,{len(corners)}," + ",".join(self.decimal(v) for spot in corners + corners[:1] for v in spot) + f",{turn}"
+        told = ",".join(self.decimal(v) for spot in corners + corners[:1] for v in spot)
+        return f"4,1,{len(corners)},{told},{turn}"
 
     # ---- objects
 
@@ -190,7 +196,8 @@ class Copper(Random):
     def cut_in(self, middle: Spot) -> List[Spot]:
         """The corners of a square with a hole, by a cut to it."""
         (x, y), a, b = middle, self.length(3_000), self.length(1_000)
-        return [(x + i, y + j) for i, j in ((-a, -a), (a, -a), (a, a), (-a, a), (-a, 0), (-b, 0), (-b, b), (b, b), (b, -b), (-b, -b), (-b, 0), (-a, 0))]
+        far = {"-a": -a, "+a": a, "-b": -b, "+b": b, "0": 0}
+        return [(x + far[it[:2]], y + far[it[2:]]) for it in CUT_IN]
 
     def region(self) -> None:
         self.straight()
@@ -276,7 +283,8 @@ class Drill(Random):
         head = ["INCH" if inch else "METRIC"] + ["FMAT,2"] * self.chance(50)
         rng.shuffle(head)
         tools = rng.sample(range(1, 60), rng.randint(1, 5))
-        self.rows = ["M48", *head, *(f"{self.tool(it)}C{self.pointed(self.size())}" for it in tools), "%"] + ["G90", "G05"] * self.chance(50)
+        self.rows = ["M48", *head, *(f"{self.tool(it)}C{self.pointed(self.size())}" for it in tools), "%"]
+        self.rows += ["G90", "G05"] * self.chance(50)
         self.is_first = True
         for it in rng.sample(tools, len(tools)):
             self.rows.append(self.tool(it))
@@ -306,7 +314,8 @@ class Drill(Random):
         elif how < 85:
             self.rows.append(f"{self.place(True)}G85{self.place()}")
         elif how < 95:
-            self.rows += ["G00" + self.place(True), "M15", *("G01" + self.place() for _ in range(self.rng.randint(1, 3))), "M16", "G05"]
+            along = ["G01" + self.place() for _ in range(self.rng.randint(1, 3))]
+            self.rows += ["G00" + self.place(True), "M15", *along, "M16", "G05"]
         else:
             self.rows.append("; X1.0Y1.0")
         self.is_first = False

@@ -34,8 +34,9 @@ class Row(NamedTuple):
 
     @property
     def otherwise(self) -> List[str]:
-        """The readers that read otherwise than the specification says, or, where it says nothing, than boardnet does."""
-        meant = "".join(ours if says == "?" else says for says, ours in zip(self.rule.says, self.states or self.rule.says))
+        """The readers that read otherwise than the specification says or, where it says nothing, than boardnet."""
+        both = zip(self.rule.says, self.states or self.rule.says)
+        meant = "".join(ours if says == "?" else says for says, ours in both)
         return [cell.reader for cell in self.others if is_otherwise(meant, cell.states)]
 
 
@@ -48,7 +49,8 @@ def rows_of(some: List[Rule], ours: Ours, readers: list) -> List[Row]:
         else:
             told = [reader.states(rule.data, rule.kind, rule.places) for rule in some]
         for cell, it in zip(cells, told):
-            cell.append(Cell(reader.name, None if it.states is None else "".join(SIGNS[state] for state in it.states), it.said))
+            states = None if it.states is None else "".join(SIGNS[state] for state in it.states)
+            cell.append(Cell(reader.name, states, it.said))
     return [Row(rule, column(ours, rule), cell) for rule, cell in zip(some, cells)]
 
 
@@ -57,7 +59,8 @@ def line_of(row: Row) -> str:
     off = row.otherwise
     cells = [f"{cell.reader} {cell.states or 'none'}{'!' if cell.reader in off else ''}" for cell in row.others]
     wrong = "" if row.is_kept else f"  BOARDNET READS OTHERWISE: its column has {row.rule.reads}"
-    return f"{row.rule.name}: {row.rule.has} ({row.rule.section}): says {row.rule.says}; boardnet {row.ours}; {', '.join(cells)}{wrong}"
+    head = f"{row.rule.name}: {row.rule.has} ({row.rule.section})"
+    return f"{head}: says {row.rule.says}; boardnet {row.ours}; {', '.join(cells)}{wrong}"
 
 
 def markdown(rows: List[Row]) -> List[str]:
@@ -67,7 +70,8 @@ def markdown(rows: List[Row]) -> List[str]:
     for row in rows:
         if row.otherwise:
             off = row.otherwise
-            cells = [(f"**{cell.states}**" if cell.reader in off else cell.states) if cell.states else "reads none" for cell in row.others]
+            bold = lambda cell: f"**{cell.states}**" if cell.reader in off else cell.states
+            cells = [bold(cell) if cell.states else "reads none" for cell in row.others]
             out.append(f"| {row.rule.has} | {row.rule.section} | {row.rule.says} | {row.ours} | {' | '.join(cells)} |")
     return out
 
@@ -76,7 +80,8 @@ def counts(rows: List[Row]) -> List[str]:
     """How boardnet takes the rules, and how many each reader reads otherwise, or not at all."""
     hows = [row.ours.split()[0] for row in rows]
     told = ", ".join(f"{hows.count(how)} {how}" for how in dict.fromkeys(hows))
-    out = [f"{len(rows)} rules: boardnet reads {told}; otherwise than its own column {sum(not row.is_kept for row in rows)}"]
+    amiss = sum(not row.is_kept for row in rows)
+    out = [f"{len(rows)} rules: boardnet reads {told}; otherwise than its own column {amiss}"]
     wrong = sum(is_otherwise(row.rule.says, row.states) for row in rows)
     out.append(f"  otherwise than the specification says: boardnet {wrong}")
     for k, name in enumerate(cell.reader for cell in rows[0].others):

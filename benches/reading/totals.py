@@ -14,9 +14,12 @@ def has_left(row: Row) -> bool:
 
 def line_of(row: Row) -> str:
     """A file's line; nothing where all that read it read the same."""
-    told = [f"{name} differs at {row.counts[name][DIFFER]} of {row.places} places, as {found[0].place} um: boardnet {found[0].ours}, it {found[0].other}"
-            for name, found in row.differ.items()]
-    told += [f"KLayout has {it.parts} parts otherwise, {it.area / SQUARE_MILLIMETRE:.6f} mm2, as at {it.boxes[0]} nm" for it in row.left if it.parts]
+    told = []
+    for name, (it, *_) in row.differ.items():
+        count = f"{row.counts[name][DIFFER]} of {row.places} places"
+        told.append(f"{name} differs at {count}, as {it.place} um: boardnet {it.ours}, it {it.other}")
+    told += [f"KLayout has {it.parts} parts otherwise, {it.area / SQUARE_MILLIMETRE:.6f} mm2, as at {it.boxes[0]} nm"
+             for it in row.left if it.parts]
     told += [f"ALL READERS DIFFER at {len(row.alone)} places"] if row.alone else []
     told += [f"not read by {name}: {row.said.get(name, '')[:100]}" for name in row.unread]
     told += [f"FAULT {row.fault}"] if row.fault else []
@@ -25,11 +28,11 @@ def line_of(row: Row) -> str:
     return f"{row.file}: {row.how}; {'; '.join(told)}" if told else ""
 
 
-def smallest_of(row: Row) -> Iterator[str]:
-    """The smallest files that a reader still has otherwise."""
-    for name, data in row.smaller.items():
-        text = data.decode("latin-1").replace("\n", " ").strip()
-        yield f"  smallest for {name}: {text if len(text) <= MOST_SHOWN else f'{len(data)} bytes'}" if text else f"  smallest for {name}: not found"
+def smaller_of(row: Row, name: str, data: bytes) -> str:
+    """A smaller file that a reader still has otherwise."""
+    text, it = data.decode("latin-1").replace("\n", " ").strip(), row.differ[name][0]
+    told = text if len(text) <= MOST_SHOWN else f"{len(data)} bytes, the first of which are {text[:MOST_SHOWN]}"
+    return f"  smaller than {row.file}, {name} at {it.place}, boardnet {it.ours}, it {it.other}: {told or 'none found'}"
 
 
 def totals(rows: List[Row], head: str) -> Iterator[str]:
@@ -39,7 +42,8 @@ def totals(rows: List[Row], head: str) -> Iterator[str]:
         hows = Counter(row.how for row in some)
         if some:
             taken = ", ".join(f"{n} {how}" for how, n in hows.most_common())
-            yield f"{head}, {kind}: {len(some)} files ({taken}), {sum(row.pieces for row in some)} pieces, {sum(row.places for row in some)} places"
+            pieces, places = sum(row.pieces for row in some), sum(row.places for row in some)
+            yield f"{head}, {kind}: {len(some)} files ({taken}), {pieces} pieces, {places} places"
         for name in dict.fromkeys(name for row in some for name in row.counts):
             yield "  " + of_reader(name, some)
         areas = [row for row in some if row.left]
@@ -54,8 +58,9 @@ def of_reader(name: str, rows: List[Row]) -> str:
     compared = count[SAME_IN] + count[SAME_OUT] + count[DIFFER]
     rest = ", ".join(f"{count[it]} {it}" for it in (SETTLED, CLOSE, BETWEEN, UNSEEN) if count[it])
     files = sum(name in row.differ for row in read)
-    return f"{name}: {len(read)} files, {compared} places compared ({count[SAME_IN]} copper, {count[SAME_OUT]} none), " \
-           f"{count[DIFFER]} differ in {files} files; {rest}"
+    same = f"{count[SAME_IN]} copper, {count[SAME_OUT]} none"
+    differ = f"{count[DIFFER]} differ in {files} files"
+    return f"{name}: {len(read)} files, {compared} places compared ({same}), {differ}; {rest}"
 
 
 def refusals(rows: List[Row]) -> str:
