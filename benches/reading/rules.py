@@ -1,8 +1,8 @@
 """The small files, one rule each, in small_files/*.txt; and whether boardnet reads each as its own column says.
 
-A rule is a line `name | section | what it has`, the file's lines parted by blanks (`MM` for the usual format and unit,
-`<x,y>` for a coordinate in millimetres, `~` for a blank, or a Python literal), and a line `at x,y .. | says ..` and
-`| reads ..`: places in millimetres, what the specification says of each (1 copper, 0 none, ? nothing), and boardnet's own
+A rule is a line `name | section | what it has`; the file's lines, parted by blanks (`MM` is the usual format and unit,
+`<x,y>` a coordinate in millimetres, `~` a blank), or a Python literal; and a line `at x,y .. | says .. | reads ..`.
+These are places in millimetres; what the specification says of each: 1 copper, 0 none, ? nothing; and boardnet's own
 column: how it takes the file, of each place 1, 0 or, where its bounds differ, ?, and the kind by which `check` refuses.
 """
 import ast
