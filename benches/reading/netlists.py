@@ -57,7 +57,7 @@ def packages(paths: List[str]) -> Iterator[str]:
 
 
 def compared(folder: str, program: str) -> Dict[str, object]:
-    """Counts of a package: records, points of the report that are not theirs, pads without a record or with two."""
+    """Counts of a package: records, points of the report that are not theirs, pads by their names."""
     with open(os.path.join(folder, "m.json"), encoding="utf-8") as file:
         manifest = json.load(file)
     texts = {}
@@ -69,18 +69,17 @@ def compared(folder: str, program: str) -> Dict[str, object]:
     told = {"records": len(records), "line": done.line}
     if done.status in (0, 1):
         told["points amiss"] = amiss(records, done.out.decode(), len(manifest["copper"]))
-    named = Counter(record.pin for record in records)
-    pads = sum((pads_of(texts[name]) for name in manifest["copper"]), Counter())
-    unnamed, more = sum(not named[pin] for pin in pads), twice(records, pads)
-    return {**told, "pads": len(pads), "pads without a record": unnamed, "pads with records of two places": more}
+    if any(record.pin != "-" for record in records):
+        told.update(pads(records, [texts[name] for name in manifest["copper"]]))
+    return told
 
 
-def twice(records: List[Record], pads: Counter) -> int:
-    """Pins with records of more places than they have flashes on one layer."""
-    places: Dict[str, set] = {}
-    for record in records:
-        places.setdefault(record.pin, set()).add(record.place)
-    return sum(len(found) > max(1, pads[pin]) for pin, found in places.items() if pin in pads)
+def pads(records: List[Record], layers: List[str]) -> Dict[str, int]:
+    """How often the records name each pad: one that has more flashes on a layer has as many records."""
+    named, flashes = Counter(record.pin for record in records), [pads_of(text) for text in layers]
+    most = {pin: max(it[pin] for it in flashes) for it in flashes for pin in it}
+    unnamed, more = sum(not named[pin] for pin in most), sum(named[pin] > most[pin] for pin in most)
+    return {"pads": len(most), "pads without a record": unnamed, "pads with more records than flashes": more}
 
 
 def amiss(records: List[Record], report: str, layers: int) -> int:

@@ -303,6 +303,15 @@ class Netlists(common.Case):
         text = "%TO.P,J1,1*%X0Y0D03*\n%TO.P,J1,2*%X1Y0D03*X2Y0D03*\n%TD*%X3Y0D03*"
         self.assertEqual(netlists.pads_of(text), {"J1-1": 1, "J1-2": 2})
 
+    def test_pads_by_name(self):
+        records, flash = netlists.records_of(self.TEXT), "%TO.P,{}*%X0Y0D03*\n"
+        one, two, three = (flash.format(pin) for pin in ("J1,1", "R1,2", "R1,3"))
+        for layers, unnamed, more in (([one + two, one], 0, 0), ([one + two + three, one], 1, 0), ([one, two], 0, 0)):
+            told = netlists.pads(records, layers)
+            self.assertEqual((told["pads without a record"], told["pads with more records than flashes"]), (unnamed, more))
+        self.assertEqual(netlists.pads(records * 2, [one + two])["pads with more records than flashes"], 2)
+        self.assertEqual(netlists.pads(records * 2, [one * 2 + two * 2])["pads with more records than flashes"], 0)
+
     def test_points(self):
         records = netlists.records_of(self.TEXT)
         points = ["point 0 1 1 0 0", "point 1 1 2 0 0", "point 2 2 1 1 -"]
