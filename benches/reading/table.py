@@ -40,6 +40,13 @@ class Row(NamedTuple):
         return [cell.reader for cell in self.others if is_otherwise(meant, cell.states)]
 
 
+    @property
+    def is_alone(self) -> bool:
+        """Whether all others that read it, two at least, read it otherwise than boardnet."""
+        told = [is_otherwise(self.states, cell.states) for cell in self.others if cell.states]
+        return bool(self.states) and len(told) > 1 and all(told)
+
+
 def rows_of(some: List[Rule], ours: Ours, readers: list) -> List[Row]:
     """The rows of some rules. KLayout, which is slow to begin, is asked once for all."""
     cells: List[List[Cell]] = [[] for _ in some]
@@ -84,6 +91,8 @@ def counts(rows: List[Row]) -> List[str]:
     out = [f"{len(rows)} rules: boardnet reads {told}; otherwise than its own column {amiss}"]
     wrong = sum(is_otherwise(row.rule.says, row.states) for row in rows)
     out.append(f"  otherwise than the specification says: boardnet {wrong}")
+    alone = ", ".join(row.rule.name for row in rows if row.is_alone)
+    out.append(f"  all others otherwise than boardnet: {alone or 'none'}")
     for k, name in enumerate(cell.reader for cell in rows[0].others):
         off, none = sum(name in row.otherwise for row in rows), sum(row.others[k].states is None for row in rows)
         out.append(f"  {name}: otherwise {off}, not read {none}")

@@ -82,6 +82,10 @@ class SmallFiles(common.Case):
         self.assertEqual((row.is_kept, row.otherwise), (True, ["a", "d"]))
         self.assertEqual(table.markdown([row])[2], "| has | 4.4 | 1? | exact 10 | **11** | 10 | reads none | **00** |")
         self.assertIn("OTHERWISE", table.line_of(row._replace(ours="exact 11")))
+        self.assertFalse(row.is_alone)
+        self.assertTrue(row._replace(others=row.others[:1] + row.others[2:]).is_alone)
+        self.assertFalse(row._replace(others=row.others[:1]).is_alone, "one reader is no judge")
+        self.assertFalse(row._replace(ours="refused - Macro").is_alone)
         # Of a file that boardnet refuses only what the specification says counts.
         self.assertEqual(row._replace(ours="refused - Macro").otherwise, ["d"])
 
