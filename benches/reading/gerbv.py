@@ -12,7 +12,7 @@ SIDE = os.path.join(os.path.dirname(os.path.abspath(__file__)), "picture_side.py
 STATES = {"1": COPPER, "0": BARE, "b": NEAR, "-": None}
 INCH, MARGIN, REACH = 25_400, 500, 2
 # Micrometres a pixel: the first with which the longer side has at most so many.
-PITCHES, MOST = (10, 20, 50, 100), 10_000
+PITCHES, MOST = (10, 20, 50, 100, 200), 10_000
 # What gerbv says of each file, of attributes and with times.
 IDLE = re.compile(r"\*\* \(process:\d+\): |\d\d:\d\d:\d\d\.\d+: |in file .*| at line \d+")
 

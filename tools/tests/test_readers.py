@@ -63,6 +63,14 @@ class SmallFiles(common.Case):
         self.assertEqual({rule.reads.split()[0] for rule in self.rules}, set(ours.HOWS))
         self.assertEqual({rule.kind for rule in self.rules}, {"copper", "drill"})
 
+    def test_page_has_the_rules_as_they_are(self):
+        with open(os.path.join(BENCHES, "READERS.md"), encoding="utf-8") as file:
+            rows = [line.strip("|\n").split("|") for line in file if line.startswith("| ")][1:]
+        told = [tuple(cell.strip() for cell in row[:4]) for row in rows]
+        self.assertGreater(len(told), 40)
+        known = {(rule.has, rule.section, rule.says, rule.reads) for rule in self.rules}
+        self.assertEqual([row for row in told if row not in known], [])
+
     def test_spelling(self):
         self.assertEqual(rules.written("MM <5,-0.25>D03* G04~a*"), HEAD + b"X5000000Y-250000D03*\nG04 a*\n")
         self.assertEqual(rules.written(r"'%\r\n'"), b"%\r\n")
