@@ -126,13 +126,14 @@ def settled(reader, file: File, counts: Counter, differ: List[Differing]) -> Lis
     return left
 
 
-def alone(states: Dict[str, List[Optional[int]]], work: Work) -> List[Place]:
-    """Places that all readers that tell them, two at least, have otherwise than boardnet."""
+def alone(work: Work, states: Dict[str, List[Optional[int]]], differ: Dict[str, List[Differing]]) -> List[Place]:
+    """Places that all readers that tell them, two at least, still have otherwise than boardnet."""
+    off = {name: {it.place for it in differ.get(name, ())} for name in states}
     found = []
-    for k, (below, above) in enumerate(work.bounds):
-        told = [some[k] for some in states.values() if some[k] in (COPPER, BARE)]
-        if below == above and len(told) > 1 and below not in told:
-            found.append(work.places[k])
+    for k, place in enumerate(work.places):
+        told = [name for name, some in states.items() if some[k] in (COPPER, BARE)]
+        if len(told) > 1 and all(place in off[name] for name in told):
+            found.append(place)
     return found
 
 
@@ -162,9 +163,8 @@ def finished(work: Work, readers: list, looked: Optional[Looked]) -> Row:
             counts[reader.name], found = judged(work, told[reader.name])
             found = settled(reader, file, counts[reader.name], found)
             differ.update({reader.name: found} if found else {})
-    still = {it.place for found in differ.values() for it in found}
     return Row(file.name, file.kind, work.reading.how, work.reading.why, work.pieces, len(work.places), counts, differ,
-              [place for place in alone(read, work) if place in still], looked.left if looked else [],
+              alone(work, read, differ), looked.left if looked else [],
               {name: it.said for name, it in told.items() if it.said}, [name for name in told if name not in read])
 
 

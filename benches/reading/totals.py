@@ -35,7 +35,7 @@ def smaller_of(row: Row, name: str, data: bytes) -> str:
     return f"  smaller than {row.file}, {name} at {it.place}, boardnet {it.ours}, it {it.other}: {told or 'none found'}"
 
 
-def totals(rows: List[Row], head: str) -> Iterator[str]:
+def totals(rows: List[Row]) -> Iterator[str]:
     """Of the files of a kind: how they are taken, and what each reader has."""
     for kind in ("copper", "drill"):
         some = [row for row in rows if row.kind == kind]
@@ -43,7 +43,7 @@ def totals(rows: List[Row], head: str) -> Iterator[str]:
         if some:
             taken = ", ".join(f"{n} {how}" for how, n in hows.most_common())
             pieces, places = sum(row.pieces for row in some), sum(row.places for row in some)
-            yield f"{head}, {kind}: {len(some)} files ({taken}), {pieces} pieces, {places} places"
+            yield f"{kind}: {len(some)} files ({taken}), {pieces} pieces, {places} places"
         for name in dict.fromkeys(name for row in some for name in row.counts):
             yield "  " + of_reader(name, some)
         areas = [row for row in some if row.left]
