@@ -8,8 +8,8 @@ from typing import List, NamedTuple, Optional, Tuple
 from . import BARE, COPPER, NEAR
 from .others import Told, put, run, version
 
-# Its own limit of time: it does not end on some files.
-SECONDS = 10
+# Where it cannot read a file it says so, and does not end.
+SECONDS, UNREAD = 30, b"Can not load file"
 # Micrometres: its SVG has millimetres of four decimals, and circles are told by corners.
 TOLERANCE, MARGIN = 30, 5
 # Copper below 0 is left out of its drawing, so what can be moved is read this far off.
@@ -181,9 +181,9 @@ class Camv:
         with tempfile.TemporaryDirectory() as folder:
             path = put(folder, "f.gbr" if kind == "copper" else "f.drl", body)
             out = os.path.join(folder, "f.svg")
-            said = run(["camv-rnd", "-x", "svg", "--outfile", out, path], folder, SECONDS).strip()
-            said = "; ".join(dict.fromkeys(said.split("\n")))
-            if not os.path.exists(out):
+            said = run(["camv-rnd", "-x", "svg", "--outfile", out, path], folder, SECONDS, UNREAD).strip()
+            said = "; ".join(dict.fromkeys(row.strip() for row in said.split("\n") if row.strip()))
+            if not os.path.exists(out) or UNREAD.decode() in said:
                 return Told(None, said)
             with open(out, encoding="utf-8", errors="replace") as file:
                 shapes = shapes_of(file.read())

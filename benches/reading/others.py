@@ -5,6 +5,7 @@ import shutil
 import subprocess
 import sys
 import tempfile
+import threading
 from typing import List, NamedTuple, Optional
 
 # Which Python has Pillow, for the pictures of gerbv; Debian's has it by the package python3-pil.
@@ -18,15 +19,22 @@ class Told(NamedTuple):
     said: str
 
 
-def run(words: List[str], folder: str, seconds: int = SECONDS) -> str:
-    """What a reader prints, errors too."""
+def run(words: List[str], folder: str, seconds: int = SECONDS, until: bytes = b"") -> str:
+    """What a reader prints, errors too; it is stopped when it is late, and at a line that has `until`."""
     more = {"QT_QPA_PLATFORM": "offscreen", "HOME": folder, "PYTHONDONTWRITEBYTECODE": "1"}
-    how = {"cwd": folder, "env": {**os.environ, **more}, "timeout": seconds, "check": False}
-    try:
-        done = subprocess.run(words, stdin=subprocess.DEVNULL, stdout=subprocess.PIPE, stderr=subprocess.STDOUT, **how)
-    except subprocess.TimeoutExpired:
-        return f"stopped after {seconds} seconds"
-    return done.stdout.decode("utf-8", "replace")
+    how = {"stdin": subprocess.DEVNULL, "stdout": subprocess.PIPE, "stderr": subprocess.STDOUT}
+    rows, late = [], threading.Event()
+    with subprocess.Popen(words, cwd=folder, env={**os.environ, **more}, **how) as process:
+        timer = threading.Timer(seconds, lambda: (late.set(), process.kill()))
+        timer.start()
+        for row in process.stdout:
+            rows.append(row)
+            if until and until in row:
+                break
+        timer.cancel()
+        if until and rows and until in rows[-1]:
+            process.kill()
+    return f"stopped after {seconds} seconds" if late.is_set() else b"".join(rows).decode("utf-8", "replace")
 
 
 def put(folder: str, name: str, data: bytes) -> str:

@@ -5,6 +5,7 @@ import os
 import random
 import re
 import sys
+import time
 import types
 import zipfile
 from collections import Counter
@@ -13,7 +14,7 @@ import common
 
 BENCHES = os.path.join(common.TOP, "benches")
 sys.path.append(BENCHES)
-from reading import BARE, COPPER, NEAR, camv, compare, files, gerbv, klayout, netlists, ours, places, plants, random_files, rules, smallest, table, totals
+from reading import BARE, COPPER, NEAR, camv, compare, files, gerbv, klayout, netlists, others, ours, places, plants, random_files, rules, smallest, table, totals
 from reading.others import Told
 
 HEAD = b"%FSLAX46Y46*%\n%MOMM*%\n"
@@ -281,6 +282,14 @@ class Others(common.Case):
         self.assertEqual(camv.moved(data), (HEAD + b"%ADD10C,1*%X500000000Y500000000D02*\nG04 X1Y1*\nX495000000Y500000000D02*\n", 500.0))
         self.assertEqual(camv.moved_holes(b"METRIC\nX1.5Y-2.0\n"), (b"METRIC\nX501.500000Y498.000000\n", 500.0))
         self.assertEqual(camv.moved_holes(b"METRIC\nX15Y20\n")[1], 0.0)
+
+    def test_runs(self):
+        say = "import sys, time; print('one', flush=True); print('two', file=sys.stderr, flush=True); "
+        for more, limits, wanted in (("", (9,), "one\ntwo\n"), ("time.sleep(9)", (1,), "stopped after 1 seconds"),
+                                     ("time.sleep(9)", (5, b"two"), "one\ntwo\n")):
+            begun = time.monotonic()
+            self.assertEqual(others.run([sys.executable, "-c", say + more], self.scratch, *limits), wanted)
+            self.assertLess(time.monotonic() - begun, 4)
 
     def test_messages(self):
         text = "** (process:1): CRITICAL **: Unknown code at line 3\n12:00:00.1: Unknown extension found %TF% 1\n(process:2): nothing"
