@@ -9,7 +9,7 @@ import sys
 COPPER, BARE, NEAR = 1, 0, -1
 TOP = os.path.dirname(os.path.dirname(os.path.dirname(os.path.abspath(__file__))))
 # What a test record can say: six digits of micrometres.
-FAREST = 999_999
+FARTHEST = 999_999
 
 
 def sides_of(text):

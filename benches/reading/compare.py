@@ -5,7 +5,7 @@ import traceback
 from collections import Counter
 from typing import Dict, List, NamedTuple, Optional, Tuple
 
-from . import BARE, COPPER, FAREST, NEAR, places
+from . import BARE, COPPER, FARTHEST, NEAR, places
 from .files import File
 from .klayout import Left, Looked, Task
 from .ours import Ours, Reading
@@ -83,7 +83,7 @@ class Work:
 
     def add(self, looked: Looked) -> Looked:
         """Takes the places that KLayout adds, which its states have too."""
-        kept = [k for k, place in enumerate(looked.borders) if max(map(abs, place)) <= FAREST]
+        kept = [k for k, place in enumerate(looked.borders) if max(map(abs, place)) <= FARTHEST]
         states = looked.told.states
         if states is not None:
             states = states[:len(self.places)] + [states[len(self.places) + k] for k in kept]

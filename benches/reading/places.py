@@ -5,7 +5,7 @@ from decimal import Decimal
 from math import isqrt
 from typing import List, NamedTuple, Tuple
 
-from . import FAREST
+from . import FARTHEST
 
 Spot = Tuple[int, int]
 # A micrometre in u.
@@ -129,4 +129,4 @@ def anywhere(rng: random.Random, pieces: List[Piece], count: int) -> List[Spot]:
 
 def told(places: List[Spot]) -> List[Spot]:
     """Those that a test record can say."""
-    return [place for place in places if max(map(abs, place)) <= FAREST]
+    return [place for place in places if max(map(abs, place)) <= FARTHEST]

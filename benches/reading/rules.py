@@ -9,7 +9,7 @@ import ast
 import os
 import re
 from decimal import Decimal
-from typing import Iterator, List, NamedTuple, Optional, Tuple
+from typing import Iterator, List, NamedTuple, Optional
 
 from .ours import Ours, Place
 

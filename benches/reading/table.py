@@ -7,7 +7,6 @@ from .ours import Ours
 from .rules import Rule, column, is_otherwise
 
 SIGNS = {COPPER: "1", BARE: "0", NEAR: "b", None: "-"}
-SAYS_MOST = 70
 
 
 class Cell(NamedTuple):
