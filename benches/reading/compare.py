@@ -137,13 +137,12 @@ def alone(work: Work, states: Dict[str, List[Optional[int]]], differ: Dict[str, 
     return found
 
 
-def smaller(file: File, reader, it: Differing, ours: Ours) -> bytes:
+def smaller(file: File, how: str, reader, it: Differing, ours: Ours) -> bytes:
     """A smaller file that boardnet and a reader have otherwise at that place, as they do in this one; or nothing."""
 
     def holds(parts: List[bytes]) -> bool:
         data = joined(parts)
-        reading = ours.reading(data, file.kind)
-        if not reading.below or ours.states(reading, file.kind, [it.place])[0] != (it.ours, it.ours):
+        if ours.bounds_at(data, file.kind, it.place, how == "exact") != (it.ours, it.ours):
             return False
         return reader.again(data, file.kind, it.place).states == [it.other]
 

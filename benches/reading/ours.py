@@ -107,10 +107,14 @@ class Ours:
         # One place: without any there is nothing to judge.
         return self.in_folder([sys.executable, SHOW, "m.json", "--keep", "kept"], {name: data}, [(0, 0)], kept)[1]
 
+    def given(self, data: bytes, kind: str) -> bytes:
+        """What the program is handed of a file."""
+        data = plain(data, kind)
+        return PLANTS[self.plant](data, kind) if self.plant else data
+
     def reading(self, data: bytes, kind: str) -> Reading:
         """How a file is taken."""
-        data = plain(data, kind)
-        data = PLANTS[self.plant](data, kind) if self.plant else data
+        data = self.given(data, kind)
         answer = self.check(data, kind)
         if answer.status in (0, 1):
             return Reading("exact", "", data, data)
@@ -151,6 +155,16 @@ class Ours:
         below = self.states_of(reading.below, kind, places)
         is_one = reading.above is reading.below
         return list(zip(below, below if is_one else self.states_of(reading.above, kind, places)))
+
+
+    def bounds_at(self, data: bytes, kind: str, place: Place, is_exact: bool) -> Optional[Tuple[int, int]]:
+        """What a file has at one place, or None where it is refused; of an exact one by one command."""
+        if is_exact:
+            answer = self.check(self.given(data, kind), kind, [place])
+            told = POINT.search(answer.out)
+            return ((COPPER, BARE)[told[1] == b"-"],) * 2 if told else None
+        reading = self.reading(data, kind)
+        return self.states(reading, kind, [place])[0] if reading.below else None
 
 
 def name_of(kind: str) -> str:

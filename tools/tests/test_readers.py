@@ -253,6 +253,28 @@ class Counting(common.Case):
         self.assertIn("a: 1 files, 9 places compared (8 copper, 0 none), 1 differ in 1 files", "\n".join(totals.totals([differs])))
 
 
+class Smaller(common.Case):
+    """A file in which one word is read otherwise, with readers made here."""
+
+    def test_what_both_have_stays(self):
+        data = HEAD + b"%ADD10C,1*%\nD10*\nX1Y1D03*\nX2Y2D03*\nG04 a*\nM02*\n"
+        took = []
+        program = types.SimpleNamespace(bounds_at=lambda data, *rest: took.append(rest) or ((1, 1) if data.endswith(b"M02*\n") else None))
+        reader = types.SimpleNamespace(name="gerbv", again=lambda data, *_: Told([0 if b"X2" in data else 1], ""))
+        file, it = files.File("n", "copper", data), compare.Differing((2, 2), 1, 0)
+        self.assertEqual(compare.smaller(file, "exact", reader, it, program), b"X2Y2D03*\nM02*\n")
+        self.assertEqual(set(took), {("copper", (2, 2), True)})
+        self.assertEqual(compare.smaller(file, "between", reader, it._replace(other=1), program), b"")
+
+    def test_one_place(self):
+        reader = ours.Ours(common.program())
+        data = HEAD + b"%ADD10C,1*%\nD10*\nX5000000Y0D03*\nM02*\n"
+        for is_exact in (True, False):
+            self.assertEqual(reader.bounds_at(data, "copper", (5_000, 0), is_exact), (1, 1))
+            self.assertEqual(reader.bounds_at(data, "copper", (5_600, 0), is_exact), (0, 0))
+            self.assertIsNone(reader.bounds_at(data.replace(b"\nD10", b"\nD11"), "copper", (0, 0), is_exact))
+
+
 class Others(common.Case):
     def test_tolerance_of_klayout(self):
         draw = b"X5000000Y0D02*\nG03X-5000000Y0I-3000000J4000000D01*\n"
