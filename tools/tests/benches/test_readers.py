@@ -10,7 +10,7 @@ import types
 import zipfile
 from collections import Counter
 
-import common
+from tests.fixtures import common
 
 BENCHES = os.path.join(common.TOP, "benches")
 sys.path.append(BENCHES)
