@@ -24,6 +24,6 @@ def sides_of(text):
     finally:
         sys.path.pop(0)
     try:
-        return [side.text().encode("latin-1") for side in bounded_file.of_text(text.decode("latin-1")).sides]
+        return [side.file_text().encode("latin-1") for side in bounded_file.of_text(text.decode("latin-1")).sides]
     except Refused:
         return None
