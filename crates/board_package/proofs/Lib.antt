@@ -6,7 +6,6 @@ pub mod ManifestForm
 pub mod Halting
 pub mod JsonBrackets
 pub mod JsonPrefix
-pub mod LabelCauses
 pub mod LabelStaging
 pub mod LabelledOutcome
 pub mod LabelsCut
@@ -17,7 +16,7 @@ pub mod Names
 pub mod OnPieces
 pub mod OneOutcome
 pub mod Staging
-pub mod Taking
+pub mod Telling
 pub mod Walking
 pub mod Seen
 pub mod OneTake

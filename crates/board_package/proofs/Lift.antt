@@ -6,7 +6,7 @@ use Rattle.board_io.specs.Causes.{Rose}
 use Rattle.board_io.specs.Handed.{AgreeWith, Handed}
 use Rattle.board_io.specs.Package.{Files, IsFaultless}
 use Rattle.board_shapes.specs.Plain.{PlainBoard}
-use Rattle.board_package.specs.Causes.{CauseOf, Fault, Faults, HasCause, HasCauseBy, HasRefusal, IsFrameFault, KeepsFaults, KeepsFaultsBy, KeepsOf, Leaves, own, shared}
+use Rattle.board_package.specs.Causes.{CauseOf, Fault, Faults, HandedCause, HandedCauseBy, HasCause, HasCauseBy, HasRefusal, IsFrameFault, KeepsFaults, KeepsFaultsBy, KeepsOf, Leaves, own, shared}
 use Rattle.board_package.specs.PackageBoard.{Stop, longer, not_json, bad_manifest, refused, frame_too_large, StopsAtFrame}
 use Rattle.board_package.specs.declared.fault.BuildFault.{BuildFault}
 use Rattle.board_package.specs.declared.fault.BuildFault.TheVariants as fault
@@ -58,43 +58,40 @@ pub record Carries {K : Type 0} (S T : K → Type 0) (C D : List ℕ → Type 0)
   pub stops : (stop : K) → S stop → T stop
   pub comes : (name : List ℕ) → C name → D name
 
-pub lift : (held : Option Files) (S T : Files → Stop → Type 0) (C D : Files → List ℕ → Type 0) (before mid now : ℕ) (lost : List ℕ) (why : BuildFault)
-    → IfSome held (λ files. Carries (S files) (T files) (C files) (D files)) → before ≤ mid → HasCause held S C mid now lost why → HasCause held T D before now lost why
+-- a cause by what was handed over, of files of which its stops and its names tell, and of a call that began before
+pub lift : (held : Option Files) (S : Stop → Type 0) (T : Files → Stop → Type 0) (C : List ℕ → Type 0) (D : Files → List ℕ → Type 0) (before mid now : ℕ) (lost : List ℕ) (why : BuildFault)
+    → IfSome held (λ files. Carries S (T files) C (D files)) → before ≤ mid → HandedCause S C mid now lost why → HasCause held T D before now lost why
 lift held S T C D before mid now lost why carries le h =
-    retold held held S T C D before mid now lost why le
-    (λ stop s. told held (λ files. Carries (S files) (T files) (C files) (D files)) (λ files. S files stop) (λ files. T files stop) (λ files a b. a.stops stop b) carries s)
-    (λ name c. told held (λ files. Carries (S files) (T files) (C files) (D files)) (λ files. C files name) (λ files. D files name) (λ files a b. a.comes name b) carries c) h
+    retold (Some (λ name. None)) held (λ files stop. S stop) T (λ files name. C name) D before mid now lost why le
+    (λ stop s. told_of held (λ files. Carries S (T files) C (D files)) (λ files. T files stop) (λ files k. k.stops stop s) carries)
+    (λ name c. told_of held (λ files. Carries S (T files) C (D files)) (λ files. D files name) (λ files k. k.comes name c) carries) h
 
 -- the same of a layer above
-lift_of : {K : Type 0} (unbuilt : Stop → K) (held : Option Files) (S T : Files → K → Type 0) (C D : Files → List ℕ → Type 0) (before mid now : ℕ) (lost : List ℕ) (why : Fault K)
-    → IfSome held (λ files. Carries (S files) (T files) (C files) (D files)) → before ≤ mid → CauseOf unbuilt held S C mid now lost why → CauseOf unbuilt held T D before now lost why
+lift_of : {K : Type 0} (unbuilt : Stop → K) (held : Option Files) (S : K → Type 0) (T : Files → K → Type 0) (C : List ℕ → Type 0) (D : Files → List ℕ → Type 0) (before mid now : ℕ) (lost : List ℕ) (why : Fault K)
+    → IfSome held (λ files. Carries S (T files) C (D files)) → before ≤ mid → CauseOf unbuilt (Some (λ name. None)) (λ files stop. S stop) (λ files name. C name) mid now lost why → CauseOf unbuilt held T D before now lost why
 lift_of unbuilt held S T C D before mid now lost (shared why) carries le h =
-    lift held (λ files stop. S files (unbuilt stop)) (λ files stop. T files (unbuilt stop)) C D before mid now lost why
-    (told_of held (λ files. Carries (S files) (T files) (C files) (D files)) (λ files. Carries (λ stop. S files (unbuilt stop)) (λ stop. T files (unbuilt stop)) (C files) (D files)) (λ files k. record { stops = λ stop s. k.stops (unbuilt stop) s; comes = k.comes }) carries)
+    lift held (λ stop. S (unbuilt stop)) (λ files stop. T files (unbuilt stop)) C D before mid now lost why
+    (told_of held (λ files. Carries S (T files) C (D files)) (λ files. Carries (λ stop. S (unbuilt stop)) (λ stop. T files (unbuilt stop)) C (D files)) (λ files k. record { stops = λ stop s. k.stops (unbuilt stop) s; comes = k.comes }) carries)
     le h
-lift_of unbuilt held S T C D before mid now lost (own stop) carries le h =
-    told held (λ files. Carries (S files) (T files) (C files) (D files)) (λ files. S files stop) (λ files. T files stop) (λ files k s. k.stops stop s) carries h
+lift_of unbuilt held S T C D before mid now lost (own stop) carries le h = told_of held (λ files. Carries S (T files) C (D files)) (λ files. T files stop) (λ files k. k.stops stop h) carries
 
-pub lift_by : {K F : Type 0} (faults : Faults K F) (held : Option Files) (S T : Files → K → Type 0) (C D : Files → List ℕ → Type 0) (before mid now : ℕ) (lost : List ℕ) (why : F)
-    → IfSome held (λ files. Carries (S files) (T files) (C files) (D files)) → before ≤ mid → HasCauseBy faults held S C mid now lost why → HasCauseBy faults held T D before now lost why
+pub lift_by : {K F : Type 0} (faults : Faults K F) (held : Option Files) (S : K → Type 0) (T : Files → K → Type 0) (C : List ℕ → Type 0) (D : Files → List ℕ → Type 0) (before mid now : ℕ) (lost : List ℕ) (why : F)
+    → IfSome held (λ files. Carries S (T files) C (D files)) → before ≤ mid → HandedCauseBy faults S C mid now lost why → HasCauseBy faults held T D before now lost why
 lift_by faults held S T C D before mid now lost why carries le h = lift_of faults.unbuilt held S T C D before mid now lost (faults.told why) carries le h
 
 -- a refusal of a file is a cause
-pub refusal_cause : (held : Option Files) (S : Files → Stop → Type 0) (C : Files → List ℕ → Type 0) (before now : ℕ) (lost name : List ℕ) (why : Refusal) (given : BuildFault)
-    → IfSome held (λ files. S files (refused name why)) → HasRefusal name why given → HasCause held S C before now lost given
-refusal_cause held S C before now lost name (refusal.Layer kind command at) given h (inl e) = subst (λ f. HasCause held S C before now lost f) (sym e) h
-refusal_cause held S C before now lost name (refusal.Layer kind command at) given h (inr e) = subst (λ f. HasCause held S C before now lost f) (sym e) tt
-refusal_cause held S C before now lost name (refusal.Drill kind line at) given h (inl e) = subst (λ f. HasCause held S C before now lost f) (sym e) h
-refusal_cause held S C before now lost name (refusal.Drill kind line at) given h (inr e) = subst (λ f. HasCause held S C before now lost f) (sym e) tt
-refusal_cause held S C before now lost name (refusal.Netlist kind line) given h (inl e) = subst (λ f. HasCause held S C before now lost f) (sym e) h
-refusal_cause held S C before now lost name (refusal.Netlist kind line) given h (inr e) = subst (λ f. HasCause held S C before now lost f) (sym e) tt
+pub refusal_cause : (S : Stop → Type 0) (C : List ℕ → Type 0) (before now : ℕ) (lost name : List ℕ) (why : Refusal) (given : BuildFault) → S (refused name why) → HasRefusal name why given → HandedCause S C before now lost given
+refusal_cause S C before now lost name (refusal.Layer kind command at) given h (inl e) = subst (λ f. HandedCause S C before now lost f) (sym e) h
+refusal_cause S C before now lost name (refusal.Layer kind command at) given h (inr e) = subst (λ f. HandedCause S C before now lost f) (sym e) tt
+refusal_cause S C before now lost name (refusal.Drill kind line at) given h (inl e) = subst (λ f. HandedCause S C before now lost f) (sym e) h
+refusal_cause S C before now lost name (refusal.Drill kind line at) given h (inr e) = subst (λ f. HandedCause S C before now lost f) (sym e) tt
+refusal_cause S C before now lost name (refusal.Netlist kind line) given h (inl e) = subst (λ f. HandedCause S C before now lost f) (sym e) h
+refusal_cause S C before now lost name (refusal.Netlist kind line) given h (inr e) = subst (λ f. HandedCause S C before now lost f) (sym e) tt
 
 -- a frame that is too large is a cause
-pub frame_cause : (held : Option Files) (S : Files → Stop → Type 0) (C : Files → List ℕ → Type 0) (before now : ℕ) (lost : List ℕ) (board : PlainBoard) (given : BuildFault)
-    → IfSome held (λ files. (stop : Stop) → StopsAtFrame board stop → S files stop) → IsFrameFault board given → HasCause held S C before now lost given
-frame_cause held S C before now lost board (fault.FrameTooLarge box) h e =
-    told_of held (λ files. (stop : Stop) → StopsAtFrame board stop → S files stop) (λ files. S files (frame_too_large box)) (λ files k. k (frame_too_large box) e) h
-frame_cause held S C before now lost board other h e = absurd e
+pub frame_cause : (S : Stop → Type 0) (C : List ℕ → Type 0) (before now : ℕ) (lost : List ℕ) (board : PlainBoard) (given : BuildFault) → ((stop : Stop) → StopsAtFrame board stop → S stop) → IsFrameFault board given → HandedCause S C before now lost given
+frame_cause S C before now lost board (fault.FrameTooLarge box) k e = k (frame_too_large box) e
+frame_cause S C before now lost board other k e = absurd e
 
 -- ---- What a package leaves
 

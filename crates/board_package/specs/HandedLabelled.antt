@@ -1,65 +1,47 @@
--- The labelled board that the files make which a package hands over in a call, and its first stop. Each definition is the one
--- of LabelledBoard whose name it begins with, by what was handed over in place of what is held.
-use Rattle.std.specs.Prelude.{◌≡◌, ◌⊎◌, ℕ, List}
+-- What is made of the files that a package hands over in a call where labels may name the nets, and their first stop.
+use Rattle.std.specs.Prelude.{◌≡◌, ℕ, List, Option, Some, None}
+use Rattle.std.specs.List.{filter}
 use Rattle.board_io.specs.Handed.{Handed}
 use Rattle.board_shapes.specs.Plain.{PlainBoard, common_box, Fits}
-use Rattle.board_package.specs.HandedBoard.{BehindManifestHanded, ComesAlongHanded, ComesNext, Course, GoesHanded, IsManifestHanded, StopsAtHanded, StopsAtManifestHanded, course}
-use Rattle.board_package.specs.LabelledBoard.{Labelled, LabelledStop, Lists, Mislabels, OfBuild, labelled_board_of, labelled_order, mislabelled, nothing_labelled, unbuilt}
-use Rattle.board_package.specs.PackageBoard.{AtOneBy, StopsAtFrame, WalksBy}
+use Rattle.board_package.specs.Contents.{Reads}
+use Rattle.board_package.specs.HandedBoard.{IsMadeHanded, IsNextHanded, IsStopHanded, Reading, RefusesFile}
+use Rattle.board_package.specs.LabelledBoard.{Labelled, LabelledStop, Lists, Mislabels, OfBuild, is_taken, labelled_board_of, mislabelled, nothing_labelled, unbuilt}
+use Rattle.board_package.specs.PackageBoard.{Stop, StopsAtFrame, order_of}
 use Rattle.board_package.specs.declared.entry.Entry.{Entry}
 use Rattle.board_package.specs.declared.entry.Naming.{Naming}
 use Rattle.board_package.specs.declared.entry.Naming.TheVariants.{ByLabels}
-use Rattle.board_package.specs.declared.manifest.Manifest.{Manifest}
 
--- the board so far without the labels
-abbrev pub unlabelled : Course Labelled → Course PlainBoard
-unlabelled c = course c.handed c.so_far.board
+-- the file of an entry is read, and so are its labels
+abbrev pub ReadsLabelled : Naming → Entry → List ℕ → Labelled → Labelled → Type 0
+ReadsLabelled naming e bytes before after = Reads e.role e.number bytes before.board after.board × Lists naming e.role bytes before.tables after.tables
 
--- the file of an entry was handed over next, and is read, and so are its labels
-pub record GoesLabelledHanded (naming : Naming) (e : Entry) (before after : Course Labelled) : Type 0 where
-  pub goes : GoesHanded e (unlabelled before) (unlabelled after)
-  pub lists : Lists naming e.role goes.bytes before.so_far.tables after.so_far.tables
+-- it is refused, or is read, and then a label is amiss
+abbrev pub RefusesLabelled : Naming → Entry → List ℕ → Labelled → LabelledStop → Type 0
+RefusesLabelled naming e bytes before (unbuilt stop) = RefusesFile e bytes before.board stop
+RefusesLabelled naming e bytes before (mislabelled name command at) = (name ≡ e.name) × ((board : PlainBoard) × Reads e.role e.number bytes before.board board) × Mislabels naming e.role bytes command at
 
--- the file was handed over next and is read, and then a label is amiss
-pub record IsMislabelledHanded (naming : Naming) (e : Entry) (before : Course PlainBoard) (after : List Handed) (command at : ℕ) : Type 0 where
-  pub board : PlainBoard
-  pub goes : GoesHanded e before (course after board)
-  pub amiss : Mislabels naming e.role goes.bytes command at
+-- the stop of a board that a stop is
+abbrev pub built_of : LabelledStop → Option Stop
+built_of (unbuilt stop) = Some stop
+built_of (mislabelled name command at) = None
 
--- the file of an entry stops the package
-abbrev pub StopsLabelledAtHanded : Naming → Entry → Course Labelled → List Handed → LabelledStop → Type 0
-StopsLabelledAtHanded naming e before after (unbuilt stop) = StopsAtHanded e (unlabelled before) after stop
-StopsLabelledAtHanded naming e before after (mislabelled name command at) = (name ≡ e.name) × IsMislabelledHanded naming e (unlabelled before) after command at
+abbrev pub as_labelled : Naming → Reading Labelled PlainBoard LabelledStop
+as_labelled naming = record {
+  start = nothing_labelled;
+  order = λ m. filter (λ e. is_taken naming e.role) (order_of m);
+  reads = ReadsLabelled naming;
+  refuses = RefusesLabelled naming;
+  makes = λ end board. (board ≡ labelled_board_of end.tables end.board) × Fits (common_box end.board.pieces);
+  ends = λ end stop. OfBuild (StopsAtFrame end.board) stop;
+  shared = built_of;
+}
 
--- one of the files stops the package, and all before it were handed over and read
-abbrev pub StopsLabelledAmongHanded : Naming → List Entry → Course Labelled → List Handed → LabelledStop → Type 0
-StopsLabelledAmongHanded naming entries before after stop = AtOneBy (GoesLabelledHanded naming) entries before (λ e c. StopsLabelledAtHanded naming e c after stop)
+abbrev pub IsLabelledBoardHanded : List Handed → List Handed → List ℕ → PlainBoard → Type 0
+IsLabelledBoardHanded before after name board = IsMadeHanded (as_labelled ByLabels) before after name board
 
--- all files were handed over and read, and then the frame is too large
-pub record IsLabelledFrameStopHanded (before after : List Handed) (m : Manifest) (stop : LabelledStop) : Type 0 where
-  pub end : Labelled
-  pub walked : WalksBy (GoesLabelledHanded ByLabels) (labelled_order m) (course before (nothing_labelled m.layers)) (course after end)
-  pub frame : OfBuild (StopsAtFrame end.board) stop
-
--- a copper or drill file, a name or the frame stops the package
-abbrev pub StopsLabelledLaterHanded : List Handed → List Handed → Manifest → LabelledStop → Type 0
-StopsLabelledLaterHanded before after m stop = StopsLabelledAmongHanded ByLabels (labelled_order m) (course before (nothing_labelled m.layers)) after stop ⊎ IsLabelledFrameStopHanded before after m stop
-
--- the first stop of what was handed over under the name of a manifest
 abbrev pub IsFirstLabelledStopHanded : List Handed → List Handed → List ℕ → LabelledStop → Type 0
-IsFirstLabelledStopHanded before after name stop = OfBuild (StopsAtManifestHanded before after name) stop ⊎ BehindManifestHanded before name (λ m first. StopsLabelledLaterHanded first after m stop)
-
--- the manifest of this name was handed over, then each copper and drill file of its order, and nothing else; and this is their
--- labelled board
-pub record IsLabelledBoardHanded (before after : List Handed) (name : List ℕ) (board : PlainBoard) : Type 0 where
-  pub listed : Manifest
-  pub first : List Handed
-  pub manifest : IsManifestHanded before first name listed
-  pub end : Labelled
-  pub walked : WalksBy (GoesLabelledHanded ByLabels) (labelled_order listed) (course first (nothing_labelled listed.layers)) (course after end)
-  pub frame : Fits (common_box end.board.pieces)
-  pub is : board ≡ labelled_board_of end.tables end.board
+IsFirstLabelledStopHanded before after name stop = IsStopHanded (as_labelled ByLabels) before after name stop
 
 -- the name is that of the manifest or of a file of its order but the netlist, which comes next
 abbrev pub LabelledComesHanded : List Handed → List Handed → List ℕ → List ℕ → Type 0
-LabelledComesHanded before after manifest name = ComesNext before after manifest name ⊎ BehindManifestHanded before manifest (λ m first. ComesAlongHanded (GoesLabelledHanded ByLabels) (labelled_order m) (course first (nothing_labelled m.layers)) after name)
+LabelledComesHanded before after manifest name = IsNextHanded (as_labelled ByLabels) before after manifest name

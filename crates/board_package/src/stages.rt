@@ -3,12 +3,13 @@ ghost use Rattle.std.specs.Prelude.{◌≡◌, ◌≤◌, [], ◌∷◌, length,
 ghost use Rattle.std.specs.List.{filter};
 ghost use Rattle.board_shapes.specs.Plain.{plain_board, common_box, Fits};
 ghost use Rattle.board_package.specs.Causes.{Builds, BuildsHanded, HandedCause, HandedCauseBy, HasCause, HasCauseBy, IsFrameFault, KeepsFaults, KeepsFaultsBy, Leaves, Spares};
-ghost use Rattle.board_package.specs.HandedBoard.{ComesAlongHanded, ComesNext, GoesHanded, IsHanded, IsManifestHanded, StopsAtHanded, StopsAtManifestHanded, StopsHanding, course};
-ghost use Rattle.board_package.specs.HandedLabelled.{GoesLabelledHanded, StopsLabelledAmongHanded, IsFirstLabelledStopHanded, IsLabelledBoardHanded, LabelledComesHanded};
-ghost use Rattle.board_package.specs.LabelledBoard.{GoesLabelled, StopsLabelledAmong, is_taken, IsFirstLabelledStop, IsLabelledBoardOf, LabelledComes};
+ghost use Rattle.board_package.specs.Contents.{Reads};
+ghost use Rattle.board_package.specs.HandedBoard.{ComesAlongHanded, ComesNext, GoesHanded, IsHanded, IsManifestHanded, StopsAmongHanded, StopsAtHanded, StopsAtManifestHanded, StopsHanding, as_board, course};
+ghost use Rattle.board_package.specs.HandedLabelled.{IsFirstLabelledStopHanded, IsLabelledBoardHanded, LabelledComesHanded, as_labelled};
+ghost use Rattle.board_package.specs.LabelledBoard.{is_taken, IsFirstLabelledStop, IsLabelledBoardOf, LabelledComes};
 ghost use Rattle.board_package.specs.LabelledCauses.{labelled_faults, labelled_so_far};
 ghost use Rattle.board_package.specs.Manifest.{IsLawful, IsOnBoard};
-ghost use Rattle.board_package.specs.PackageBoard.{ComesAlong, Goes, IsHeld, IsManifestFile, IsWithinLimits, StopsAt, StopsAtManifest, StopsTaking, WalksBy};
+ghost use Rattle.board_package.specs.PackageBoard.{IsHeld, IsManifestFile, IsWithinLimits, StopsAtManifest, StopsTaking, WalksBy};
 ghost use Rattle.board_package.specs.Parts.{board_so_far, IsLawfulParts};
 ghost use Rattle.x2_nets.specs.Labels.{Rise};
 
@@ -122,12 +123,10 @@ pub fn take_files<P: Package>(
     requires rise { All Rise tables.old }
     ensures leaves { Leaves P.held P.handed P.faults «package».old «package».new }
     ensures spared { Spares (KeepsFaultsBy labelled_faults) P.faults P.lost «package».old «package».new result }
-    ensures found { OnOk result (IfSome (P.held «package».old) (λ files. WalksBy (GoesLabelled naming files) (filter (λ e. is_taken naming e.role) entries.now) (labelled_so_far parts.old tables.old) (labelled_so_far parts.new tables.new))) }
-    ensures handed { OnOk result (WalksBy (GoesLabelledHanded naming) (filter (λ e. is_taken naming e.role) entries.now) (course (P.handed «package».old) (labelled_so_far parts.old tables.old)) (course (P.handed «package».new) (labelled_so_far parts.new tables.new))) }
-    ensures handed_cause { IfErr result (HandedCauseBy labelled_faults (λ stop. StopsLabelledAmongHanded naming (filter (λ e. is_taken naming e.role) entries.now) (course (P.handed «package».old) (labelled_so_far parts.old tables.old)) (P.handed «package».new) stop) (λ name. ComesAlongHanded (GoesLabelledHanded naming) (filter (λ e. is_taken naming e.role) entries.now) (course (P.handed «package».old) (labelled_so_far parts.old tables.old)) (P.handed «package».new) name) (P.faults «package».old) (P.faults «package».new) (P.lost «package».new)) }
+    ensures handed { OnOk result (WalksBy (GoesHanded (as_labelled naming)) (filter (λ e. is_taken naming e.role) entries.now) (course (P.handed «package».old) (labelled_so_far parts.old tables.old)) (course (P.handed «package».new) (labelled_so_far parts.new tables.new))) }
+    ensures handed_cause { IfErr result (HandedCauseBy labelled_faults (λ stop. StopsAmongHanded (as_labelled naming) (filter (λ e. is_taken naming e.role) entries.now) (course (P.handed «package».old) (labelled_so_far parts.old tables.old)) (P.handed «package».new) stop) (λ name. ComesAlongHanded (as_labelled naming) (filter (λ e. is_taken naming e.role) entries.now) (course (P.handed «package».old) (labelled_so_far parts.old tables.old)) (P.handed «package».new) name) (P.faults «package».old) (P.faults «package».new) (P.lost «package».new)) }
     ensures parts { OnOk result (IsLawfulParts parts.new) }
     ensures rise { OnOk result (All Rise tables.new) }
-    ensures cause { IfErr result (HasCauseBy labelled_faults (P.held «package».old) (λ files stop. StopsLabelledAmong naming files (filter (λ e. is_taken naming e.role) entries.now) (labelled_so_far parts.old tables.old) stop) (λ files name. ComesAlong (GoesLabelled naming files) (filter (λ e. is_taken naming e.role) entries.now) (labelled_so_far parts.old tables.old) name) (P.faults «package».old) (P.faults «package».new) (P.lost «package».new)) }
 {
     let mut file = Vec::new(alloc);
     for entry in entries {
@@ -152,13 +151,11 @@ fn take_needed<P: Package>(
     requires rise { All Rise tables.old }
     ensures leaves { Leaves P.held P.handed P.faults «package».old «package».new }
     ensures spared { Spares (KeepsFaultsBy labelled_faults) P.faults P.lost «package».old «package».new result }
-    ensures found { OnOk result (IfSome (P.held «package».old) (λ files. WalksBy (GoesLabelled naming files) (filter (λ e. is_taken naming e.role) (entry.now ∷ [])) (labelled_so_far parts.old tables.old) (labelled_so_far parts.new tables.new))) }
-    ensures handed { OnOk result (WalksBy (GoesLabelledHanded naming) (filter (λ e. is_taken naming e.role) (entry.now ∷ [])) (course (P.handed «package».old) (labelled_so_far parts.old tables.old)) (course (P.handed «package».new) (labelled_so_far parts.new tables.new))) }
-    ensures handed_cause { IfErr result (HandedCauseBy labelled_faults (λ stop. StopsLabelledAmongHanded naming (filter (λ e. is_taken naming e.role) (entry.now ∷ [])) (course (P.handed «package».old) (labelled_so_far parts.old tables.old)) (P.handed «package».new) stop) (λ name. ComesAlongHanded (GoesLabelledHanded naming) (filter (λ e. is_taken naming e.role) (entry.now ∷ [])) (course (P.handed «package».old) (labelled_so_far parts.old tables.old)) (P.handed «package».new) name) (P.faults «package».old) (P.faults «package».new) (P.lost «package».new)) }
+    ensures handed { OnOk result (WalksBy (GoesHanded (as_labelled naming)) (filter (λ e. is_taken naming e.role) (entry.now ∷ [])) (course (P.handed «package».old) (labelled_so_far parts.old tables.old)) (course (P.handed «package».new) (labelled_so_far parts.new tables.new))) }
+    ensures handed_cause { IfErr result (HandedCauseBy labelled_faults (λ stop. StopsAmongHanded (as_labelled naming) (filter (λ e. is_taken naming e.role) (entry.now ∷ [])) (course (P.handed «package».old) (labelled_so_far parts.old tables.old)) (P.handed «package».new) stop) (λ name. ComesAlongHanded (as_labelled naming) (filter (λ e. is_taken naming e.role) (entry.now ∷ [])) (course (P.handed «package».old) (labelled_so_far parts.old tables.old)) (P.handed «package».new) name) (P.faults «package».old) (P.faults «package».new) (P.lost «package».new)) }
     ensures parts { OnOk result (IsLawfulParts parts.new) }
     ensures layers { OnOk result (parts.new.layers ≡ parts.old.layers) }
     ensures rise { OnOk result (All Rise tables.new) }
-    ensures cause { IfErr result (HasCauseBy labelled_faults (P.held «package».old) (λ files stop. StopsLabelledAmong naming files (filter (λ e. is_taken naming e.role) (entry.now ∷ [])) (labelled_so_far parts.old tables.old) stop) (λ files name. ComesAlong (GoesLabelled naming files) (filter (λ e. is_taken naming e.role) (entry.now ∷ [])) (labelled_so_far parts.old tables.old) name) (P.faults «package».old) (P.faults «package».new) (P.lost «package».new)) }
 {
     if !naming.takes(entry.role) {
         return Ok(());
@@ -180,14 +177,11 @@ fn take_entry<P: Package>(
     ensures leaves { Leaves P.held P.handed P.faults «package».old «package».new }
     ensures spared { Spares KeepsFaults P.faults P.lost «package».old «package».new result }
     ensures short { OnOk result (length file.new.items ≤ MOST_BYTES) }
-    ensures whole { OnOk result (IfSome (P.held «package».old) (λ files. IsHeld files entry.now.name file.new.items)) }
-    ensures found { OnOk result (IfSome (P.held «package».old) (λ files. Goes files entry.now (board_so_far parts.old) (board_so_far parts.new))) }
-    ensures handed_whole { OnOk result (IsHanded (P.handed «package».old) (P.handed «package».new) entry.now.name file.new.items) }
-    ensures handed { OnOk result (GoesHanded entry.now (course (P.handed «package».old) (board_so_far parts.old)) (course (P.handed «package».new) (board_so_far parts.new))) }
-    ensures handed_cause { IfErr result (HandedCause (λ stop. StopsAtHanded entry.now (course (P.handed «package».old) (board_so_far parts.old)) (P.handed «package».new) stop) (λ name. ComesNext (P.handed «package».old) (P.handed «package».new) entry.now.name name) (P.faults «package».old) (P.faults «package».new) (P.lost «package».new)) }
+    ensures handed { OnOk result (IsHanded (P.handed «package».old) (P.handed «package».new) entry.now.name file.new.items) }
+    ensures read { OnOk result (Reads entry.now.role entry.now.number file.new.items (board_so_far parts.old) (board_so_far parts.new)) }
+    ensures handed_cause { IfErr result (HandedCause (λ stop. StopsAtHanded as_board entry.now (course (P.handed «package».old) (board_so_far parts.old)) (P.handed «package».new) stop) (λ name. ComesNext (P.handed «package».old) (P.handed «package».new) entry.now.name name) (P.faults «package».old) (P.faults «package».new) (P.lost «package».new)) }
     ensures parts { OnOk result (IsLawfulParts parts.new) }
     ensures layers { OnOk result (parts.new.layers ≡ parts.old.layers) }
-    ensures cause { IfErr result (HasCause (P.held «package».old) (λ files stop. StopsAt files entry.now (board_so_far parts.old) stop) (λ files name. entry.now.name ≡ name) (P.faults «package».old) (P.faults «package».new) (P.lost «package».new)) }
 {
     take_file(alloc, &entry.name, package, file)?;
     read_file(alloc, entry, file.as_slice(), parts)

@@ -1,10 +1,10 @@
 pub mod Agreed
-pub mod Carried
 pub mod Equal
 pub mod Halted
 pub mod OnSpans
 pub mod OneOutcome
 pub mod Staged
+pub mod Telling
 pub mod Walked
 pub mod Seen
 pub mod Rooms

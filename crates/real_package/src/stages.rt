@@ -1,14 +1,14 @@
 //! The real board of a package.
 ghost use Rattle.std.specs.Prelude.{◌≡◌, All, IfSome, IfOk, IfErr, OnOk, MatchResult};
 ghost use Rattle.board_package.specs.Causes.{HandedCauseBy, HasCauseBy, KeepsFaultsBy, Leaves, Spares};
-ghost use Rattle.board_package.specs.HandedBoard.{ComesAlongHanded, ComesNext, course};
+ghost use Rattle.board_package.specs.HandedBoard.{ComesAlongHanded, ComesNext, GoesHanded, StopsAmongHanded, StopsAtHanded, course};
 ghost use Rattle.board_package.specs.Manifest.{IsOnBoard};
-ghost use Rattle.board_package.specs.PackageBoard.{ComesAlong, WalksBy};
-ghost use Rattle.real_package.specs.HandedReal.{GoesRealHanded, IsRealBoardHanded, IsFirstRealStopHanded, RealComesHanded, StopsRealAmongHanded, StopsRealAtHanded};
+ghost use Rattle.board_package.specs.PackageBoard.{WalksBy};
+ghost use Rattle.real_package.specs.HandedReal.{IsRealBoardHanded, IsFirstRealStopHanded, RealComesHanded, as_real_board};
 ghost use Rattle.board_package.specs.Parts.{IsLawfulParts};
 ghost use Rattle.real_package.specs.RealBoards.{plain_real_board};
 ghost use Rattle.real_package.specs.RealCauses.{real_faults};
-ghost use Rattle.real_package.specs.RealPackage.{GoesReal, IsFirstRealStop, IsRealBoardOf, RealComes, StopsRealAmong, StopsRealAt};
+ghost use Rattle.real_package.specs.RealPackage.{IsFirstRealStop, IsRealBoardOf, RealComes};
 
 use crate::board::RealBoard;
 use crate::contents::read_file;
@@ -51,11 +51,9 @@ fn take_files<P: Package>(
     requires roles { All (λ e. IsOnBoard board.old.layers e.role) entries.now }
     ensures leaves { Leaves P.held P.handed P.faults «package».old «package».new }
     ensures spared { Spares (KeepsFaultsBy real_faults) P.faults P.lost «package».old «package».new result }
-    ensures found { OnOk result (IfSome (P.held «package».old) (λ files. WalksBy (GoesReal files) entries.now (plain_real_board board.old) (plain_real_board board.new))) }
-    ensures handed { OnOk result (WalksBy GoesRealHanded entries.now (course (P.handed «package».old) (plain_real_board board.old)) (course (P.handed «package».new) (plain_real_board board.new))) }
+    ensures handed { OnOk result (WalksBy (GoesHanded as_real_board) entries.now (course (P.handed «package».old) (plain_real_board board.old)) (course (P.handed «package».new) (plain_real_board board.new))) }
     ensures lawful { OnOk result (IsLawfulParts board.new) }
-    ensures cause { IfErr result (HasCauseBy real_faults (P.held «package».old) (λ files stop. StopsRealAmong files entries.now (plain_real_board board.old) stop) (λ files name. ComesAlong (GoesReal files) entries.now (plain_real_board board.old) name) (P.faults «package».old) (P.faults «package».new) (P.lost «package».new)) }
-    ensures handed_cause { IfErr result (HandedCauseBy real_faults (λ stop. StopsRealAmongHanded entries.now (course (P.handed «package».old) (plain_real_board board.old)) (P.handed «package».new) stop) (λ name. ComesAlongHanded GoesRealHanded entries.now (course (P.handed «package».old) (plain_real_board board.old)) (P.handed «package».new) name) (P.faults «package».old) (P.faults «package».new) (P.lost «package».new)) }
+    ensures handed_cause { IfErr result (HandedCauseBy real_faults (λ stop. StopsAmongHanded as_real_board entries.now (course (P.handed «package».old) (plain_real_board board.old)) (P.handed «package».new) stop) (λ name. ComesAlongHanded as_real_board entries.now (course (P.handed «package».old) (plain_real_board board.old)) (P.handed «package».new) name) (P.faults «package».old) (P.faults «package».new) (P.lost «package».new)) }
 {
     let mut file = Vec::new(alloc);
     for entry in entries {
@@ -76,12 +74,10 @@ fn take_entry<P: Package>(
     requires role { IsOnBoard board.old.layers entry.now.role }
     ensures leaves { Leaves P.held P.handed P.faults «package».old «package».new }
     ensures spared { Spares (KeepsFaultsBy real_faults) P.faults P.lost «package».old «package».new result }
-    ensures found { OnOk result (IfSome (P.held «package».old) (λ files. GoesReal files entry.now (plain_real_board board.old) (plain_real_board board.new))) }
-    ensures handed { OnOk result (GoesRealHanded entry.now (course (P.handed «package».old) (plain_real_board board.old)) (course (P.handed «package».new) (plain_real_board board.new))) }
+    ensures handed { OnOk result (GoesHanded as_real_board entry.now (course (P.handed «package».old) (plain_real_board board.old)) (course (P.handed «package».new) (plain_real_board board.new))) }
     ensures lawful { OnOk result (IsLawfulParts board.new) }
     ensures layers { OnOk result (board.new.layers ≡ board.old.layers) }
-    ensures cause { IfErr result (HasCauseBy real_faults (P.held «package».old) (λ files stop. StopsRealAt files entry.now (plain_real_board board.old) stop) (λ files name. entry.now.name ≡ name) (P.faults «package».old) (P.faults «package».new) (P.lost «package».new)) }
-    ensures handed_cause { IfErr result (HandedCauseBy real_faults (λ stop. StopsRealAtHanded entry.now (course (P.handed «package».old) (plain_real_board board.old)) (P.handed «package».new) stop) (λ name. ComesNext (P.handed «package».old) (P.handed «package».new) entry.now.name name) (P.faults «package».old) (P.faults «package».new) (P.lost «package».new)) }
+    ensures handed_cause { IfErr result (HandedCauseBy real_faults (λ stop. StopsAtHanded as_real_board entry.now (course (P.handed «package».old) (plain_real_board board.old)) (P.handed «package».new) stop) (λ name. ComesNext (P.handed «package».old) (P.handed «package».new) entry.now.name name) (P.faults «package».old) (P.faults «package».new) (P.lost «package».new)) }
 {
     take_file(alloc, &entry.name, package, file)?;
     read_file(alloc, entry, file.as_slice(), board)

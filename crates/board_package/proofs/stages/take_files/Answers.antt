@@ -1,33 +1,22 @@
-use Rattle.std.proofs.Common.{◌∙◌, IfSome, List, refl, subst, arith}
+use Rattle.std.proofs.Common.{◌∙◌, List, refl, subst, arith}
 use lib.Seq.{take_all}
 use Rattle.std.specs.List.{filter}
-use Rattle.board_package.specs.HandedBoard.{course}
-use Rattle.board_package.specs.HandedLabelled.{GoesLabelledHanded}
-use Rattle.board_package.specs.LabelledBoard.{GoesLabelled}
+use Rattle.board_package.specs.HandedBoard.{GoesHanded, course}
+use Rattle.board_package.specs.HandedLabelled.{as_labelled}
 use Rattle.board_package.specs.LabelledCauses.{labelled_faults, labelled_so_far}
 use Rattle.board_package.specs.PackageBoard.{WalksBy}
 use Rattle.board_package.specs.declared.entry.Entry.{Entry}
-use Rattle.board_package.proofs.LabelCauses.{files_cause_more, files_walked_more, needed}
-use Rattle.board_package.proofs.LabelStaging.{files_more_handed}
-use Rattle.board_package.proofs.Lift.{climbs, faultless_both, kept_after_by, leaves_on, told_all}
+use Rattle.board_package.proofs.LabelStaging.{files_more_handed, needed}
+use Rattle.board_package.proofs.Lift.{climbs, faultless_both, kept_after_by, leaves_on}
 use Rattle.board_package.proofs.OneTake.{leaves_none, not_ok}
 use Rattle.board_package.proofs.Walking.{passing_walk_more}
 use Rattle.board_package.proofs.stages.take_files.Goals as goal
-
-pub returns-in_err-take_needed-clause-cause : goal.returns-in_err-take_needed-clause-cause
-returns-in_err-take_needed-clause-cause g c =
-    climbs _ _ c.from_residual.result c.in_err-take_needed.field-0.0 c.from_residual.ensures.1
-    (files_cause_more c.args.naming (g.P.Package.held c.args.package.now) (g.P.Package.held c.loop-entry.package) c.args.entries.now c.loop-entry.entry-index c.entry-item.result (labelled_so_far c.args.parts.now c.args.tables.now) (labelled_so_far c.loop-entry.parts c.loop-entry.tables)
-    (g.P.Package.faults c.args.package.now) (g.P.Package.faults c.loop-entry.package) (g.P.Package.faults c.take_needed.new.package) (g.P.Package.lost c.take_needed.new.package) c.in_err-take_needed.field-0.0
-    c.loop-entry-test.true c.entry-item.is c.loop-entry.invariant.leaves.held c.loop-entry.invariant.leaves.later c.loop-entry.invariant.walked c.in_err-take_needed.ensures.cause)
 
 pub loop-entry-preserved : goal.loop-entry-preserved
 loop-entry-preserved g c = record {
   leaves = leaves_on c.loop-entry.invariant.leaves c.take_needed.ensures.leaves;
   faultless = faultless_both _ _ _ _ _ _ c.loop-entry.invariant.faultless c.in_ok-take_needed.ensures.spared;
-  walked = files_walked_more c.args.naming (g.P.Package.held c.args.package.now) (g.P.Package.held c.loop-entry.package) c.args.entries.now c.loop-entry.entry-index c.entry-item.result (labelled_so_far c.args.parts.now c.args.tables.now) (labelled_so_far c.loop-entry.parts c.loop-entry.tables) (labelled_so_far c.take_needed.new.parts c.take_needed.new.tables)
-      c.loop-entry-test.true c.entry-item.is c.loop-entry.invariant.leaves.held c.loop-entry.invariant.walked c.in_ok-take_needed.ensures.found;
-  handed = passing_walk_more (GoesLabelledHanded c.args.naming) (needed c.args.naming) c.args.entries.now c.loop-entry.entry-index c.entry-item.result (course (g.P.Package.handed c.args.package.now) (labelled_so_far c.args.parts.now c.args.tables.now)) (course (g.P.Package.handed c.loop-entry.package) (labelled_so_far c.loop-entry.parts c.loop-entry.tables)) (course (g.P.Package.handed c.take_needed.new.package) (labelled_so_far c.take_needed.new.parts c.take_needed.new.tables))
+  handed = passing_walk_more (GoesHanded (as_labelled c.args.naming)) (needed c.args.naming) c.args.entries.now c.loop-entry.entry-index c.entry-item.result (course (g.P.Package.handed c.args.package.now) (labelled_so_far c.args.parts.now c.args.tables.now)) (course (g.P.Package.handed c.loop-entry.package) (labelled_so_far c.loop-entry.parts c.loop-entry.tables)) (course (g.P.Package.handed c.take_needed.new.package) (labelled_so_far c.take_needed.new.parts c.take_needed.new.tables))
       c.loop-entry-test.true c.entry-item.is c.loop-entry.invariant.handed c.in_ok-take_needed.ensures.handed;
   parts = c.in_ok-take_needed.ensures.parts;
   layers = c.in_ok-take_needed.ensures.layers ∙ c.loop-entry.invariant.layers;
@@ -53,15 +42,11 @@ pub loop-entry-init : goal.loop-entry-init
 loop-entry-init g c = record {
   leaves = leaves_none g.P.Package.held g.P.Package.handed g.P.Package.faults c.args.package.now c.args.package.now refl refl (omega arith);
   faultless = record { count_stays = refl; lost_stays = refl };
-  walked = told_all (g.P.Package.held c.args.package.now) _ (λ files. refl);
   handed = refl;
   parts = c.requires.lawful;
   layers = refl;
   rise = c.requires.rise;
 }
-
-pub returns-in_err-take_needed-clause-found : goal.returns-in_err-take_needed-clause-found
-returns-in_err-take_needed-clause-found g c = not_ok _ c.from_residual.result c.in_err-take_needed.field-0.0 c.from_residual.ensures.1
 
 pub returns-in_err-take_needed-clause-handed : goal.returns-in_err-take_needed-clause-handed
 returns-in_err-take_needed-clause-handed g c = not_ok _ c.from_residual.result c.in_err-take_needed.field-0.0 c.from_residual.ensures.1
@@ -72,12 +57,7 @@ returns-in_err-take_needed-clause-parts g c = not_ok _ c.from_residual.result c.
 pub returns-in_err-take_needed-clause-rise : goal.returns-in_err-take_needed-clause-rise
 returns-in_err-take_needed-clause-rise g c = not_ok _ c.from_residual.result c.in_err-take_needed.field-0.0 c.from_residual.ensures.1
 
-pub returns-clause-found : goal.returns-clause-found
-returns-clause-found g c =
-    subst (λ (xs : List Entry). IfSome (g.P.Package.held c.args.package.now) (λ files. WalksBy (GoesLabelled c.args.naming files) (filter (needed c.args.naming) xs) (labelled_so_far c.args.parts.now c.args.tables.now) (labelled_so_far c.loop-entry.parts c.loop-entry.tables)))
-    (take_all c.loop-entry.entry-index c.args.entries.now c.loop-entry-test.false) c.loop-entry.invariant.walked
-
 pub returns-clause-handed : goal.returns-clause-handed
 returns-clause-handed g c =
-    subst (λ (xs : List Entry). WalksBy (GoesLabelledHanded c.args.naming) (filter (needed c.args.naming) xs) (course (g.P.Package.handed c.args.package.now) (labelled_so_far c.args.parts.now c.args.tables.now)) (course (g.P.Package.handed c.loop-entry.package) (labelled_so_far c.loop-entry.parts c.loop-entry.tables)))
+    subst (λ (xs : List Entry). WalksBy (GoesHanded (as_labelled c.args.naming)) (filter (needed c.args.naming) xs) (course (g.P.Package.handed c.args.package.now) (labelled_so_far c.args.parts.now c.args.tables.now)) (course (g.P.Package.handed c.loop-entry.package) (labelled_so_far c.loop-entry.parts c.loop-entry.tables)))
     (take_all c.loop-entry.entry-index c.args.entries.now c.loop-entry-test.false) c.loop-entry.invariant.handed

@@ -1,14 +1,11 @@
 use Rattle.std.proofs.Common.{subst}
+use Rattle.board_io.specs.Handed.{AgreeWith}
 use Rattle.board_package.specs.Manifest.{IsManifestFault, IsNotJson}
-use Rattle.board_package.proofs.Lift.{climbs}
+use Rattle.board_package.specs.PackageBoard.{IsHeldWith}
+use Rattle.board_package.proofs.Agreed.{held_with}
+use Rattle.board_package.proofs.Lift.{climbs, told_of}
 use Rattle.board_package.proofs.Staging.{handed_with, taking_manifest}
-use Rattle.board_package.proofs.Taking.{held_with}
 use Rattle.board_package.proofs.stages.take_manifest.Goals as goal
-
-pub returns-in-Err-NotJson-clause-cause : goal.returns-in-Err-NotJson-clause-cause
-returns-in-Err-NotJson-clause-cause g c =
-    let fault = subst (λ f. IsManifestFault c.as_slice.result.now f) c.in-Err-NotJson.field-0-is c.in-Err-NotJson.ensures.fault in
-    held_with _ _ _ _ IsNotJson c.in_ok-take_file.ensures.found c.as_slice.ensures.value fault
 
 pub returns-in_err-take_file-clause-handed_cause : goal.returns-in_err-take_file-clause-handed_cause
 returns-in_err-take_file-clause-handed_cause g c =
@@ -19,3 +16,9 @@ pub returns-in-Err-NotJson-clause-handed_cause : goal.returns-in-Err-NotJson-cla
 returns-in-Err-NotJson-clause-handed_cause g c =
     let fault = subst (λ f. IsManifestFault c.as_slice.result.now f) c.in-Err-NotJson.field-0-is c.in-Err-NotJson.ensures.fault in
     handed_with (g.P.Package.handed c.args.package.now) (g.P.Package.handed c.take_file.new.package) c.args.manifest.now c.take_file.new.file.items c.as_slice.result.now IsNotJson c.in_ok-take_file.ensures.handed c.as_slice.ensures.value fault
+
+pub returns-in-Err-NotJson-clause-cause : goal.returns-in-Err-NotJson-clause-cause
+returns-in-Err-NotJson-clause-cause g c =
+    let a = g.P.Package.handed c.args.package.now in
+    let b = g.P.Package.handed c.take_file.new.package in
+    told_of (g.P.Package.held c.args.package.now) (λ f. AgreeWith f a b) (λ f. IsHeldWith f c.args.manifest.now IsNotJson) (λ f w. held_with f a b c.args.manifest.now IsNotJson w (returns-in-Err-NotJson-clause-handed_cause g c)) c.take_file.ensures.leaves.consistent

@@ -1,25 +1,22 @@
-use Rattle.std.proofs.Common.{◌∙◌, IfSome, List, refl, subst, arith}
+use Rattle.std.proofs.Common.{◌∙◌, List, refl, subst, arith}
 use lib.Seq.{take_all}
 use Rattle.real_package.specs.RealCauses.{real_faults}
-use Rattle.board_package.proofs.Lift.{climbs, faultless_both, kept_after_by, leaves_on, told_all}
+use Rattle.board_package.proofs.Lift.{climbs, faultless_both, kept_after_by, leaves_on}
 use Rattle.board_package.proofs.OneTake.{leaves_none, not_ok}
 use Rattle.board_package.specs.PackageBoard.{WalksBy}
 use Rattle.board_package.specs.declared.entry.Entry.{Entry}
-use Rattle.real_package.specs.RealPackage.{GoesReal}
-use Rattle.board_package.specs.HandedBoard.{course}
-use Rattle.real_package.specs.HandedReal.{GoesRealHanded}
+use Rattle.board_package.specs.HandedBoard.{GoesHanded, course}
+use Rattle.real_package.specs.HandedReal.{as_real_board}
 use Rattle.real_package.specs.RealBoards.{plain_real_board}
 use Rattle.real_package.proofs.Staged.{more_handed}
-use Rattle.real_package.proofs.Walked.{cause_more, told_more, walk_more}
+use Rattle.real_package.proofs.Walked.{walk_more}
 use Rattle.real_package.proofs.stages.take_files.Goals as goal
 
 pub loop-entry-preserved : goal.loop-entry-preserved
 loop-entry-preserved g c = record {
   leaves = leaves_on c.loop-entry.invariant.leaves c.take_entry.ensures.leaves;
   faultless = faultless_both _ _ _ _ _ _ c.loop-entry.invariant.faultless c.in_ok-take_entry.ensures.spared;
-  walked = told_more (g.P.Package.held c.args.package.now) (g.P.Package.held c.loop-entry.package) c.args.entries.now c.loop-entry.entry-index c.entry-item.result (plain_real_board c.args.board.now) (plain_real_board c.loop-entry.board) (plain_real_board c.take_entry.new.board)
-      c.loop-entry-test.true c.entry-item.is c.loop-entry.invariant.leaves.held c.loop-entry.invariant.walked c.in_ok-take_entry.ensures.found;
-  handed = walk_more GoesRealHanded c.args.entries.now c.loop-entry.entry-index c.entry-item.result (course (g.P.Package.handed c.args.package.now) (plain_real_board c.args.board.now)) (course (g.P.Package.handed c.loop-entry.package) (plain_real_board c.loop-entry.board)) (course (g.P.Package.handed c.take_entry.new.package) (plain_real_board c.take_entry.new.board))
+  handed = walk_more (GoesHanded as_real_board) c.args.entries.now c.loop-entry.entry-index c.entry-item.result (course (g.P.Package.handed c.args.package.now) (plain_real_board c.args.board.now)) (course (g.P.Package.handed c.loop-entry.package) (plain_real_board c.loop-entry.board)) (course (g.P.Package.handed c.take_entry.new.package) (plain_real_board c.take_entry.new.board))
       c.loop-entry-test.true c.entry-item.is c.loop-entry.invariant.handed c.in_ok-take_entry.ensures.handed;
   lawful = c.in_ok-take_entry.ensures.lawful;
   layers = c.in_ok-take_entry.ensures.layers ∙ c.loop-entry.invariant.layers;
@@ -33,13 +30,6 @@ returns-in_err-take_entry-clause-spared g c =
 pub returns-in_err-take_entry-clause-leaves : goal.returns-in_err-take_entry-clause-leaves
 returns-in_err-take_entry-clause-leaves g c = leaves_on c.loop-entry.invariant.leaves c.take_entry.ensures.leaves
 
-pub returns-in_err-take_entry-clause-cause : goal.returns-in_err-take_entry-clause-cause
-returns-in_err-take_entry-clause-cause g c =
-    climbs _ _ c.from_residual.result c.in_err-take_entry.field-0.0 c.from_residual.ensures.1
-    (cause_more (g.P.Package.held c.args.package.now) (g.P.Package.held c.loop-entry.package) c.args.entries.now c.loop-entry.entry-index c.entry-item.result (plain_real_board c.args.board.now) (plain_real_board c.loop-entry.board)
-    (g.P.Package.faults c.args.package.now) (g.P.Package.faults c.loop-entry.package) (g.P.Package.faults c.take_entry.new.package) (g.P.Package.lost c.take_entry.new.package) c.in_err-take_entry.field-0.0
-    c.loop-entry-test.true c.entry-item.is c.loop-entry.invariant.leaves.held c.loop-entry.invariant.leaves.later c.loop-entry.invariant.walked c.in_err-take_entry.ensures.cause)
-
 pub returns-in_err-take_entry-clause-handed_cause : goal.returns-in_err-take_entry-clause-handed_cause
 returns-in_err-take_entry-clause-handed_cause g c =
     climbs _ _ c.from_residual.result c.in_err-take_entry.field-0.0 c.from_residual.ensures.1
@@ -51,14 +41,10 @@ pub loop-entry-init : goal.loop-entry-init
 loop-entry-init g c = record {
   leaves = leaves_none g.P.Package.held g.P.Package.handed g.P.Package.faults c.args.package.now c.args.package.now refl refl (omega arith);
   faultless = record { count_stays = refl; lost_stays = refl };
-  walked = told_all (g.P.Package.held c.args.package.now) _ (λ files. refl);
   handed = refl;
   lawful = c.requires.lawful;
   layers = refl;
 }
-
-pub returns-in_err-take_entry-clause-found : goal.returns-in_err-take_entry-clause-found
-returns-in_err-take_entry-clause-found g c = not_ok _ c.from_residual.result c.in_err-take_entry.field-0.0 c.from_residual.ensures.1
 
 pub returns-in_err-take_entry-clause-handed : goal.returns-in_err-take_entry-clause-handed
 returns-in_err-take_entry-clause-handed g c = not_ok _ c.from_residual.result c.in_err-take_entry.field-0.0 c.from_residual.ensures.1
@@ -66,12 +52,7 @@ returns-in_err-take_entry-clause-handed g c = not_ok _ c.from_residual.result c.
 pub returns-in_err-take_entry-clause-lawful : goal.returns-in_err-take_entry-clause-lawful
 returns-in_err-take_entry-clause-lawful g c = not_ok _ c.from_residual.result c.in_err-take_entry.field-0.0 c.from_residual.ensures.1
 
-pub returns-clause-found : goal.returns-clause-found
-returns-clause-found g c =
-    subst (λ (xs : List Entry). IfSome (g.P.Package.held c.args.package.now) (λ files. WalksBy (GoesReal files) xs (plain_real_board c.args.board.now) (plain_real_board c.loop-entry.board)))
-    (take_all c.loop-entry.entry-index c.args.entries.now c.loop-entry-test.false) c.loop-entry.invariant.walked
-
 pub returns-clause-handed : goal.returns-clause-handed
 returns-clause-handed g c =
-    subst (λ (xs : List Entry). WalksBy GoesRealHanded xs (course (g.P.Package.handed c.args.package.now) (plain_real_board c.args.board.now)) (course (g.P.Package.handed c.loop-entry.package) (plain_real_board c.loop-entry.board)))
+    subst (λ (xs : List Entry). WalksBy (GoesHanded as_real_board) xs (course (g.P.Package.handed c.args.package.now) (plain_real_board c.args.board.now)) (course (g.P.Package.handed c.loop-entry.package) (plain_real_board c.loop-entry.board)))
     (take_all c.loop-entry.entry-index c.args.entries.now c.loop-entry-test.false) c.loop-entry.invariant.handed
