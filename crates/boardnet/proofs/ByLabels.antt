@@ -94,7 +94,9 @@ joins_pieces b v r all k l p q is is' = (
 
 all_under : LabelledPiecesAreUnder → (source : Source) (manifest : List ℕ) (b : PlainBoard) → IsLabelledBoardBy source manifest b → IsLawfulBoard b → AllUnder b
 all_under law (Held files) manifest b is lawful = subst AllUnder (sym is.is) (law is.end.tables is.end.board (subst IsLawfulBoard is.is lawful))
-all_under law (HandedOver before after) manifest b is lawful = subst AllUnder (sym is.is) (law is.end.tables is.end.board (subst IsLawfulBoard is.is lawful))
+all_under law (HandedOver before after) manifest b is lawful =
+    let read = is.follows in
+    subst AllUnder (sym read.good.0) (law read.end.tables read.end.board (subst IsLawfulBoard read.good.0 lawful))
 
 pub labelled_report_is : LabelledPiecesAreUnder → (source : Source) (manifest : List ℕ) (b : PlainBoard) (answer : Answer) → IsLabelledBoardBy source manifest b → IsLawfulBoard b
     → IsReportOn b Two answer.text.items (status_of answer.note) (line_of answer.note) → IsAnswerTo source (X2 manifest) answer
