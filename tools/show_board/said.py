@@ -27,16 +27,18 @@ def line_of(name: str, data: bytes, kind: str, it: attributes.Attribute) -> str:
 
 
 def amiss(package) -> str:
-    """The line of the first copper file that says that it is no layer of its place, or negative; nothing where none does."""
+    """The line of the first copper file that says that it is no layer of its place, else of the first that says that it is negative; nothing where
+    none does. The layers come first: where a file is negative, the board is judged by copies that have no comments."""
+    negative = ""
     for place, name in enumerate(package.manifest.copper if package.manifest else (), 1):
-        data = came(package, name)
-        wanted = [b"Copper", b"L%d" % place]
-        found = [(it, WRONG_LAYER) for it in attributes.functions(data) if it.fields[1:3] != wanted]
-        found += [(it, NEGATIVE_FILE) for it in attributes.negatives(data)]
-        if found:
-            it, kind = min(found)
-            return line_of(name, data, kind, it)
-    return ""
+        data, wanted = came(package, name), [b"Copper", b"L%d" % place]
+        wrong = [it for it in attributes.functions(data) if it.fields[1:3] != wanted]
+        if wrong:
+            return line_of(name, data, WRONG_LAYER, wrong[0])
+        said = attributes.negatives(data)
+        if said and not negative:
+            negative = line_of(name, data, NEGATIVE_FILE, said[0])
+    return negative
 
 
 def layers(package) -> List[int]:

@@ -77,6 +77,18 @@ class Said(made.Case):
         (status, line), = answers
         self.assertEqual((status, line.split(",")[:2]), (1, ["board: differs", " between two bounds: 2 findings certain (lower differs"]), line)
 
+    def test_negative_and_exchanged(self):
+        """A negative file, before in the same file or in another one, hides no layer of another place: its copies have no comments."""
+        arc = ["G75*", "X0Y0D02*", "G03X1000000Y1000000I0J1000000D01*", "G01*"]
+        for files in (("in2.gbr", "in1.gbr"), ("in1.gbr", "in2.gbr")):
+            negative = said("TF.FilePolarity,Negative", True)
+            its = {**board(("top.gbr", *files, "bot.gbr"), is_comment=True), "top.gbr": negative + copper(1, True)}
+            its.update({f"in{k - 1}.gbr": negative * (k == 3) + copper(k, True).replace("M02*", "\n".join([*arc, "M02*"])) for k in (2, 3)})
+            self.board(its)
+            status, out, _ = self.show("board", "-q")
+            self.assertEqual("WrongLayer" in out, files[0] == "in2.gbr", out)
+            self.assertEqual(status == 3, files[0] == "in2.gbr", out)
+
     def commented(self, lines):
         """Lines whose attributes are comments."""
         return [re.sub(r"^%(T[AOD][^*]*)\*%$", r"G04 #@! \1*", line) for line in lines]
