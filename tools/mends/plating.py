@@ -9,8 +9,8 @@ import re
 EXACT = b"; #@! TF.FileFunction,"
 FUNCTION = re.compile(rb";[ \t]*#@![ \t]*TF\.FileFunction[ \t]*,(.*)", re.S)
 ATTRIBUTE = re.compile(rb";[ \t]*#@![ \t]*TA\.AperFunction[ \t]*,[ \t]*(Plated|NonPlated)\b")
-NO_ATTRIBUTE = re.compile(rb";[ \t]*#@![ \t]*TD\b")
-KIND = rb"((?:NON|UN)[ _-]?PLATED|PLATED|NPTH|PTH)(?![A-Z0-9])"
+OTHER_ATTRIBUTE = re.compile(rb";[ \t]*#@![ \t]*(?:TA\.AperFunction\b|TD(?:\.AperFunction)?[ \t]*\Z)")
+KIND = rb"((?:NON|UN|NOT)[ _-]*PLATED|PLATED|NPTH|PTH)(?![A-Z0-9])"
 TYPE = re.compile(rb";[ \t]*TYPE[ \t]*=[ \t]*(?:" + KIND + rb")?.*", re.I | re.S)
 # `;T08 Holesize 8. = 63.0 Tolerance = +0.0/-0.0 NON_PLATED MILS Quantity = 4` of Allegro, also without the tool.
 HOLESIZE = re.compile(rb";[ \t]*(?:T([0-9]{1,4})[ \t]+Holesize\b|Holesize[ \t]+([0-9]{1,4})\b).*?[ \t]" + KIND, re.I)
@@ -28,15 +28,16 @@ def is_plated(kind):
 
 class Plating:
     """`called` has for each tool's number what is said of it, plated or not, `tools` the one answer, None where there is none or
-    both. An attribute is that of the next tool alone, a TYPE that of all tools after it. `functions` are the fields of each file
-    function, with its line and whether `check` reads it."""
+    both. An attribute is that of the next tool, and one that says unplated of all tools up to the next attribute, as in copper files; a
+    TYPE is that of all tools after it, or behind the last tool that of the holes. `functions` are the fields of each file function,
+    with its line and whether `check` reads it."""
 
     def __init__(self, data):
         self.lines = data.split(b"\n")
         self.called, self.unplated_line, self.said, self.types = {}, 0, set(), set()
         self.numbered, self.starts = {}, []
         self.functions = list(functions_of(self.lines)) if b"TF.FileFunction" in data else []
-        self.own = self.lasting = None
+        self.own = self.lasting = self.behind = None
         self.sizes = []         # of Allegro's comments without a tool, those since the last tool
         for number, line in bare(self.lines):
             tool = TOOL.match(line)
@@ -44,7 +45,7 @@ class Plating:
                 # One such comment before a tool is the tool's, whatever it counts; of several each is its number's.
                 said = {self.lasting, self.own, *(self.sizes if len(self.sizes) == 1 else ())}
                 self.called.setdefault(int(tool[1]), set()).update(said - {None})
-                self.own, self.sizes = None, []
+                self.own, self.sizes, self.behind = False if self.own is False else None, [], None
             elif line.startswith(b";"):
                 self.comment(number, line)
             elif line in (b"%", b"M95") and self.called:
@@ -60,14 +61,14 @@ class Plating:
     def comment(self, number, line):
         attribute, kind, size, start = (form.match(line) for form in (ATTRIBUTE, TYPE, HOLESIZE, STARTS))
         if kind:
-            self.lasting = None if kind[1] is None else is_plated(kind[1])
+            self.lasting = self.behind = None if kind[1] is None else is_plated(kind[1])
             self.types.add(self.lasting)
         if size:
             self.numbered.setdefault(int(size[1] or size[2]), set()).add(is_plated(size[3]))
             self.sizes += [] if size[1] else [is_plated(size[3])]
         if start:
             self.starts.append((int(start[2]), is_plated(start[1])))
-        self.own = attribute[1] == b"Plated" if attribute else None if NO_ATTRIBUTE.match(line) else self.own
+        self.own = attribute[1] == b"Plated" if attribute else None if OTHER_ATTRIBUTE.match(line) else self.own
         self.said |= ({self.lasting} if kind else {self.own} if attribute else set()) - {None}
         told = (self.own, self.lasting, size and is_plated(size[3]), start and is_plated(start[1]))
         if not self.unplated_line and False in told:
@@ -96,9 +97,9 @@ class Plating:
         return self.functions[0][0] if self.functions else self.unplated_line
 
     def holes(self):
-        """The line of each hole, and what is said of it: of its tool, and by the last TYPE before it in the body."""
-        tool = kind = None
-        called, is_body = set(), False
+        """The line of each hole, and what is said of it: of its tool, and by the last TYPE before it behind the tools."""
+        tool, kind = None, self.behind
+        called, is_body = {kind} - {None}, False
         for number, line in bare(self.lines):
             if not is_body:
                 is_body = line in (b"%", b"M95") and bool(self.tools)

@@ -206,7 +206,11 @@ class Mends(common.Case):
                 (drill(tools=(";TYPE=PLATED", "T1C0.4", ";TYPE=OTHER", "T2C1.0")), {1: True, 2: None}),
                 (drill(tools=(";TYPE=PLATED", OWN.format("NonPlated"), "T1C0.4")), {1: None}),
                 (drill(tools=(";#@!TA.AperFunction,NonPlated,NPTH", "T1C+0.5", ";\t#@! \tTA.AperFunction,NonPlated", "T2F1S2C+.5H3", "; #@! TA.AperFunction,NonPlatedX", "T3C-0.5")),
-                 {1: False, 2: False, 3: None})]
+                 {1: False, 2: False, 3: None}),
+                (drill(tools=(OWN.format("NonPlated"), "T1C0.4", "T2C0.5", OWN.format("Plated"), "T3C0.6", "T4C0.7")), {1: False, 2: False, 3: True, 4: None}),
+                (drill(tools=(OWN.format("NonPlated"), "; #@! TD.Own", "T1C0.4", "; #@! TD.AperFunction", "T2C0.5")), {1: False, 2: None}),
+                (drill(tools=(OWN.format("NonPlated"), "T1C0.4", "; #@! TD", "T2C0.5")), {1: False, 2: None}),
+                (drill(tools=(size.format("T01 ", 1, "NOT PLATED"), size.format("T08 ", 8, "NON  PLATED"), *two)), {1: False, 8: False})]
         for text, tools in rows:
             self.assertEqual(plating.Plating(text.encode()).tools, tools, text)
         body = ("T1", "X0.0Y0.0", "T8", "X3.0Y0.0")
@@ -218,6 +222,10 @@ class Mends(common.Case):
         self.assertEqual((drill_file.mended(torn.encode())[1], plating.unplated_hole(torn.encode())), ([], 10))
         behind = drill(*body, ";TYPE=NON_PLATED", tools=two)
         self.assertEqual((plating.unplated_hole(behind.encode()), plating.Plating(behind.encode()).is_unplated_alone()), (0, False))
+        # Behind the tools and before the holes it is said of these.
+        before = drill(*body, tools=(*two, ";TYPE=NON_PLATED"))
+        self.assertEqual((plating.unplated_hole(before.encode()), plating.Plating(before.encode()).is_unplated_alone()), (8, True))
+        self.assertEqual(plating.unplated_hole(before.replace(";TYPE=NON_PLATED", ";TYPE=").encode()), 0)
 
     def test_functions_that_check_passes_over(self):
         """A file function in another form than the one that `check` reads, judged as that would be; the one form is left to `check`."""
