@@ -119,9 +119,7 @@ def in_order(guesses):
         if one[1][:2] == other[1][:2]:
             raise Refused(f"{one[0]} and {other[0]} both look like the same copper layer: keep one of them in the folder")
     kinds = {it[1][0] for it in listed}
-    plane = next((it[0] for it in listed if it[1][0] == "plane"), None)
-    if plane:
-        raise Refused(f"{plane} looks like an inner plane, whose place among the layers no name says: export Gerber X2, or write the manifest by hand")
+    need_no_plane(listed)
     if "order" in kinds:
         need_order(listed)
     numbered = [it for it in listed if it[1][0] == "layer"]
@@ -132,6 +130,15 @@ def in_order(guesses):
         raise Refused("there are inner copper layers, and no top or no bottom one: export all copper layers, as Gerber X2")
     need_inner(inner)
     return [Layer(name, number, "", why) for number, (name, _, why) in enumerate(listed, 1)]
+
+
+def need_no_plane(listed):
+    """Refuses inner planes of Altium and Protel, which draw where there is no copper, and do not say so."""
+    for name, (kind, _, *place), _ in listed:
+        if kind == "plane":
+            raise Refused(f"{name} looks like an inner plane, whose place among the layers no name says: export Gerber X2, or write the manifest by hand")
+        if place and place[0] and place[0][0] == "plane":
+            raise Refused(f"{name} looks like an inner plane, which may be drawn as a negative without a word of it: export Gerber X2")
 
 
 def need_order(listed):

@@ -257,6 +257,7 @@ class Manifest(common.Case):
             (board("1*\nG04 Layer_Physical_Order=2", 2, 3, 4), "a.GTL says Layer_Physical_Order=1 and 2"),
             (board(1, 2, 2, 3), "both look like the same copper layer"),
             (board(4, 2, 3, 1), "d.GBL says Layer_Physical_Order=1 of 4, and its name says another place"),
+            (board(1, 2, 3, 4, names=("a.GTL", "b.G1", "c.GP1", "d.GBL")), "c.GP1 looks like an inner plane, which may be drawn as a negative without a word of it"),
             (board(1, 2, 3, names=("a.GTL", "b.G1", "c.G2")), "c.G2 says Layer_Physical_Order=3 of 3, and its name says another place"),
             ({**board(1, 2), "d.GBL": copper()}, "not all say their Layer_Physical_Order"),
         ]:
