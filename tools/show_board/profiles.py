@@ -53,10 +53,12 @@ def outline_of(profiles, texts):
         if profiles and not loops:
             raise Refused("it has no line")
         need_apart(loops)
+        inside = [*nested(loops)]
+        need_no_copper([*zip(sorted_by_size(loops), inside)], texts)
     except Refused as refused:
         why = f"its profile says no inside: {refused}"
     if not why:
-        return Outline([*nested(loops)], "", around(loop.box for loop in loops))
+        return Outline(inside, "", around(loop.box for loop in loops))
     seen = [box(piece) for text in texts for it in Copper(text, cuts=True).objects for piece in it.both[1]]
     seen += [(*map(min, zip(*its)), *map(max, zip(*its))) for its in (line[:2] for line in lines)]
     return Outline([], why, around(seen))
@@ -161,8 +163,32 @@ def need_apart(loops):
                 raise Refused(f"two of its contours meet near {', '.join(map(millimetres, a))} mm")
 
 
+def need_no_copper(inside, texts):
+    """Refused where copper that files draw lies wholly in what would be cut out: so would be read what has both sides of an outline's line, or
+    the outline of a panel round that of the board, and no plane would be left on the board."""
+    is_cut = not all(it.dark for _, it in inside)
+    for copper in [Copper(text, cuts=True) for text in texts] if is_cut else ():
+        for it in copper.objects if not copper.negative else ():
+            if it.dark and it.both[1] and not innermost(inside, it.both[1]):
+                raise Refused(f"copper lies in what it cuts out, near {', '.join(map(millimetres, box(it.both[1][0])[:2]))} mm")
+
+
+def innermost(inside, pieces):
+    """Whether the smallest contour that has pieces in its box and the first place of one within is dark; they may lie in none."""
+    left, low, right, high = around(map(box, pieces))
+    first = pieces[0][1][0] if pieces[0][0] == "area" else pieces[0][1]
+    for loop, it in reversed(inside):
+        if loop.box[0] <= left and loop.box[1] <= low and right <= loop.box[2] and high <= loop.box[3] and odd_inside(loop.corners, first):
+            return it.dark
+    return True
+
+
+def sorted_by_size(loops):
+    return sorted(loops, key=Loop.size, reverse=True)
+
+
 def nested(loops):
     """The contours in order of their size, which is dark within an even number of others, and clear within an odd one."""
-    for loop in sorted(loops, key=Loop.size, reverse=True):
+    for loop in sorted_by_size(loops):
         outer = sum(odd_inside(other.corners, loop.corners[0]) for other in loops if other is not loop)
         yield Object(outer % 2 == 0, loop.both, 0)

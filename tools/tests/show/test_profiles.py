@@ -80,6 +80,22 @@ class Outlines(unittest.TestCase):
                 found = outline(*texts)
                 self.assertEqual((found.objects, why in found.why), ([], True), found.why)
 
+    def test_copper_in_what_is_cut_out(self):
+        """Both sides of an outline's line, or a panel's outline round that of the board, would leave no plane on the board: its copper tells. A ring round
+        a hole, and copper on an island, do not."""
+        big, frame = [(-3, -3), (13, -3), (13, 13), (-3, 13)], [(-.1, -.1), (10.1, -.1), (10.1, 10.1), (-.1, 10.1)]
+        copper = lambda *words: "\n".join([*HEAD, *words, "M02*", ""])
+        pad, ring, plane = copper("D11*", at(3, 3) + "D03*"), copper("%ADD12C,3.0*%", "D12*", at(5, 5) + "D03*"), copper("%IPNEG*%", "D11*", at(3, 3) + "D03*")
+        rows = [
+            ([profile(*lines(*SQUARE), *lines(*frame))], [pad], False), ([profile(*lines(*SQUARE)), profile(*lines(*big))], [plane, pad], False),
+            ([profile(*lines(*SQUARE))], [pad], True), ([profile(*lines(*SQUARE)), profile(*lines(*big))], [plane], True),
+            ([profile(*lines(*SQUARE), *circle(5, 5, 1))], [pad, ring], True), ([profile(*lines(*big), *lines(*SQUARE), *circle(3, 3, 1))], [pad], True),
+        ]
+        for texts, its, is_known in rows:
+            with self.subTest(texts=texts, its=its):
+                found = profiles.outline_of(texts, its)
+                self.assertEqual((bool(found.objects), "copper lies in what it cuts out, near 2.500, 2.500 mm" in found.why), (is_known, not is_known), found.why)
+
     def test_places(self):
         """Points near and far from outlines with holes and islands, under dark and clear discs: in both boards as in the real one."""
         rng, asked = random.Random(17), 0
