@@ -10,6 +10,7 @@ from .exact import Refused, ceil_root, floor_root
 from .spots import cross, dot
 
 SAGITTA = 3600      # a chord leaves its arc by about 0.36 micrometres at most
+UNLIKE = 64         # or by so small a part of what its ends are unlike in their distances from the centre
 
 
 def directions(centre, start, end, is_whole):
@@ -45,29 +46,29 @@ def axis_points(centre, start, end, radius, is_whole):
     return [start, *(scaled(centre, d, radius) for d in directions(centre, start, end, is_whole or start == end)), end]
 
 
-def arc_points(centre, start, end, radius, is_whole=False):
+def arc_points(centre, start, end, radius, is_whole=False, sagitta=SAGITTA):
     """A chain of spots near the circle from start to end, neighbours at most about two sagittas' chord apart. A guess. Equal ends are
     the whole circle."""
-    apart = min(radius * SAGITTA, radius * radius // 4)
+    apart = min(radius * sagitta, radius * radius // 4)
     axes = axis_points(centre, start, end, radius, is_whole)
     keys = [p for k, p in enumerate(axes) if k in (0, len(axes) - 1) or min(dot(p, start, start), dot(p, end, end)) > apart]
     out = [start]
     for p, q in zip(keys, keys[1:]):
-        halve(centre, p, q, radius, out, 0)
+        halve(centre, p, q, radius, out, 0, sagitta)
         out.append(q)
     return [p for k, p in enumerate(out) if k == 0 or p != out[k - 1]]
 
 
-def halve(centre, p, q, radius, out, deep):
+def halve(centre, p, q, radius, out, deep, sagitta):
     """Halves down to turns of about 25 degrees, then takes equal shares of the chord."""
     chord = dot(p, q, q)
     if 16 * chord > 3 * radius * radius and deep < 6:
         m = scaled(centre, (p[0] + q[0] - 2 * centre[0], p[1] + q[1] - 2 * centre[1]), radius)
-        halve(centre, p, m, radius, out, deep + 1)
+        halve(centre, p, m, radius, out, deep + 1, sagitta)
         out.append(m)
-        halve(centre, m, q, radius, out, deep + 1)
+        halve(centre, m, q, radius, out, deep + 1, sagitta)
         return
-    steps = min(4096, isqrt(chord * 10 // (72 * radius * SAGITTA)) + 1)
+    steps = min(4096, isqrt(chord * 10 // (72 * radius * sagitta)) + 1)
     for k in range(1, steps):
         d = [(steps - k) * (p[j] - centre[j]) + k * (q[j] - centre[j]) for j in (0, 1)]
         out.append(scaled(centre, d, radius))
@@ -93,7 +94,8 @@ def arc_chain(centre, start, end, is_whole=False):
     if not least:
         return [start, end], 2 * most + 1
     turn = lambda p, q: cross(centre, p, q)
-    chain = arc_points(centre, start, end, (least + most) // 2, is_whole)
+    # Draws along it are as wide as the ends are unlike: shorter chords would only be many that overlap.
+    chain = arc_points(centre, start, end, (least + most) // 2, is_whole, max(SAGITTA, (most - least) // UNLIKE))
     chain = chain if goes_once(turn, chain) else axis_points(centre, start, end, most, is_whole)
     least, most = distances(centre, start, end)
     return (chain, leaves(centre, chain, least, most)) if goes_once(turn, chain) else ([start, end], 2 * most + 1)

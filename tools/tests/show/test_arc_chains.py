@@ -105,6 +105,14 @@ class TestArcChains(unittest.TestCase):
                 self.assertTrue(is_above(centre, start, end, 2 * half, *chain_of(above)))
                 self.assertEqual(bool(below), half > above[0][3] - half and not is_loop(centre, start, end))
 
+    def test_ends_that_are_unlike_have_few_chords(self):
+        """Where draws are millimetres wide, since nobody knows where the arc is, short chords would be thousands of edges that cross."""
+        mm = 10 ** 7
+        for centre, start, end in (((0, 0), (10 * mm, 0), (0, mm)), ((0, 0), (mm, 0), (-10 * mm, 10)), ((8 * mm, -9 * mm), (9 * mm, -9 * mm), (9 * mm, 9 * mm)), ((0, 0), (10 * mm, 0), (0, -11 * mm))):
+            chain, _ = arc_chain(centre, start, end)
+            self.assertLess(len(chain), 60, (centre, start, end))
+        self.assertGreater(len(arc_chain((0, 0), (10 * mm, 0), (0, 10 * mm))[0]), 90)
+
     def test_what_is_meant(self):
         """The arcs that have a place are those that the checks take; all others are refused, but with a pen of no width."""
         random.seed(65)
