@@ -462,15 +462,17 @@ class Netlists(unittest.TestCase):
         self.assertEqual(self.told("P  NNAME1 N/C", "NNAME1"), (["N/C"], [(3, "NNAME1", 0)], ""))
 
     def test_stays(self):
-        """Other letters, an alias that no record or one alone has, none, and one that is called like another."""
+        """Other letters, an alias that no record or one alone has, and none."""
         for rows in (["P  NNAME1 a name", "P  NNAME2 A name", "NNAME1", "NNAME2"], ["P  NNAME1 a", "P  NNAME2 a", "NNAME1", "NNAME1"],
-                     ["P  NNAME1", "P  NNAME2", "NNAME1", "NNAME2"], ["P  NNAME1 NNAME2", "P  NNAME2 X", "NNAME1", "NNAME2"], ["NNAME1", "NNAME2"],
+                     ["P  NNAME1", "P  NNAME2", "NNAME1", "NNAME2"], ["NNAME1", "NNAME2"],
                      ["P  NNAME1 \u00e4", "P  NNAME2 \u00f6", "NNAME1", "NNAME2"]):
             self.assertEqual(self.told(*rows), ([row for row in rows if not row.startswith("P")], [], ""))
 
     def test_unclear(self):
         long = "x" * 62
-        for rows, why in ((["P  NNAME1 a", "P  NNAME1 b", "NNAME1"], "NNAME1 stands for two names"),
+        chain = "NNAME1 stands for NNAME2, which stands for another name"
+        for rows, why in ((["P  NNAME1 a", "P  NNAME1 b", "NNAME1"], "NNAME1 stands for two names"), (["P  NNAME1 NNAME2", "P  NNAME2 X", "NNAME1", "X"], chain),
+                          (["P  NNAME1 NNAME2", "P  NNAME2 X", "NNAME1", "NNAME2"], chain),
                           ([f"P  NNAME1 {long}", f"P  NNAME2 {long}", "NNAME1", "NNAME2"], "NNAME1 and NNAME2 stand for one name that fills its line, so that it may be cut"),
                           (["P  NNAME1 NNAME2", "NNAME1", "NNAME2"], "NNAME1 and NNAME2 look like one name, but no line says what NNAME2 stands for")):
             self.assertEqual(self.told(*rows), ([row for row in rows if not row.startswith("P")], [], why))

@@ -26,8 +26,11 @@ class Names:
         self.whole = {alias: name for alias, name in self.whole.items() if name and name != alias}
         self.records = dict.fromkeys(RECORD.findall(data)) if self.whole else {}
         self.names = [name for name in (field.strip() for field in self.records) if name]
-        for name in twice.intersection(self.names):
-            self.unclear = f"{name.decode()} stands for two names"
+        for name in self.names:
+            if name in twice:
+                self.unclear = f"{name.decode()} stands for two names"
+            elif self.whole.get(name) in self.whole:
+                self.unclear = f"{name.decode()} stands for {self.whole[name].decode()}, which stands for another name"
 
     def groups(self):
         """{whole name: names of records that stand for it}, where there are several, or where it is no net."""
