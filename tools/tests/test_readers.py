@@ -66,8 +66,8 @@ class SmallFiles(common.Case):
 
     def test_page_has_the_rules_as_they_are(self):
         with open(os.path.join(BENCHES, "READERS.md"), encoding="utf-8") as file:
-            rows = [line.strip("|\n").split("|") for line in file if line.startswith("| ")][1:]
-        told = [tuple(cell.strip() for cell in row[:4]) for row in rows]
+            table_rows = file.read().partition("| Rule |")[2].splitlines()[2:]
+        told = [tuple(cell.strip() for cell in row.strip("|").split("|")[:4]) for row in table_rows]
         self.assertGreater(len(told), 40)
         known = {(rule.has, rule.section, rule.says, rule.reads) for rule in self.rules}
         self.assertEqual([row for row in told if row not in known], [])
