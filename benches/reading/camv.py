@@ -6,7 +6,7 @@ import tempfile
 from typing import List, NamedTuple, Optional, Tuple
 
 from . import BARE, COPPER, NEAR
-from .others import Told, put, run, version
+from .others import States, Told, put, run, version
 
 # Where it cannot read a file it says so, and does not end.
 SECONDS, UNREAD = 30, b"Can not load file"
@@ -192,5 +192,5 @@ class Camv:
         cells = Cells(shapes)
         return Told([cells.state((x / 1000 + off, y / 1000 + off)) for x, y in places], said)
 
-    def again(self, data: bytes, kind: str, place: Tuple[int, int]) -> Told:
-        return self.states(data, kind, [place])
+    def again(self, data: bytes, kind: str, places: List[Tuple[int, int]]) -> States:
+        return self.states(data, kind, places).states

@@ -117,8 +117,8 @@ def settled(reader, file: File, counts: Counter, differ: List[Differing]) -> Lis
     """Those that still differ where they are looked at again; where none of the first is settled, the rest is not."""
     left, first = [], differ[:MOST_AGAIN]
     for some in (first, differ[MOST_AGAIN:]):
-        again = [reader.again(file.data, file.kind, it.place).states for it in some]
-        left += [it for it, states in zip(some, again) if states is None or states[0] == it.other]
+        states = reader.again(file.data, file.kind, [it.place for it in some]) if some else []
+        left += some if states is None else [it for it, state in zip(some, states) if state == it.other]
         if left == first:
             return differ
     counts[SETTLED] += len(differ) - len(left)
@@ -144,7 +144,7 @@ def smaller(file: File, how: str, reader, it: Differing, ours: Ours) -> bytes:
         data = joined(parts)
         if ours.bounds_at(data, file.kind, it.place, how == "exact") != (it.ours, it.ours):
             return False
-        return reader.again(data, file.kind, it.place).states == [it.other]
+        return reader.again(data, file.kind, [it.place]) == [it.other]
 
     parts = parts_of(file.data, file.kind)
     return joined(smallest(parts, holds, MOST_TRIALS[reader.name])) if holds(parts) else b""

@@ -6,7 +6,7 @@ import tempfile
 from typing import List, NamedTuple, Tuple
 
 from . import BARE, COPPER, NEAR
-from .others import Told, put, python_with_pictures, run, version
+from .others import States, Told, put, python_with_pictures, run, version
 
 SIDE = os.path.join(os.path.dirname(os.path.abspath(__file__)), "picture_side.py")
 STATES = {"1": COPPER, "0": BARE, "b": NEAR, "-": None}
@@ -80,9 +80,10 @@ class Gerbv:
             done = subprocess.run(words, input=asked.encode(), stdout=subprocess.PIPE, check=True)
         return Told([STATES[it] for it in done.stdout.decode().strip()], said)
 
-    def again(self, data: bytes, kind: str, place: Tuple[int, int]) -> Told:
-        """A place looked at with one micrometre a pixel."""
-        return self.states(data, kind, [place], 1)
+    def again(self, data: bytes, kind: str, places: List[Tuple[int, int]]) -> States:
+        """Places looked at with one micrometre a pixel, each by itself."""
+        told = [self.states(data, kind, [place], 1).states for place in places]
+        return None if None in told else [states[0] for states in told]
 
 
 def said_of(text: str) -> str:

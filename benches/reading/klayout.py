@@ -6,7 +6,7 @@ import tempfile
 from math import isqrt
 from typing import Dict, List, NamedTuple, Tuple
 
-from .others import Told, put, run, version
+from .others import States, Told, put, run, version
 
 SIDE = os.path.join(os.path.dirname(os.path.abspath(__file__)), "klayout_side.py")
 MOST_BORDERS = 20_000
@@ -100,9 +100,9 @@ class KLayout:
     def states(self, data: bytes, kind: str, places: List[Tuple[int, int]]) -> Told:
         return self.looked([Task({"f": data}, kind, places)])[0].told
 
-    def again(self, data: bytes, kind: str, place: Tuple[int, int]) -> Told:
-        """A place looked at with a wider square: in a sharp corner borders are further apart than chords and arcs."""
-        return self.looked([Task({"f": data}, kind, [place], wider=WIDER)])[0].told
+    def again(self, data: bytes, kind: str, places: List[Tuple[int, int]]) -> States:
+        """Places looked at with a wider square: in a sharp corner borders are further apart than chords and arcs."""
+        return self.looked([Task({"f": data}, kind, places, wider=WIDER)])[0].told.states
 
 
 def looked_of(told: dict) -> Looked:

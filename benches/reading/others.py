@@ -13,9 +13,12 @@ PYTHONS = (sys.executable, "/usr/bin/python3")
 SECONDS = 300
 
 
+States = Optional[List[Optional[int]]]
+
+
 class Told(NamedTuple):
     """What a reader says: of each place a state, or None where it did not read the file; and its messages."""
-    states: Optional[List[Optional[int]]]
+    states: States
     said: str
 
 

@@ -66,8 +66,8 @@ class SmallFiles(common.Case):
 
     def test_page_has_the_rules_as_they_are(self):
         with open(os.path.join(BENCHES, "READERS.md"), encoding="utf-8") as file:
-            rows = [line.strip("|\n").split("|") for line in file if line.startswith("| ")][1:]
-        told = [tuple(cell.strip() for cell in row[:4]) for row in rows]
+            table_rows = file.read().partition("| Rule |")[2].splitlines()[2:]
+        told = [tuple(cell.strip() for cell in row.strip("|").split("|")[:4]) for row in table_rows]
         self.assertGreater(len(told), 40)
         known = {(rule.has, rule.section, rule.says, rule.reads) for rule in self.rules}
         self.assertEqual([row for row in told if row not in known], [])
@@ -240,7 +240,7 @@ class Counting(common.Case):
         some = [compare.Differing((k, 0), 1, 0) for k in range(30)]
         for holds, left, looks in ((lambda x: x != 3, 29, 30), (lambda x: True, 30, compare.MOST_AGAIN), (lambda x: False, 0, 30)):
             asked, counts = [], Counter({compare.DIFFER: 30})
-            again = lambda data, kind, place: asked.append(place) or Told([0 if holds(place[0]) else -1], "")
+            again = lambda data, kind, some: asked.extend(some) or [0 if holds(place[0]) else -1 for place in some]
             found = compare.settled(types.SimpleNamespace(again=again), file, counts, some)
             self.assertEqual((len(found), len(asked), counts[compare.DIFFER], counts[compare.SETTLED]), (left, looks, left, 30 - left))
 
@@ -260,7 +260,7 @@ class Smaller(common.Case):
         data = HEAD + b"%ADD10C,1*%\nD10*\nX1Y1D03*\nX2Y2D03*\nG04 a*\nM02*\n"
         took = []
         program = types.SimpleNamespace(bounds_at=lambda data, *rest: took.append(rest) or ((1, 1) if data.endswith(b"M02*\n") else None))
-        reader = types.SimpleNamespace(name="gerbv", again=lambda data, *_: Told([0 if b"X2" in data else 1], ""))
+        reader = types.SimpleNamespace(name="gerbv", again=lambda data, *_: [0 if b"X2" in data else 1])
         file, it = files.File("n", "copper", data), compare.Differing((2, 2), 1, 0)
         self.assertEqual(compare.smaller(file, "exact", reader, it, program), b"X2Y2D03*\nM02*\n")
         self.assertEqual(set(took), {("copper", (2, 2), True)})
