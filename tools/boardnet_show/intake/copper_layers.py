@@ -10,8 +10,10 @@ COPPER = re.compile(r"Copper,L([1-9][0-9]{0,8})(?:,(Top|Inr|Bot))?(?:,|$)")
 # Altium and Protel count the copper layers of a board, from 1 at the top.
 ORDER = re.compile(rb"G04[ \t]*Layer_Physical_Order[ \t]*=[ \t]*([0-9]{1,9})[ \t]*")
 # Names that have a side and are no copper.
-NO_COPPER = re.compile(r"mask|paste|silk|legend|outline|assy|assembly|court|fab|adhes|drill|boundary|edge|keep|\.gt[spo]$|\.gb[spo]$|\.gm\d*$|\.gko$|"
-                       r"\.(?:pl|st|cr)[cs]$|\.dim$", re.I)      # the last of Eagle
+NO_COPPER = re.compile(r"mask|paste|silk|legend|outline|assy|assembly|courtyard|adhes|drill|boundary|keep[ _-]?out|"
+                       # Short words stand alone: a board may be called hedgehog.
+                       r"(?<![a-z])(?:court|fab|fabrication|edge|keep)(?![a-z])|"
+                       r"\.gt[spo]$|\.gb[spo]$|\.gm\d*$|\.gko$|\.(?:pl|st|cr)[cs]$|\.dim$", re.I)      # the last of Eagle
 TOP = re.compile(r"f[._]cu|\.gtl$|\.cmp$|\.top$|(?:^|[._ -])(?:top|front|component)(?:[._ -]|$)|top[._ -]?(?:copper|layer)|copper[._ -]?top", re.I)
 BOTTOM = re.compile(r"b[._]cu|\.gbl$|\.sol$|\.bot$|(?:^|[._ -])(?:bot|bottom|back|solder)(?:[._ -]|$)|bot(?:tom)?[._ -]?(?:copper|layer)|copper[._ -]?bot", re.I)
 INNER = re.compile(r"in(\d+)[._]cu|\.g(\d+)$|\.gl(\d+)$|inner[._ -]?(?:layer)?[._ -]?(\d+)|intern.*?(\d+)(?:\.\w+)?$|mid[._ -]?(?:layer)?[._ -]?(\d+)", re.I)

@@ -26,6 +26,7 @@ from .pad_parts import parts
 # Mode, X and Y of an operation, and its code.
 OPERATION = re.compile(r"(G0?[123])?(X[+-]?\d+)?(Y[+-]?\d+)?(?:I[+-]?\d+)?(?:J[+-]?\d+)?(?:D0?([123]))?")
 COMMENT = re.compile(r"G04[ \t]*#@![ \t]*(T[OD].*)")
+ESCAPED = re.compile(r"\\u([0-9A-Fa-f]{4})")
 NO_NAMES = "the copper files do not say of which pins or nets their pads are (TO.P, TO.N): export Gerber X2 with net attributes"
 
 
@@ -65,12 +66,13 @@ NO_COPPER = "it makes no copper"
 
 
 def field(text):
-    """A field of an attribute as it can be printed: fields that differ stay different, in files of UTF-8 and of Latin-1."""
+    """A field of an attribute as it can be printed: fields that differ stay different, in files of UTF-8 and of Latin-1. `\\uXXXX` is a
+    character (Gerber Layer Format Specification, 3.4.3)."""
     try:
         told = text.encode("latin-1").decode("utf-8")
     except UnicodeDecodeError:
         told = text
-    return printable(told)
+    return printable(ESCAPED.sub(lambda found: chr(int(found[1], 16)), told))
 
 
 class Names:

@@ -290,7 +290,7 @@ class Manifest(common.Case):
         for name in ("x.plc", "x.pls", "x.stc", "x.sts", "x.crc", "x.dim", "x-F_Mask.gbr", "drill_map.gbr"):
             self.assertNotIn("would be taken as no copper", self.refused({**names, name: copper()}, "say --yes"), name)
         self.taken({**names, "mystery.gbr": copper()}, written, "taken as no copper, left out: mystery.gbr", words=["--yes"])
-        for name, text in (("x-mask-In1_Cu.gbr", copper()), ("keep_l2.gbr", copper()), ("y.gbr", copper("Copper,2,Inr")), ("y.gbr", copper("copper,L2")),
+        for name, text in (("x-mask-In1_Cu.gbr", copper()), ("keep_l2.gbr", copper()), ("hedgehog-gnd.gbr", copper()), ("y.gbr", copper("Copper,2,Inr")), ("y.gbr", copper("copper,L2")),
                            ("z.gbr", " " * 100_000 + copper())):
             self.assertIn(f"would be taken as no copper, left out: {name}: ", self.refused({**names, name: text}, "say --yes"))
         notes = self.refused({**names, "mystery.gbr": copper(), "x.gbrjob": '{"GeneralSpecs": {"LayerNumber": 2}}'}, "say --yes")

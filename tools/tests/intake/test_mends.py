@@ -94,7 +94,7 @@ DRILLS = [
 ]
 DRILLS_STAY = {
     "a tool without an attribute": drill(*MIXED, header=("; #@! TF.FileFunction,MixedPlating,1,1", "METRIC"), tools=("T1C0.4", *TOOLS[2:])),
-    "a tool behind another's attribute": drill(*MIXED, header=("; #@! TF.FileFunction,MixedPlating,1,1", "METRIC"), tools=(*TOOLS, "T3C0.5")),
+    "a tool behind another that is plated": drill(*MIXED, header=("; #@! TF.FileFunction,MixedPlating,1,1", "METRIC"), tools=(*TOOLS[2:], *TOOLS[:2], "T3C0.5")),
     "M71 in a file of inches": drill("M71", "T1", "X0.0Y0.0", header=("INCH",)),
     "digits and a number without a point": drill("T1", "X0.0Y5", header=("METRIC,000.000",)),
     "zeros and a number without a point": drill("T1", "X0.0Y5", header=("METRIC,LZ,000.000",)),

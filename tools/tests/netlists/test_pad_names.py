@@ -77,6 +77,13 @@ class Labels(made.Case):
             status, out, _ = self.show("board", "--no-drills", program=made.built())
             self.assertEqual((status, out.splitlines()[0]), (1, f"board: {FIRST}differs, opens 0, shorts 1, missing 0 (audit true)"), (one, other))
 
+    def test_a_character_by_its_number(self):
+        """A name that spells a character by its number is the name that has it: two pads of it that stand apart are an open."""
+        for one, other, status in (("G\\u004ED", "GND", 1), ("G\\u004D", "GND", 12), ("G\\u04ED", "GND", 12)):
+            lines = [*pin("U1", "1", one), *flash(10, (0, 0)), *pin("U1", "2", other), *flash(10, (5, 0))]
+            told = self.told({"top.gbr": layer(1, "Top", *lines), "bot.gbr": layer(2, "Bot")}, "--no-drills")
+            self.assertEqual(told[0] == 1, status == 1, told)
+
     @unittest.skipUnless(made.built(), "the program is not built")
     def test_each_contour_is_a_point(self):
         """A pin's region of two contours, of which a track meets one alone."""
