@@ -10,8 +10,6 @@ from boardnet_show.intake import mending, package
 from boardnet_show.judging import judged, net_ties, nothing_judged
 from boardnet_show.netlists import own_names
 
-NO_PLACES = "this program writes reports of version 1, which do not say where copper is from: what is told is the report and the netlist alone"
-
 COUNTED = ("opens", "shorts", "missing", "open_ties")
 
 
@@ -79,8 +77,6 @@ class Beside(NamedTuple):
 
 def shapes_of(program, told):
     """The shapes of the pieces, or None and why they are not known."""
-    if told.report.sources is None:
-        return None, NO_PLACES
     from boardnet_show.judging import board_copper        # a board that agrees has no copper looked at
     try:
         return board_copper.shapes_of_judged(program, told), ""

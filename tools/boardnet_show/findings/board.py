@@ -69,11 +69,8 @@ class Board:
         return f"{record.component} pin {record.pin}" if record.pin else record.component
 
     def spot(self, point):
-        """Where a point lies, in u: by the report, or by the netlist's columns, or None."""
-        if self.report.spots:
-            return self.report.spots[point]
-        record = self.record(point)
-        return (record.x, record.y) if record and None not in (record.x, record.y) else None
+        """Where a point lies, in u."""
+        return self.report.spots[point]
 
     def layer(self, point):
         return self.report.points[point][1]
@@ -85,9 +82,7 @@ class Board:
 
     def point_words(self, point):
         """A point with its layer and place."""
-        spot = self.spot(point)
-        place = f", {self.place_words(spot)}" if spot else ""
-        return f"{self.pin(point)} ({self.manifest.layer_word(self.layer(point))}{place})"
+        return f"{self.pin(point)} ({self.manifest.layer_word(self.layer(point))}, {self.place_words(self.spot(point))})"
 
     # ---- places and pieces
 
@@ -102,8 +97,6 @@ class Board:
 
     def source(self, piece):
         """Which command or line of which file made a piece."""
-        if not self.report.sources:
-            return f"piece {piece}"
         file, command, copy, *_ = self.report.sources[piece]
         name = self.manifest.files[file]
         word = "line" if self.manifest.is_drilled(file) else "command"

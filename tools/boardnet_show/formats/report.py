@@ -1,4 +1,4 @@
-"""Reads a report of either version (docs/FORMATS.md, "The report")."""
+"""Reads a report of version 2 (docs/FORMATS.md, "The report")."""
 from array import array
 from functools import lru_cache
 from itertools import islice
@@ -11,17 +11,14 @@ class BadReport(Exception):
 class Report:
     """The lists of a report. Nets, pieces, points and names count from 0, records and layers from 1, as they do there.
 
-    `points` are (record, layer, name, net), with net -1 for none. `spots` (x, y in u) and `sources` (file, command, copy, top,
-    bottom) are None in a report of version 1.
+    `points` are (record, layer, name, net), with net -1 for none; `spots` are (x, y) in u, `sources` (file, command, copy, top, bottom).
     """
 
     def __init__(self, text):
         self.rows = iter(text.decode("ascii", "replace").split("\n"))
         try:
-            head, version = next(self.rows).split(" ")
-            if head != "boardnet" or version not in ("1", "2"):
+            if next(self.rows) != "boardnet 2":
                 raise ValueError
-            self.version = int(version)
             self.read()
         except (ValueError, IndexError, KeyError, StopIteration):
             raise BadReport("a line of the report is missing or broken") from None
@@ -36,11 +33,9 @@ class Report:
         self.opens = [self.numbers("open") for _ in range(self.count("opens"))]
         self.shorts = [self.short() for _ in range(self.count("shorts"))]
         self.bare = [self.numbers("bare")[0] for _ in range(self.count("missing"))]
-        self.spots = self.sources = None
-        if self.version == 2:
-            self.spots, self.sources = numbered(*self.rows_of("spots"), "spot", 3), numbered(*self.rows_of("sources"), "source", 6)
-            if len(self.sources) != self.pieces or len(self.spots) != len(self.points):
-                raise ValueError
+        self.spots, self.sources = numbered(*self.rows_of("spots"), "spot", 3), numbered(*self.rows_of("sources"), "source", 6)
+        if len(self.sources) != self.pieces or len(self.spots) != len(self.points):
+            raise ValueError
         self.agrees = {"agrees": True, "differs": False}[next(self.rows)]
 
     def numbers(self, head):

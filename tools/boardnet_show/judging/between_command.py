@@ -160,7 +160,7 @@ def answer_of_between(program, judged, answer, ties, is_finer=False):
     """The answer on a board between two bounds, with the word where the program takes these and finds what they do; they are the package's then.
     Of regions with arcs `is_finer` keeps the areas that it does not take."""
     package = judged.package
-    if not answer.sides or answer.status not in ANSWERS or None in package.sides.rows.values() or package.between[2].report.sources is None:
+    if not answer.sides or answer.status not in ANSWERS or None in package.sides.rows.values():
         return answer
     boards = smaller(program, package, ties) if package.sides.is_bent else (package.sides, package.between)
     if not boards:

@@ -26,23 +26,18 @@ class Joint:
     # ---- words
 
     def spot(self, point):
-        """x, y and layer, where the netlist has them."""
-        record, layer, *_ = self.high.points[point]
-        if self.high.spots:
-            return (*self.high.spots[point], layer)
-        told = self.records[record - 1] if record <= len(self.records) else None
-        return (told.x, told.y, layer) if told and told.x is not None and told.y is not None else None
+        """x, y and layer."""
+        return (*self.high.spots[point], self.high.points[point][1])
 
     def pin(self, point):
         record, layer, *_ = self.high.points[point]
         told = self.records[record - 1] if record <= len(self.records) else None
         pin = f"{told.component} pin {told.pin}" if told and told.component and told.pin else f"test record {record}"
-        spot = self.spot(point)
-        where = f"{self.manifest.layer_word(layer)}, {millimetres(spot[0])}, {millimetres(spot[1])} mm" if spot else self.manifest.layer_word(layer)
-        return f"{pin} ({where})"
+        x, y, _ = self.spot(point)
+        return f"{pin} ({self.manifest.layer_word(layer)}, {millimetres(x)}, {millimetres(y)} mm)"
 
     def places(self, points):
-        return [spot for spot in map(self.spot, points) if spot]
+        return [*map(self.spot, points)]
 
     def name(self, point):
         return self.high.names[self.high.points[point][2]]

@@ -2,7 +2,7 @@
 import re
 from collections import namedtuple
 
-from boardnet_show.base.statuses import NOT_UNDERSTOOD, REFUSED, UNJUDGED, BadCopper, Stop
+from boardnet_show.base.statuses import REFUSED, UNJUDGED, BadCopper, Stop
 from boardnet_show.formats import ipc356
 from boardnet_show.formats.gerber_tokens import begins
 from boardnet_show.formats.report import BadReport, Report
@@ -11,7 +11,6 @@ from boardnet_show.intake import declarations
 from .program import Answer
 
 MACRO = re.compile(r"(.*): Gerber 12 Macro at command ")
-NO_FLATTEN = "this program has no command `flatten`, so its copper is not known here: what is told is the report alone"
 
 
 class Judged(namedtuple("Judged", "package status line report text audit")):
@@ -35,8 +34,6 @@ def flattens(program, package, line):
             package.put(name, answer.out)
             package.flattened.add(name)
             done = done or name == named
-        elif answer.status == NOT_UNDERSTOOD:
-            package.outside[name] = "this program has no command `flatten`, which rewrites macros"
         else:
             package.outside[name] = answer.line
     return done
@@ -76,8 +73,6 @@ def flat_of(program, files):
         if name in files.flattened:
             return files.read(name)
         answer = program.flatten(files, name)
-        if answer.status == NOT_UNDERSTOOD:
-            raise BadCopper(NO_FLATTEN)
         if answer.status != 0:
             raise BadCopper(answer.line)
         return answer.out

@@ -222,7 +222,7 @@ def bounded(program, told, ties=Ties()):
 def own_commands(report, manifest, sources):
     """The report with the user's commands in place of those of the copy."""
     told = copy.copy(report)
-    if report.sources and sources:
+    if sources:
         by_file = [sources.get(name) for name in manifest.files]
         told.sources = [(file, by_file[file][command - 1] if by_file[file] else command, number, top, bottom)
                         for file, command, number, top, bottom in report.sources]

@@ -23,16 +23,15 @@ class Differing:
         self.shapes, self.graphs, self.pieces = None, {}, defaultdict(list)
         for piece, net in enumerate(high.report.net_of):
             self.pieces[net].append(piece)
-        if low.report.sources and high.report.sources:
-            self.keys = [list(self.commands(told.report, by_file)) for told, by_file in zip((low, high), sources)]
-            self.below = defaultdict(set)
-            for piece, key in enumerate(self.keys[0]):
-                self.below[key].add(low.report.net_of[piece])
-            try:
-                self.shapes = board_copper.shapes_of_judged(program, high)
-                self.touching = Touching(self.shapes, [source[3:] for source in high.report.sources])
-            except BadCopper:
-                pass
+        self.keys = [list(self.commands(told.report, by_file)) for told, by_file in zip((low, high), sources)]
+        self.below = defaultdict(set)
+        for piece, key in enumerate(self.keys[0]):
+            self.below[key].add(low.report.net_of[piece])
+        try:
+            self.shapes = board_copper.shapes_of_judged(program, high)
+            self.touching = Touching(self.shapes, [source[3:] for source in high.report.sources])
+        except BadCopper:
+            pass
 
     def commands(self, report, by_file):
         """For each piece the file, the user's command, and the copy."""

@@ -14,7 +14,7 @@ def mm(u):
 
 
 def place_object(spot, layer):
-    x, y = map(mm, spot) if spot else (None, None)
+    x, y = map(mm, spot)
     return {"x": x, "y": y, "layer": layer}
 
 
@@ -27,8 +27,6 @@ def point(board, number):
 
 
 def piece(board, number):
-    if not board.report.sources:
-        return {"piece": number}
     file, command, copy, top, bottom = board.report.sources[number]
     word = "line" if board.manifest.is_drilled(file) else "command"
     return {"piece": number, "file": board.manifest.files[file], word: command, "copy": copy, "top": top, "bottom": bottom,

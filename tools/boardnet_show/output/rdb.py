@@ -37,7 +37,7 @@ def values(board, finding):
     for meet in finding.meets:
         yield box(meet.place)
     if finding.kind == "missing" or finding.kind == "short" and not finding.meets:
-        yield from (box(spot) for spot in spots if spot)
+        yield from map(box, spots)
     yield quoted(finding.sentence())
 
 

@@ -43,16 +43,14 @@ def read(add, *words):
 
 
 class Reports(unittest.TestCase):
-    def test_both_versions(self):
+    def test_lists(self):
         report = Report(REPORT.encode())
         self.assertEqual((report.pieces, report.nets, report.names), (2, 1, ["A", "B C"]))
         self.assertEqual((list(report.net_of), list(report.parent), report.points), ([0, 0], [-1, 0], [(1, 1, 0, 0), (2, 1, 1, -1)]))
         self.assertEqual((report.bare, report.spots, report.sources[1], report.agrees), ([1], [(0, -5), (10_000_000, 0)], (0, 6, 3, 1, 2), False))
-        first = REPORT.replace("boardnet 2", "boardnet 1").split("spots")[0] + "differs\n"
-        self.assertEqual((Report(first.encode()).spots, Report(first.encode()).sources), (None, None))
 
     def test_no_reports(self):
-        rows = ["", "boardnet 3\n", REPORT[:120], REPORT.replace("boardnet 2", "boardnet 1"), REPORT.replace("sources 2", "sources 1"),
+        rows = ["", "boardnet 3\n", REPORT[:120], REPORT.replace("boardnet 2", "boardnet 1").split("spots")[0] + "differs\n", REPORT.replace("sources 2", "sources 1"),
                 REPORT.replace("net 0 0 1:0", "net 0 0 7:0"), REPORT.replace("differs", "perhaps"), REPORT.replace("spot 1 10000000 0\n", "")]
         for text in rows:
             with self.subTest(text=text[:40]), self.assertRaises(BadReport):

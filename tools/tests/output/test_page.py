@@ -2,7 +2,6 @@
 import base64
 import hashlib
 import html
-import os
 import random
 import re
 import unittest
