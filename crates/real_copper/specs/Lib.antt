@@ -3,5 +3,7 @@ pub mod Centres
 pub mod Draws
 pub mod Figures
 pub mod Flashes
+pub mod Moving
 pub mod Primitives
 pub mod Rows
+pub mod Shapes

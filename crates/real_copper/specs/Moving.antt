@@ -1,0 +1,1 @@
+-- Moved figures: none stays within 1 m of 0 that is moved farther than 2 m.
