@@ -18,6 +18,7 @@ use Rattle.step_repeat.specs.declared.fault.RepeatFault.{RepeatFault}
 use Rattle.step_repeat.specs.declared.fault.RepeatFault.TheVariants as stepping
 use Rattle.texts.specs.Words.{is_word}
 use Rattle.aperture_macros.specs.BodyWord.{PlainPrimitive}
+use Rattle.aperture_macros.specs.declared.fault.MacroFault.{MacroFault}
 use Rattle.gerber_reading.specs.Tools.{Macros, Tool}
 use Rattle.gerber_reading.specs.declared.kind.GerberKind.{GerberKind}
 use Rattle.gerber_reading.specs.declared.kind.GerberKind.TheVariants as kind
@@ -40,9 +41,9 @@ pub record Outline (E : Type 0) : Type 0 where
 
 -- what is known before a command: the settings, the aperture dictionary, the macros, the contour of the open region, the
 -- pieces so far, and how many of them stand before the open block
-pub record Known (G E : Type 0) : Type 0 where
+pub record Known (G E A : Type 0) : Type 0 where
   pub settings : Settings
-  pub defined : ℕ → Option Tool
+  pub defined : ℕ → Option (Tool A)
   -- how many apertures are defined
   pub definitions : ℕ
   pub macros : Macros
@@ -55,24 +56,31 @@ pub record Known (G E : Type 0) : Type 0 where
 -- performs an operation outside a region, which may make pieces; it extends the contour, or closes it and moves; it opens a
 -- region, or leaves it; it ends the open block, and the pieces are these then, and may open another; it ends the file, with
 -- these pieces.
-pub data Effect (G E : Type 0) : Type 0 where
-  stays : (Effect G E)
-  makes : ℕ → Tool → (Effect G E)
-  begins_macro : List ℕ → (Effect G E)
-  fills_macro : PlainPrimitive → (Effect G E)
-  performs : Spot → List G → (Effect G E)
-  extends : Spot → E → (Effect G E)
-  closes : Spot → Option G → (Effect G E)
-  opens : (Effect G E)
-  leaves : Option G → (Effect G E)
-  steps : Option Repeat → List (PieceOf G) → (Effect G E)
-  concludes : List (PieceOf G) → (Effect G E)
+pub data Effect (G E A : Type 0) : Type 0 where
+  stays : (Effect G E A)
+  makes : ℕ → Tool A → (Effect G E A)
+  begins_macro : List ℕ → (Effect G E A)
+  fills_macro : PlainPrimitive → (Effect G E A)
+  performs : Spot → List G → (Effect G E A)
+  extends : Spot → E → (Effect G E A)
+  closes : Spot → Option G → (Effect G E A)
+  opens : (Effect G E A)
+  leaves : Option G → (Effect G E A)
+  steps : Option Repeat → List (PieceOf G) → (Effect G E A)
+  concludes : List (PieceOf G) → (Effect G E A)
 
--- What a command does, or how it is refused, by what is known before it: the table of commands that files are read by; and what an edge
--- of a contour keeps beside its end, by what is in force: the dialects with arcs have its bend, the others nothing.
-pub record Profile (G E W : Type 0) : Type 0 where
-  pub does : Known G E → Command → Result (Effect G E) W
+-- What the words mean that the reader looks back at: what an edge of a contour keeps beside its end, by what is in force (the dialects with
+-- arcs have its bend, the others nothing); the standard aperture that an `AD` word defines, and its number; and the primitive that a word in
+-- the body of a macro is.
+pub record Meaning (E A : Type 0) : Type 0 where
   pub edge : Settings → Command → E
+  pub aperture : List ℕ → Measure → Result (ℕ × A) ApertureFault
+  pub primitive : List ℕ → Result (Option PlainPrimitive) MacroFault
+
+-- What a command does, or how it is refused, by what is known before it: the table of commands that files are read by; and what its words mean.
+pub record Profile (G E A W : Type 0) : Type 0 where
+  pub does : Known G E A → Command → Result (Effect G E A) W
+  pub means : Meaning E A
 
 -- how a fault of an aperture's definition is refused
 abbrev pub kind_of_aperture : ApertureFault → GerberKind

@@ -10,10 +10,8 @@ use Rattle.aperture_macros.specs.declared.fault.FigureFault.{FigureFault}
 use Rattle.aperture_macros.specs.declared.fault.FigureFault.TheVariants as figure
 use Rattle.board_shapes.specs.declared.placed.Placed.{Placed}
 use Rattle.aperture_macros.specs.BodyWord.{PlainPrimitive}
-use Rattle.aperture_macros.specs.Flashes.{IsBlank}
 use Rattle.aperture_macros.specs.Seen.{plain as plain_primitive}
 use Rattle.aperture_macros.specs.declared.primitive.Primitive.{Primitive}
-use Rattle.apertures.specs.Flash.{IsLawful}
 use Rattle.lengths.specs.Decimal.{Fraction}
 use Rattle.lengths.specs.declared.decimal.Unit.{Unit as Measure}
 use Rattle.apertures.specs.declared.fault.FlashFault.{FlashFault}
@@ -45,7 +43,7 @@ use Rattle.gerber_reading.specs.Command.{Command}
 use Rattle.gerber_reading.specs.Settings.{settings_before}
 
 -- an aperture without where its name lies in memory
-abbrev pub tool_of : Given → Tool
+abbrev pub tool_of : {A : Type 0} → (Given A) → (Tool A)
 tool_of (given.Standard aperture) = standard aperture
 tool_of (given.Composed name parameters unit blanks) = composed name.now parameters.items unit
 
@@ -58,66 +56,44 @@ abbrev pub macro_of : Begun → Macro
 macro_of m = record { name = m.name.now; body = body_of m.body.items }
 
 -- the aperture that n is defined as, how many are defined, and the macros
-abbrev pub defined_in : Dictionary → ℕ → Option Tool
+abbrev pub defined_in : {A : Type 0} → Dictionary A → ℕ → Option (Tool A)
 defined_in d n = option_map tool_of (get nat_eq d.tools n)
 
-abbrev pub size_of : Dictionary → ℕ
+abbrev pub size_of : {A : Type 0} → Dictionary A → ℕ
 size_of d = hash_map_len d.tools
 
-abbrev pub macros_in : Dictionary → Macros
+abbrev pub macros_in : {A : Type 0} → Dictionary A → Macros
 macros_in d = record {
   latest = option_map macro_of d.latest;
   others = λ name. option_map (λ b. body_of b.items) (get_by (λ k. is_word name k.now) d.others);
 }
 
--- a standard aperture is lawful; of one of a macro nothing is asked
-abbrev pub IsLawfulTool : Tool → Type 0
-IsLawfulTool (standard aperture) = IsLawful aperture
-IsLawfulTool (composed name parameters unit) = Unit {0}
-
--- so of each aperture that is defined
-abbrev pub AreLawful : Dictionary → Type 0
-AreLawful d = (n : ℕ) → IfSome (defined_in d n) IsLawfulTool
-
--- each primitive that is marked has no image with these parameters
-abbrev pub AreBlank : List PlainPrimitive → List Fraction → Measure → List Bool → Type 0
-AreBlank body parameters unit marks = (i : ℕ) → get_or marks i false ≡ true → IsSomeAnd (slice_get body i) (λ p. IsBlank p parameters unit)
-
--- and there is such a macro
-abbrev pub AreBlankIn : Option (List PlainPrimitive) → List Fraction → Measure → List Bool → Type 0
-AreBlankIn body parameters unit marks = IsSomeAnd body (λ b. AreBlank b parameters unit marks)
-
--- the marks of an aperture are right where a file has these macros
-abbrev pub IsMarked : Macros → Given → Type 0
-IsMarked m (given.Standard aperture) = Unit {0}
-IsMarked m (given.Composed name parameters unit marks) = AreBlankIn (macro_named m name.now) parameters.items unit marks.items
-
 -- the aperture of n as it is kept
-abbrev pub kept_in : Dictionary → ℕ → Option Given
+abbrev pub kept_in : {A : Type 0} → Dictionary A → ℕ → Option (Given A)
 kept_in d n = get nat_eq d.tools n
 
--- so of each aperture that is kept
-abbrev pub AreMarked : Dictionary → Type 0
-AreMarked d = (n : ℕ) → IfSome (kept_in d n) (IsMarked (macros_in d))
+-- what a dialect says of an aperture, where a file has these macros, holds of each that is kept
+abbrev pub AllFit : {A : Type 0} → (Macros → Given A → Type 0) → Dictionary A → Type 0
+AllFit fits d = (n : ℕ) → IfSome (kept_in d n) (fits (macros_in d))
 
 -- the new dictionary keeps the apertures of the old one
-abbrev pub KeepsTools : Dictionary → Dictionary → Type 0
+abbrev pub KeepsTools : {A : Type 0} → Dictionary A → Dictionary A → Type 0
 KeepsTools old new = (n : ℕ) → kept_in new n ≡ kept_in old n
 
 -- the new dictionary defines n besides
-pub record Adds (old new : Dictionary) (n : ℕ) (tool : Tool) : Type 0 where
+pub record Adds {A : Type 0} (old new : Dictionary A) (n : ℕ) (tool : Tool A) : Type 0 where
   pub defined : (m : ℕ) → defined_in new m ≡ (if n == m then Some tool else defined_in old m)
   pub more : size_of new ≡ size_of old + 1
   pub macros : macros_in new ≡ macros_in old
 
 -- the last macro of the old dictionary is among the others of the new one
-pub record HasClosed (old new : Dictionary) : Type 0 where
+pub record HasClosed {A : Type 0} (old new : Dictionary A) : Type 0 where
   pub defined : (n : ℕ) → defined_in new n ≡ defined_in old n
   pub size : size_of new ≡ size_of old
   pub others : (name : List ℕ) → (macros_in new).others name ≡ macro_named (macros_in old) name
 
 -- the macros of the new dictionary are these, and its apertures are the old one's
-pub record HasMacros (old new : Dictionary) (macros : Macros) : Type 0 where
+pub record HasMacros {A : Type 0} (old new : Dictionary A) (macros : Macros) : Type 0 where
   pub defined : (n : ℕ) → defined_in new n ≡ defined_in old n
   pub size : size_of new ≡ size_of old
   pub latest : (macros_in new).latest ≡ macros.latest
@@ -134,10 +110,10 @@ abbrev pub contour_of : {E : Type 0} → Option (Contour E) → Option (Outline 
 contour_of contour = option_map outline_of contour
 
 -- where the pieces of a reader come to stand, and what it knows before the next command
-abbrev pub place_of : {F E : Type 0} → (Reader F E) → Place
+abbrev pub place_of : {F E A : Type 0} → (Reader F E A) → Place
 place_of r = record { layer = r.layer; file = r.file; room = r.room }
 
-abbrev pub known_of : {F G E : Type 0} → (F → G) → (Reader F E) → (Known G E)
+abbrev pub known_of : {F G E A : Type 0} → (F → G) → (Reader F E A) → (Known G E A)
 known_of plain r = record {
   settings = r.settings;
   defined = defined_in r.dictionary;
@@ -150,15 +126,15 @@ known_of plain r = record {
 }
 
 -- the dictionary after an effect
-abbrev pub Turns : {G E : Type 0} → Dictionary → (Effect G E) → Dictionary → Type 0
+abbrev pub Turns : {G E A : Type 0} → Dictionary A → (Effect G E A) → Dictionary A → Type 0
 Turns old (makes n tool) new = Adds old new n tool
 Turns old (begins_macro name) new = HasMacros old new (begun (macros_in old) name)
 Turns old (fills_macro p) new = HasMacros old new (filled_up (macros_in old) p)
 Turns old other new = new ≡ old
 
 -- The reader has obeyed a command that comes to this, which is no fault.
-pub record Obeys {F G E W : Type 0} (plain : F → G) (old : (Reader F E)) (c : Command) (what : Result (Effect G E) W) (new : (Reader F E)) : Type 0 where
-  pub effect_is : (Effect G E)
+pub record Obeys {F G E A W : Type 0} (plain : F → G) (old : (Reader F E A)) (c : Command) (what : Result (Effect G E A) W) (new : (Reader F E A)) : Type 0 where
+  pub effect_is : (Effect G E A)
   pub clean : what ≡ Ok effect_is
   pub settings : new.settings ≡ after old.settings c (heads effect_is) (opened effect_is)
   pub dictionary : Turns old.dictionary effect_is new.dictionary
@@ -169,22 +145,21 @@ pub record Obeys {F G E W : Type 0} (plain : F → G) (old : (Reader F E)) (c : 
   pub place : place_of new ≡ place_of old
 
 -- The edges are counted, and the pieces have room.
-pub record AreCounted {F G E : Type 0} (plain : F → G) (h : Handling G) (r : Reader F E) : Type 0 where
+pub record AreCounted {F G E A : Type 0} (plain : F → G) (h : Handling G) (r : Reader F E A) : Type 0 where
   pub edges : r.edges ≡ edges_by h (pieces_by plain r.pieces.items)
   pub few_pieces : length r.pieces.items ≤ r.room.pieces
   pub start : r.start ≤ length r.pieces.items
 
--- what a reader keeps whatever its pieces are made of
-pub record IsSound {F E : Type 0} (r : Reader F E) : Type 0 where
+-- what a reader keeps whatever its dialect
+pub record IsSound {F E A : Type 0} (r : Reader F E A) : Type 0 where
   pub settings : AreLawfulSettings r.settings
-  pub dictionary : AreLawful r.dictionary
-  pub marked : AreMarked r.dictionary
   pub room : r.room.pieces < 2 ^ 32
   pub layer : r.layer ≤ MOST_LAYERS
 
 -- what a reader keeps between two commands
-pub record IsLawfulReader {F G E : Type 0} (plain : F → G) (h : Handling G) (r : Reader F E) : Type 0 where
+pub record IsLawfulReader {F G E A : Type 0} (plain : F → G) (h : Handling G) (fits : Macros → Given A → Type 0) (r : Reader F E A) : Type 0 where
   pub sound : IsSound r
+  pub fit : AllFit fits r.dictionary
   pub counted : AreCounted plain h r
 
 -- What stops the reader is that fault, or want of memory.
@@ -193,7 +168,7 @@ Stops what (halt.Fault fault) = what ≡ Err fault
 Stops what halt.NoMemory = Unit {0}
 
 -- a reader that has obeyed nothing
-pub record IsNew {F E : Type 0} (p : Place) (r : (Reader F E)) : Type 0 where
+pub record IsNew {F E A : Type 0} (p : Place) (r : (Reader F E A)) : Type 0 where
   pub settings : r.settings ≡ settings_before []
   pub defined : (n : ℕ) → defined_in r.dictionary n ≡ None
   pub size : size_of r.dictionary ≡ 0
@@ -206,11 +181,11 @@ pub record IsNew {F E : Type 0} (p : Place) (r : (Reader F E)) : Type 0 where
   pub place : place_of r ≡ p
 
 -- The reader obeys a last command, and these pieces are left.
-pub record Leaves {F G E W : Type 0} (plain : F → G) (f : Profile G E W) (r : (Reader F E)) (c : Command) (pieces : List (Placed F)) : Type 0 where
-  pub last : (Reader F E)
+pub record Leaves {F G E A W : Type 0} (plain : F → G) (f : Profile G E A W) (r : (Reader F E A)) (c : Command) (pieces : List (Placed F)) : Type 0 where
+  pub last : (Reader F E A)
   pub obeys : Obeys plain r c (f.does (known_of plain r) c) last
   pub are : pieces ≡ last.pieces.items
 
 -- why no file is read whose reader is stopped at a command that stands at a place
-abbrev pub StopsAt : {F G E W : Type 0} → (F → G) → Profile G E W → (Reader F E) → Command → ℕ → FileFault W → Type 0
+abbrev pub StopsAt : {F G E A W : Type 0} → (F → G) → Profile G E A W → (Reader F E A) → Command → ℕ → FileFault W → Type 0
 StopsAt plain f r c at why = IsFault (λ kind number place. (f.does (known_of plain r) c ≡ Err kind) × (number ≡ r.commands + 1) × (place ≡ at)) why

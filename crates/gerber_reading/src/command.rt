@@ -1,7 +1,6 @@
 //! Commands, as each is read on its own.
 use crate::kind::GerberKind;
 use crate::settings::{Curve, Quadrants};
-use aperture_macros::Copper;
 use gerber_words::WordFault;
 use lengths::decimal::Unit;
 
@@ -40,8 +39,8 @@ pub enum Command<'a> {
     Define(&'a [u8]),
     /// The name of a macro.
     Macro(&'a [u8]),
-    /// A word of a macro's body, and of which copper.
-    Body(Copper, &'a [u8]),
+    /// A word of a macro's body.
+    Body(&'a [u8]),
     Select(u32),
     /// `G01`, `G02` or `G03` alone.
     Curve(Curve),

@@ -1,5 +1,5 @@
 //! The reader of a file: what it keeps.
-ghost use Rattle.std.specs.Prelude.{◌≡◌, ◌≤◌, []};
+ghost use Rattle.std.specs.Prelude.{◌≡◌, ◌≤◌, [], ℕ, None};
 
 use crate::contour::Contour;
 use crate::dictionary::Dictionary;
@@ -15,9 +15,9 @@ const BYTES_OF_A_PIECE: usize = 32;
 /// What the commands of a file so far have set and made. Its pieces stand on `layer`, from 1 to 32,
 /// and `file` goes into their origins; `commands` counts those that were obeyed.
 #[derive(Drop)]
-pub struct Reader<'a, F, E> {
+pub struct Reader<'a, F, E, A> {
     pub settings: Settings,
-    pub dictionary: Dictionary<'a>,
+    pub dictionary: Dictionary<'a, A>,
     /// The contour so far of the open region, if it has an edge.
     pub contour: Option<Contour<E>>,
     pub pieces: Vec<Placed<F>>,
@@ -32,14 +32,15 @@ pub struct Reader<'a, F, E> {
     pub ghost from_first: { 1 ≤ layer },
 }
 
-impl<'a, F: Drop, E: Drop> Reader<'a, F, E> {
-    ghost use Rattle.gerber_reading.specs.Reader.{IsNew, IsSound};
+impl<'a, F: Drop, E: Drop, A: Drop> Reader<'a, F, E, A> {
+    ghost use Rattle.gerber_reading.specs.Reader.{IsNew, IsSound, kept_in};
 
     /// Before the first command of a file of so many bytes. The layer is from 1 to `MOST_LAYERS`.
-    pub fn new(alloc: Global, size: usize, place: Place) -> Reader<'a, F, E>
+    pub fn new(alloc: Global, size: usize, place: Place) -> Reader<'a, F, E, A>
         requires { (1 ≤ place.layer) × (place.layer ≤ MOST_LAYERS) }
         ensures new { IsNew place result }
         ensures sound { IsSound result }
+        ensures kept { (n : ℕ) → kept_in result.dictionary n ≡ None }
         ensures edges { result.edges ≡ 0 }
     {
         Reader {

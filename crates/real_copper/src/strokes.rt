@@ -2,9 +2,10 @@
 ghost use Rattle.apertures.specs.Flash.{IsNarrow};
 ghost use Rattle.planar.specs.Plane.{IsPlaced};
 ghost use Rattle.real_copper.specs.Draws as spec;
+ghost use Rattle.real_copper.specs.Draws.{IsNearBend};
 ghost use Rattle.real_copper.specs.Figures.{arc};
 ghost use Rattle.real_copper.specs.Shapes.{real_figure};
-ghost use Rattle.std.specs.Prelude.{IfSome, ◌≡◌};
+ghost use Rattle.std.specs.Prelude.{◌≡◌};
 
 use crate::anchored::Anchored;
 use crate::draw::Bend;
@@ -56,7 +57,7 @@ fn arc_draw(bend: Bend, from: Spot, to: Spot, pen: u64) -> Anchored
 pub fn draw_of(bend: Option<Bend>, from: Spot, to: Spot, pen: u64) -> Anchored
     requires from { IsPlaced from }
     requires to { IsPlaced to }
-    requires bend { IfSome bend (λ b. IsPlaced b.centre) }
+    requires bend { IsNearBend bend }
     requires pen { IsNarrow pen }
     ensures { real_figure result.shape ≡ spec.draw_of bend from to pen }
 {

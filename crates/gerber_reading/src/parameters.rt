@@ -1,0 +1,39 @@
+//! The definition of an aperture by a macro.
+
+use lengths::decimal::{Decimal, read_decimal};
+use lengths::rows::NoMemory;
+use std::alloc::Global;
+use texts::{after_byte, before_byte, has};
+
+// How often `X` stands in a text.
+fn count(text: &[u8]) -> usize
+{
+    text.iter().filter(|b| **b == b'X').count()
+}
+
+// So many decimals, cut at `X`.
+fn decimals(alloc: Global, n: usize, text: &[u8]) -> Result<Option<Vec<Decimal>>, NoMemory>
+{
+    let mut decimals = Vec::new(alloc);
+    let mut rest = text;
+    for _ in 0..n {
+        let Some(decimal) = read_decimal(before_byte(rest, b'X')) else {
+            return Ok(None);
+        };
+        if let Err(_) = decimals.push(decimal) {
+            return Err(NoMemory);
+        }
+        rest = after_byte(rest, b'X');
+    }
+    Ok(Some(decimals))
+}
+
+/// The parameters of an aperture of a macro, where all are decimals.
+pub fn parameters(alloc: Global, text: &[u8]) -> Result<Option<Vec<Decimal>>, NoMemory>
+{
+    if !has(text, b',') {
+        return Ok(Some(Vec::new(alloc)));
+    }
+    let text = after_byte(text, b',');
+    decimals(alloc, count(text) + 1, text)
+}
