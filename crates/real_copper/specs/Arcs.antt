@@ -8,8 +8,6 @@ use Rattle.lengths.specs.declared.decimal.Unit.{Unit as Measure}
 use Rattle.gerber_layer.specs.WordCommands.{is_number_if}
 use Rattle.gerber_reading.specs.Command.{Bending}
 use Rattle.gerber_reading.specs.CommandEffects.{coordinate}
-use Rattle.gerber_reading.specs.declared.command.Code.{Code}
-use Rattle.gerber_reading.specs.declared.command.Code.TheVariants.{Draw}
 use Rattle.gerber_reading.specs.declared.command.Format.{Format}
 use Rattle.gerber_reading.specs.declared.kind.GerberKind.{GerberKind}
 use Rattle.gerber_reading.specs.declared.kind.GerberKind.TheVariants as kind
@@ -68,7 +66,7 @@ arc_to s b clockwise to =
       way ← way_of format unit b
       bend_in quadrants (sought s clockwise to format unit) way))
 
--- an operation that is no arc has no offsets
+-- an operation that is no arc has no offsets (own)
 abbrev pub no_arc : Bending → Result (Option Bend) RealKind
 no_arc b = unless (is_some b.i || (is_some b.j || b.more)) OffsetsAmiss (Ok None)
 
@@ -77,10 +75,6 @@ bend_by Line s b to = no_arc b
 bend_by Clockwise s b to = arc_to s b true to
 bend_by Counterclockwise s b to = arc_to s b false to
 
--- the bend of an operation that leads to a spot: only a draw has another curve than a line, its own or the one in force
-abbrev pub curve_of : Code → Settings → Bending → Curve
-curve_of Draw s b = latest b.curve s.curve
-curve_of other s b = Line
-
-abbrev pub bend_of : Settings → Code → Bending → Spot → Result (Option Bend) RealKind
-bend_of s code b to = bend_by (curve_of code s b) s b to
+-- the bend of a draw that leads to a spot: its own curve counts, or the one in force
+abbrev pub bend_of : Settings → Bending → Spot → Result (Option Bend) RealKind
+bend_of s b to = bend_by (latest b.curve s.curve) s b to

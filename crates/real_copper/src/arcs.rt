@@ -13,7 +13,7 @@ use crate::centres::{Draw, moved};
 use crate::draw::Bend;
 use crate::kind::{RealKind, gerber};
 
-use gerber_reading::{Bending, Code, Curve, Format, GerberKind, Here, Quadrants, Settings, coordinate, is_number_if};
+use gerber_reading::{Bending, Curve, Format, GerberKind, Here, Quadrants, Settings, coordinate, is_number_if};
 use lengths::decimal::Unit;
 use planar::{Spot, is_placed, is_same};
 
@@ -129,7 +129,8 @@ fn arc_to(settings: &Settings, offsets: &Bending, clockwise: bool, to: Spot) -> 
     bend_in(quadrants, &draw, way)
 }
 
-fn no_arc(offsets: &Bending) -> Result<Option<Bend>, RealKind>
+/// None, where an operation that is no arc has no offsets.
+pub fn no_arc(offsets: &Bending) -> Result<Option<Bend>, RealKind>
     ensures value { result ≡ spec.no_arc (bending_of offsets.now) }
     ensures near { IfOk result IsNearBend }
 {
@@ -137,20 +138,6 @@ fn no_arc(offsets: &Bending) -> Result<Option<Bend>, RealKind>
         Err(RealKind::OffsetsAmiss)
     } else {
         Ok(None)
-    }
-}
-
-// The curve of an operation: only a draw has another than a line, its own or the one in force.
-fn curve_of(code: Code, settings: &Settings, offsets: &Bending) -> Curve
-    ensures { result ≡ spec.curve_of code settings.now (bending_of offsets.now) }
-{
-    match code {
-        Code::Draw => match offsets.curve {
-            Some(curve) => curve,
-            None => settings.curve,
-        },
-        Code::Move => Curve::Line,
-        Code::Flash => Curve::Line,
     }
 }
 
@@ -167,12 +154,16 @@ fn bend_by(curve: Curve, settings: &Settings, offsets: &Bending, to: Spot) -> Re
     }
 }
 
-/// The bend of an operation that leads to a spot, if it has one, or why it is refused.
-pub fn bend_of(settings: &Settings, code: Code, offsets: &Bending, to: Spot) -> Result<Option<Bend>, RealKind>
+/// The bend of a draw that leads to a spot, if it has one, or why it is refused: its own curve counts, or the one in force.
+pub fn bend_of(settings: &Settings, offsets: &Bending, to: Spot) -> Result<Option<Bend>, RealKind>
     requires lawful { AreLawfulSettings settings.now }
     requires to { IsPlaced to }
-    ensures value { result ≡ spec.bend_of settings.now code (bending_of offsets.now) to }
+    ensures value { result ≡ spec.bend_of settings.now (bending_of offsets.now) to }
     ensures near { IfOk result IsNearBend }
 {
-    bend_by(curve_of(code, settings, offsets), settings, offsets, to)
+    let curve = match offsets.curve {
+        Some(curve) => curve,
+        None => settings.curve,
+    };
+    bend_by(curve, settings, offsets, to)
 }

@@ -2,8 +2,8 @@
 ghost use Rattle.area_contact.specs.declared.TheConstants.{MOST_CONTOUR_EDGES};
 ghost use Rattle.gerber_reading.specs.Reader.{leg_of, outline_of};
 ghost use Rattle.planar.specs.Plane.{IsPlaced};
-ghost use Rattle.real_copper.specs.Draws as spec;
-ghost use Rattle.real_copper.specs.Draws.{IsClosedOutline};
+ghost use Rattle.real_copper.specs.Contours as spec;
+ghost use Rattle.real_copper.specs.Contours.{IsClosedOutline};
 ghost use Rattle.real_copper.specs.Figures.{exact, region};
 ghost use Rattle.real_copper.specs.Shapes.{real_figure};
 ghost use Rattle.std.specs.Prelude.{All, IfOk, length, map, ◌∷◌, ◌≡◌, ◌≤◌};

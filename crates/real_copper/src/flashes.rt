@@ -1,19 +1,19 @@
 //! What an aperture of real copper flashes (Gerber Layer Format Specification, 4.4).
+ghost use Rattle.apertures.specs.Flash.{IsLawful as IsExact, flash_of};
 ghost use Rattle.board_shapes.specs.Figures.{figure_of};
-ghost use Rattle.board_shapes.specs.Rectangles.{lower, upper};
 ghost use Rattle.planar.specs.Plane.{IsPlaced};
 ghost use Rattle.planar.specs.declared.TheConstants.{METRE};
 ghost use Rattle.real_copper.specs.Apertures.{AreSizes, IsLawful};
-ghost use Rattle.real_copper.specs.Figures.{exact, is_real_placed, region};
-ghost use Rattle.real_copper.specs.Flashed.{Flashes, option_figure};
+ghost use Rattle.real_copper.specs.Figures.{exact, real_edges};
+ghost use Rattle.real_copper.specs.Flashed.{Flashes};
 ghost use Rattle.real_copper.specs.Flashes as spec;
 ghost use Rattle.real_copper.specs.Shapes.{real_figure};
-ghost use Rattle.std.specs.Prelude.{IfOk, IfErr, ◌≡◌, ◌≤◌, ◌<◌, ◌^◌, pos};
+ghost use Rattle.std.specs.Prelude.{IfOk, IfErr, ◌≡◌, ◌≤◌, ◌<◌, ◌^◌, ◌*◌};
 
 use crate::anchored::Anchored;
 use crate::aperture::{OddForm, RealAperture};
 use crate::moving::is_anchored;
-use apertures::FlashFault;
+use apertures::{Aperture, FlashFault};
 use arc_regions::{Bend, Part, Region};
 use arcs::Arc;
 use board_shapes::{Shape, corners_around};
@@ -35,8 +35,8 @@ pub fn plain(shape: Shape) -> Anchored
 // In half u, the spots so far to the left of and below a spot, and to the right of and above it.
 fn around(middle: Spot, w: u64, h: u64) -> (Spot, Spot)
     requires placed { IsPlaced middle }
-    requires w { w ≤ METRE }
-    requires h { h ≤ METRE }
+    requires w { w ≤ 4 * METRE }
+    requires h { h ≤ 4 * METRE }
     ensures low { result.0 ≡ spec.half_below middle w h }
     ensures high { result.1 ≡ spec.half_above middle w h }
 {
@@ -56,8 +56,8 @@ fn around(middle: Spot, w: u64, h: u64) -> (Spot, Spot)
 /// A rectangle about its middle.
 pub fn sides_about(middle: Spot, w: u64, h: u64) -> Bounds
     requires placed { IsPlaced middle }
-    requires w { w ≤ METRE }
-    requires h { h ≤ METRE }
+    requires w { w ≤ 4 * METRE }
+    requires h { h ≤ 4 * METRE }
     ensures { result ≡ spec.sides_about middle w h }
 {
     let (low, high) = around(middle, w, h);
@@ -72,8 +72,8 @@ pub fn sides_about(middle: Spot, w: u64, h: u64) -> Bounds
 /// An obround, or with equal sizes a circle.
 pub fn stroke_about(middle: Spot, w: u64, h: u64) -> FineStroke
     requires placed { IsPlaced middle }
-    requires w { w ≤ METRE }
-    requires h { h ≤ METRE }
+    requires w { w ≤ 4 * METRE }
+    requires h { h ≤ 4 * METRE }
     ensures { result ≡ spec.stroke_about middle w h }
 {
     if w > h {
@@ -180,10 +180,12 @@ fn within(shape: RealShape) -> Result<Option<Anchored>, FlashFault>
     }
 }
 
-fn exact_flash(flash: Result<Option<Shape>, FlashFault>) -> Result<Option<Anchored>, FlashFault>
-    ensures { Flashes result (spec.as_real (seen_flash flash)) }
+fn exact_flash(alloc: Global, aperture: Aperture, at: Spot) -> Result<Option<Anchored>, FlashFault>
+    requires lawful { IsExact aperture }
+    requires placed { IsPlaced at }
+    ensures { Flashes result (spec.as_real (flash_of aperture at)) }
 {
-    match flash {
+    match aperture.flash(alloc, at) {
         Ok(Some(shape)) => Ok(Some(plain(shape))),
         Ok(None) => Ok(None),
         Err(fault) => Err(fault),
@@ -199,7 +201,7 @@ pub fn flash(alloc: Global, aperture: RealAperture, at: Spot) -> Result<Option<A
     ensures { Flashes result (spec.real_flash aperture at) }
 {
     match aperture {
-        RealAperture::Exact(aperture) => exact_flash(aperture.flash(alloc, at)),
+        RealAperture::Exact(aperture) => exact_flash(alloc, aperture, at),
         RealAperture::Ring(d, hole) => within(ring_at(d, hole.diameter, at)),
         RealAperture::Frame(x, y, hole) => within(frame_at(alloc, x, y, hole.diameter, at)?),
         RealAperture::Odd(form) => within(RealShape::Fine(odd_at(form, at))),

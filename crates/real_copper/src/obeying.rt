@@ -1,7 +1,7 @@
 //! What the commands of real copper do.
 use crate::anchored::Anchored;
 use crate::aperture::RealAperture;
-use crate::arcs::bend_of;
+use crate::arcs::{bend_of, no_arc};
 use crate::contours::area_of;
 use crate::definitions::read_real_aperture;
 use crate::draw::Bend;
@@ -59,7 +59,7 @@ fn draw(reader: &mut RealReader, bending: &Bending, to: Spot) -> Result<(), Halt
     if pen > 0 && reader.is_full() {
         return Err(refused(GerberKind::TooManyPieces));
     }
-    let bend = match bend_of(&reader.settings, Code::Draw, bending, to) {
+    let bend = match bend_of(&reader.settings, bending, to) {
         Ok(bend) => bend,
         Err(kind) => return Err(Halt::Fault(kind)),
     };
@@ -166,9 +166,9 @@ fn flash_at(reader: &mut RealReader, alloc: Global, to: Spot) -> Result<(), Halt
     }
 }
 
-// An operation that is no draw has no offsets: it is judged behind all else.
-fn without_offsets(reader: &RealReader, code: Code, bending: &Bending, to: Spot) -> Result<(), Halt<RealKind>> {
-    match bend_of(&reader.settings, code, bending, to) {
+// An operation that is no draw has no offsets: they are judged behind all else.
+fn without_offsets(bending: &Bending) -> Result<(), Halt<RealKind>> {
+    match no_arc(bending) {
         Ok(_) => Ok(()),
         Err(kind) => Err(Halt::Fault(kind)),
     }
@@ -177,10 +177,10 @@ fn without_offsets(reader: &RealReader, code: Code, bending: &Bending, to: Spot)
 fn perform(reader: &mut RealReader, alloc: Global, code: Code, bending: &Bending, to: Spot) -> Result<(), Halt<RealKind>> {
     match code {
         Code::Draw => draw(reader, bending, to),
-        Code::Move => without_offsets(reader, code, bending, to),
+        Code::Move => without_offsets(bending),
         Code::Flash => {
             flash_at(reader, alloc, to)?;
-            without_offsets(reader, code, bending, to)
+            without_offsets(bending)
         },
     }
 }
@@ -221,7 +221,7 @@ fn extend(reader: &mut RealReader, alloc: Global, bending: &Bending, to: Spot) -
     if edges >= area_contact::MOST_CONTOUR_EDGES || reader.exceeds(edges + 1) {
         return Err(refused(GerberKind::TooManyVertices));
     }
-    match bend_of(&reader.settings, Code::Draw, bending, to) {
+    match bend_of(&reader.settings, bending, to) {
         Ok(bend) => match reader.extend(alloc, to, bend) {
             Ok(()) => Ok(()),
             Err(halt) => Err(halted(halt)),
@@ -235,7 +235,7 @@ fn perform_in_region(reader: &mut RealReader, alloc: Global, code: Code, bending
         Code::Draw => extend(reader, alloc, bending, to),
         Code::Move => {
             close(reader, alloc)?;
-            without_offsets(reader, code, bending, to)
+            without_offsets(bending)
         },
         Code::Flash => Err(refused(GerberKind::NotInRegion)),
     }

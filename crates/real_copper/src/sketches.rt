@@ -1,20 +1,24 @@
 //! What primitives of macros flash (Gerber Layer Format Specification, 4.5.1).
+ghost use Rattle.aperture_macros.specs.Fine.{IsNearFine};
 ghost use Rattle.aperture_macros.specs.Images.{set_down};
 ghost use Rattle.aperture_macros.specs.Sketches.{IsNear};
 ghost use Rattle.area_contact.specs.Contour.{IsClosed};
 ghost use Rattle.area_contact.specs.declared.TheConstants.{MOST_CONTOUR_POINTS};
 ghost use Rattle.board_shapes.specs.Figures.{filled};
-ghost use Rattle.planar.specs.Plane.{IsPlaced};
-ghost use Rattle.real_copper.specs.Figures.{exact};
+ghost use Rattle.board_shapes.specs.Rectangles.{rectangle as rectangle_of};
+ghost use Rattle.contact.specs.declared.TheConstants.{MOST_DIAMETER};
+ghost use Rattle.planar.specs.Plane.{IsPlaced, IsReachable, IsWithin};
+ghost use Rattle.planar.specs.declared.TheConstants.{METRE, TWO_METRES};
+ghost use Rattle.real_copper.specs.Figures.{exact, real_edges};
 ghost use Rattle.real_copper.specs.Flashed.{Makes};
 ghost use Rattle.real_copper.specs.Primitives as spec;
 ghost use Rattle.real_copper.specs.Shapes.{real_figure};
-ghost use Rattle.slants.specs.declared.cones.TheConstants.{RIGHT_ANGLE};
-ghost use Rattle.std.specs.Prelude.{All, IfErr, IfOk, Some, length, map, ◌≡◌, ◌<◌, ◌≤◌};
+ghost use Rattle.std.specs.Prelude.{Some, length, map, unsigned_abs, ◌≡◌, ◌<◌, ◌≤◌, ◌*◌, ◌^◌, ◌-ℤ◌};
 
 use crate::anchored::Anchored;
-use crate::flashes::{sides_about, stroke_about};
+use crate::flashes::{plain, sides_about, stroke_about};
 use crate::moving::is_anchored;
+use apertures::half;
 use aperture_macros::{FigureFault, FineKind, FineSketch, Form, MacroFault, Placing, Primitive, Rotation, Sketch, Turn};
 use board_shapes::{Shape, rectangle};
 use contact::{Bounds, Capsule};
@@ -27,7 +31,10 @@ use std::alloc::Global;
 use turned_polygons::TurnedPolygon;
 
 // The figure, where it is within 1 m of 0.
-fn within(shape: RealShape) -> Result<Option<Anchored>, FigureFault> {
+fn within(shape: RealShape) -> Result<Option<Anchored>, FigureFault>
+    requires few { real_edges (real_figure shape) < 2 ^ 32 }
+    ensures { Makes result (spec.within (real_figure shape)) }
+{
     if is_anchored(&shape) {
         Ok(Some(Anchored { shape }))
     } else {
@@ -35,31 +42,58 @@ fn within(shape: RealShape) -> Result<Option<Anchored>, FigureFault> {
     }
 }
 
-// A contour that is turned about a spot by what is left of its turn, if anything is.
-fn contour_turned(alloc: Global, about: Spot, rest: u32, contour: Vec<Spot>) -> Result<Option<Anchored>, FigureFault> {
+// What a contour bounds that has nothing left to turn.
+fn unturned(alloc: Global, contour: Vec<Spot>) -> Result<Option<Anchored>, FigureFault>
+    requires closed { IsClosed contour.items }
+    requires enough { 4 ≤ length contour.items }
+    requires few { length contour.items ≤ MOST_CONTOUR_POINTS }
+    ensures { Makes result (spec.within (exact (filled contour.items))) }
+{
     if !are_placed(&contour) {
         return Err(FigureFault::Macro(MacroFault::OutOfRange));
     }
-    if rest > 0 {
-        return within(RealShape::Turned(TurnedFigure {
-            contour,
-            about,
-            angle: rest,
-        }));
-    }
     match Shape::area_of(alloc, contour) {
-        Ok(shape) => within(RealShape::Plain(shape)),
+        Ok(shape) => Ok(Some(plain(shape))),
         Err(_) => Err(FigureFault::NoMemory),
     }
 }
 
-// A disc that is: one about that spot stays as it is.
-fn disc_turned(about: Spot, rest: u32, p: Spot, d: u64) -> Result<Option<Anchored>, FigureFault> {
-    if !is_placed(p) {
-        return Err(FigureFault::Macro(MacroFault::OutOfRange));
+// A contour that is turned about a spot by what is left of its turn, if anything is.
+fn contour_turned(alloc: Global, about: Spot, rest: u32, contour: Vec<Spot>) -> Result<Option<Anchored>, FigureFault>
+    requires closed { IsClosed contour.items }
+    requires enough { 4 ≤ length contour.items }
+    requires few { length contour.items ≤ MOST_CONTOUR_POINTS }
+    ensures { Makes result (spec.within (spec.contour_turned about rest contour.items)) }
+{
+    if rest == 0 {
+        return unturned(alloc, contour);
     }
+    within(RealShape::Turned(TurnedFigure {
+        contour,
+        about,
+        angle: rest,
+    }))
+}
+
+// A disc, which nothing turns.
+fn disc(p: Spot, d: u64) -> Result<Option<Anchored>, FigureFault>
+    requires narrow { d ≤ MOST_DIAMETER }
+    ensures { Makes result (spec.within (spec.disc p d)) }
+{
+    if is_placed(p) {
+        Ok(Some(plain(Shape::Round(Capsule::new(p, p, half(d))))))
+    } else {
+        Err(FigureFault::Macro(MacroFault::OutOfRange))
+    }
+}
+
+// A disc that is turned about a spot: one about that spot stays as it is.
+fn disc_turned(about: Spot, rest: u32, p: Spot, d: u64) -> Result<Option<Anchored>, FigureFault>
+    requires narrow { d ≤ MOST_DIAMETER }
+    ensures { Makes result (spec.within (spec.disc_turned about rest p d)) }
+{
     if rest == 0 || is_same(p, about) {
-        return within(RealShape::Plain(Shape::Round(Capsule::new(p, p, (d / 2) as i64))));
+        return disc(p, d);
     }
     within(RealShape::TurnedDisc(TurnedDisc {
         centre: p,
@@ -69,7 +103,10 @@ fn disc_turned(about: Spot, rest: u32, p: Spot, d: u64) -> Result<Option<Anchore
     }))
 }
 
-fn quarters_of(rotation: Rotation) -> u32 {
+fn quarters_of(rotation: Rotation) -> u32
+    ensures value { result ≡ spec.quarters_of rotation }
+    ensures few { result ≤ 3 }
+{
     match rotation {
         Rotation::Unturned => 0,
         Rotation::Quarter => 1,
@@ -79,7 +116,10 @@ fn quarters_of(rotation: Rotation) -> u32 {
 }
 
 // A polygon by its middle, the diameter of its circle in parts of a u, and its corners.
-fn polygon_turned(turn: Turn, about: Spot, p: Spot, d: u64, n: u32) -> Result<Option<Anchored>, FigureFault> {
+fn polygon_turned(turn: Turn, about: Spot, p: Spot, d: u64, n: u32) -> Result<Option<Anchored>, FigureFault>
+    requires below { turn.rest < RIGHT_ANGLE }
+    ensures { Makes result (spec.within (spec.polygon_turned turn about p d n)) }
+{
     let polygon = RegularPolygon {
         centre: p,
         corners: n,
@@ -94,35 +134,50 @@ fn polygon_turned(turn: Turn, about: Spot, p: Spot, d: u64, n: u32) -> Result<Op
 }
 
 // The corners of a rectangle, each set down.
-fn corners(alloc: Global, by: Placing, low: Spot, high: Spot) -> Result<Vec<Spot>, FigureFault> {
+fn corners(by: Placing, low: Spot, high: Spot) -> [Spot; 5]
+    requires low { IsReachable low }
+    requires high { IsReachable high }
+    ensures value { result ≡ map (set_down by.rotation by.at) (rectangle_of low high) }
+    ensures closed { IsClosed result }
+    ensures five { length result ≡ 5 }
+{
     let [first, second, third, fourth, _] = rectangle(low, high);
     let start = by.moved(first);
-    match [
+    [
         start,
         by.moved(second),
         by.moved(third),
         by.moved(fourth),
         start,
     ]
-    .as_slice()
-    .to_vec(alloc)
-    {
-        Ok(spots) => Ok(spots),
+}
+
+// A rectangle, set down and turned by what is left.
+fn rectangle_turned(alloc: Global, by: Placing, rest: u32, low: Spot, high: Spot) -> Result<Option<Anchored>, FigureFault>
+    requires low { IsReachable low }
+    requires high { IsReachable high }
+    ensures { Makes result (spec.within (spec.contour_turned by.at rest (map (set_down by.rotation by.at) (rectangle_of low high)))) }
+{
+    match corners(by, low, high).as_slice().to_vec(alloc) {
+        Ok(contour) => contour_turned(alloc, by.at, rest, contour),
         Err(_) => Err(FigureFault::NoMemory),
     }
 }
 
 // A figure about the origin, set down at a spot and turned by what is left about it.
-fn sketched(alloc: Global, turn: Turn, at: Spot, sketch: Sketch) -> Result<Option<Anchored>, FigureFault> {
+fn sketched(alloc: Global, turn: Turn, at: Spot, sketch: Sketch) -> Result<Option<Anchored>, FigureFault>
+    requires placed { IsPlaced at }
+    requires below { turn.rest < RIGHT_ANGLE }
+    requires near { IsNear (Some sketch) }
+    ensures { Makes result (spec.within (spec.sketch_at turn at sketch)) }
+{
     let by = Placing {
         rotation: turn.quarters,
         at,
     };
     match sketch {
         Sketch::Disc(p, d) => disc_turned(at, turn.rest, by.moved(p), d),
-        Sketch::Rectangle(low, high) => {
-            contour_turned(alloc, at, turn.rest, corners(alloc, by, low, high)?)
-        },
+        Sketch::Rectangle(low, high) => rectangle_turned(alloc, by, turn.rest, low, high),
         Sketch::Stroke(p, q, width) => within(RealShape::Slanted(Slant {
             start: by.moved(p),
             end: by.moved(q),
@@ -133,7 +188,12 @@ fn sketched(alloc: Global, turn: Turn, at: Spot, sketch: Sketch) -> Result<Optio
 }
 
 // The sides of a rectangle, which change places at a quarter turn.
-fn sides_turned(rotation: Rotation, m: Spot, w: u64, h: u64) -> Bounds {
+fn sides_turned(rotation: Rotation, m: Spot, w: u64, h: u64) -> Bounds
+    requires placed { IsPlaced m }
+    requires w { w ≤ 4 * METRE }
+    requires h { h ≤ 4 * METRE }
+    ensures { result ≡ spec.sides_turned rotation m w h }
+{
     match rotation {
         Rotation::Unturned => sides_about(m, w, h),
         Rotation::Quarter => sides_about(m, h, w),
@@ -142,28 +202,50 @@ fn sides_turned(rotation: Rotation, m: Spot, w: u64, h: u64) -> Bounds {
     }
 }
 
-// One of an odd size, set down by quarter turns.
-fn odd_sketched(rotation: Rotation, at: Spot, fine: FineSketch) -> Result<Option<Anchored>, FigureFault> {
-    let by = Placing { rotation, at };
-    let p = by.moved(fine.start);
-    if !is_placed(p) {
-        return Err(FigureFault::Macro(MacroFault::OutOfRange));
-    }
+// How far two spots are apart, across or up.
+fn apart(n: i64, m: i64) -> u64
+    requires n { IsWithin TWO_METRES n }
+    requires m { IsWithin TWO_METRES m }
+    ensures value { result ≡ unsigned_abs (m -ℤ n) }
+    ensures short { result ≤ 4 * METRE }
+{
+    m.abs_diff(n)
+}
+
+// A figure of an odd size whose first spot comes to lie here.
+fn odd_shape(by: Placing, p: Spot, fine: FineSketch) -> RealShape
+    requires near { IsNearFine (Some fine) }
+    requires placed { IsPlaced p }
+    requires here { p ≡ set_down by.rotation by.at fine.start }
+    ensures { real_figure result ≡ spec.odd_sketch_at by.rotation by.at fine }
+{
+    let wide = apart(fine.start.x, fine.end.x);
     match fine.kind {
-        FineKind::Disc => {
-            let d = fine.end.x.abs_diff(fine.start.x);
-            within(RealShape::Fine(FineFigure::Round(stroke_about(p, d, d))))
-        },
+        FineKind::Disc => RealShape::Fine(FineFigure::Round(stroke_about(p, wide, wide))),
         FineKind::Rectangle => {
-            let w = fine.end.x.abs_diff(fine.start.x);
-            let h = fine.side.y.abs_diff(fine.start.y);
-            within(RealShape::Fine(FineFigure::Rectangle(sides_turned(rotation, p, w, h))))
+            let high = apart(fine.start.y, fine.side.y);
+            RealShape::Fine(FineFigure::Rectangle(sides_turned(by.rotation, p, wide, high)))
         },
-        FineKind::Line => within(RealShape::Slanted(Slant {
+        FineKind::Line => RealShape::Slanted(Slant {
             start: p,
             end: by.moved(fine.end),
-            width: fine.side.x.abs_diff(fine.start.x),
-        })),
+            width: apart(fine.start.x, fine.side.x),
+        }),
+    }
+}
+
+// One of an odd size, set down by quarter turns.
+fn odd_sketched(rotation: Rotation, at: Spot, fine: FineSketch) -> Result<Option<Anchored>, FigureFault>
+    requires at_placed { IsPlaced at }
+    requires near { IsNearFine (Some fine) }
+    ensures { Makes result (spec.within (spec.odd_sketch_at rotation at fine)) }
+{
+    let by = Placing { rotation, at };
+    let p = by.moved(fine.start);
+    if is_placed(p) {
+        within(odd_shape(by, p, fine))
+    } else {
+        Err(FigureFault::Macro(MacroFault::OutOfRange))
     }
 }
 
