@@ -7,7 +7,7 @@ ghost use Rattle.real_copper.specs.Figures.{RealFigure, arc, holed, is_half_plac
 ghost use Rattle.real_copper.specs.Moving.{anchored_leaves};
 ghost use Rattle.real_copper.specs.Shapes.{real_figure};
 ghost use Rattle.std.specs.List.{list_all};
-ghost use Rattle.std.specs.Prelude.{All, IfErr, IfOk, length, map, pos, true, ◌≡◌, ◌<◌, ◌^◌, ◌*ℤ◌};
+ghost use Rattle.std.specs.Prelude.{All, IfErr, IfOk, false, length, map, pos, true, ◌≡◌, ◌<◌, ◌^◌, ◌*ℤ◌};
 
 use crate::anchored::Anchored;
 use arc_regions::{Bend, Part, Region};
