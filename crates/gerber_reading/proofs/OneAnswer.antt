@@ -8,5 +8,5 @@ use Rattle.gerber_reading.specs.CommandEffects.{Place}
 use Rattle.gerber_reading.specs.Image.{effect_by, pieces_by}
 use Rattle.gerber_reading.specs.Dialect.{AreItemsBy, Dialect, HasOneAnswerBy, stop_command}
 
-pub one_answer : {G E : Type 0} → ((a : Ahead) → HasOneReadingAhead a) → {W : Type 0} (d : Dialect G E W) (file : List ℕ) (p : Place) → HasOneAnswerBy d file p
+pub one_answer : {G E A : Type 0} → ((a : Ahead) → HasOneReadingAhead a) → {W : Type 0} (d : Dialect G E A W) (file : List ℕ) (p : Place) → HasOneAnswerBy d file p
 one_answer one d file p = one_answer_of (effect_by d.table p) (pieces_by d.table p) (AreItemsBy d file) (some_items one d.command stop_command file) (one_items one d.command stop_command file)

@@ -107,32 +107,32 @@ none_in_front read n (w ∷ front) back (v ∷ before) after last split held lat
 -- ---- The stop
 
 -- behind an end word only the proper end stands, and it makes nothing
-stays_behind : {G E W : Type 0} (f : Profile G E W) (not_ended : W) (j : JudgesStops f not_ended) (k : (Known G E)) (c : Command) → k.settings.ended ≡ true → IsOk (f.does k c) → f.does k c ≡ Ok stays
-stays_behind {G = G} {E = E} {W = W} f not_ended j k c h ok = j.behind k c h ∙ by (is_finish c) (subst IsOk (j.behind k c h) ok)
+stays_behind : {G E A W : Type 0} (f : Profile G E A W) (not_ended : W) (j : JudgesStops f not_ended) (k : (Known G E A)) (c : Command) → k.settings.ended ≡ true → IsOk (f.does k c) → f.does k c ≡ Ok stays
+stays_behind {G = G} {E = E} {A = A} {W = W} f not_ended j k c h ok = j.behind k c h ∙ by (is_finish c) (subst IsOk (j.behind k c h) ok)
   where
-    by : (b : Bool) → IsOk {T = Effect G E} (cond b (Ok stays) (Err j.after_end)) → ◌≡◌ {A = Result (Effect G E) W} (cond b (Ok stays) (Err j.after_end)) (Ok stays)
+    by : (b : Bool) → IsOk {T = Effect G E A} (cond b (Ok stays) (Err j.after_end)) → ◌≡◌ {A = Result (Effect G E A) W} (cond b (Ok stays) (Err j.after_end)) (Ok stays)
     by true fine = refl
-    by false fine = absurd (not_ok (Effect G E) j.after_end fine)
+    by false fine = absurd (not_ok (Effect G E A) j.after_end fine)
 
 -- a stop without a fault is the proper end behind an end word
-record EndsWell {G E : Type 0} (k : (Known G E)) (stop : Stop) : Type 0 where
+record EndsWell {G E A : Type 0} (k : (Known G E A)) (stop : Stop) : Type 0 where
   is : stop ≡ ended
   behind : k.settings.ended ≡ true
 
-ends_well : {G E W : Type 0} (f : Profile G E W) (not_ended : W) (j : JudgesStops f not_ended) (k : (Known G E)) (stop : Stop) → IsOk (f.does k (stop_command stop)) → EndsWell k stop
-ends_well {G = G} {E = E} {W = W} f not_ended j k ended ok = by k.settings.ended refl
+ends_well : {G E A W : Type 0} (f : Profile G E A W) (not_ended : W) (j : JudgesStops f not_ended) (k : (Known G E A)) (stop : Stop) → IsOk (f.does k (stop_command stop)) → EndsWell k stop
+ends_well {G = G} {E = E} {A = A} {W = W} f not_ended j k ended ok = by k.settings.ended refl
   where
     by : (b : Bool) → k.settings.ended ≡ b → EndsWell k ended
     by true e = record { is = refl; behind = e }
-    by false e = absurd (not_ok (Effect G E) not_ended (subst IsOk (j.unended k e) ok))
-ends_well {G = G} {E = E} {W = W} f not_ended j k (broken fault at) ok = absurd (by k.settings.ended refl)
+    by false e = absurd (not_ok (Effect G E A) not_ended (subst IsOk (j.unended k e) ok))
+ends_well {G = G} {E = E} {A = A} {W = W} f not_ended j k (broken fault at) ok = absurd (by k.settings.ended refl)
   where
     by : (b : Bool) → k.settings.ended ≡ b → ⊥
-    by true e = not_ok (Effect G E) j.after_end (subst IsOk (j.behind k (breaks fault) e) ok)
-    by false e = not_ok (Effect G E) (j.of_word fault) (subst IsOk (j.faulty k fault e) ok)
+    by true e = not_ok (Effect G E A) j.after_end (subst IsOk (j.behind k (breaks fault) e) ok)
+    by false e = not_ok (Effect G E A) (j.of_word fault) (subst IsOk (j.faulty k fault e) ok)
 
 -- the stop of a file that is cut short, where no end word stands before it
-stop_refused : {G E W : Type 0} (f : Profile G E W) (not_ended : W) (j : JudgesStops f not_ended) (k : (Known G E)) (stop : Stop) → k.settings.ended ≡ false → IsCutShort stop → f.does k (stop_command stop) ≡ Err not_ended
+stop_refused : {G E A W : Type 0} (f : Profile G E A W) (not_ended : W) (j : JudgesStops f not_ended) (k : (Known G E A)) (stop : Stop) → k.settings.ended ≡ false → IsCutShort stop → f.does k (stop_command stop) ≡ Err not_ended
 stop_refused f not_ended j k ended going short = j.unended k going
 stop_refused f not_ended j k (broken NotEnded at) going short = j.faulty k NotEnded going ∙ ap Err j.early
 stop_refused f not_ended j k (broken LineBreakInWord at) going short = absurd short
@@ -141,14 +141,14 @@ stop_refused f not_ended j k (broken PercentAmiss at) going short = absurd short
 -- ---- By a dialect
 
 -- a file that is read: its words end well, and no command of them has a fault
-record Read {G E W : Type 0} (d : Dialect G E W) (file : List ℕ) (p : Place) (pieces : List (PieceOf G)) : Type 0 where
+record Read {G E A W : Type 0} (d : Dialect G E A W) (file : List ℕ) (p : Place) (pieces : List (PieceOf G)) : Type 0 where
   words : List Entry
   cut : HasWords (start file) words ended
   clean : Clean (effect_by d.table p) (said (history d.command words))
   behind : has_ended (said (history d.command words)) ≡ true
   are : pieces ≡ pieces_by d.table p (said (history d.command words))
 
-module _ {G E W : Type 0} (d : Dialect G E W) (not_ended : W) (j : JudgesStops d.table not_ended) (p : Place) where
+module _ {G E A W : Type 0} (d : Dialect G E A W) (not_ended : W) (j : JudgesStops d.table not_ended) (p : Place) where
   abbrev IsClean : List Command → Type 0
   IsClean earlier = Clean (effect_by d.table p) earlier
 
@@ -159,7 +159,7 @@ module _ {G E W : Type 0} (d : Dialect G E W) (not_ended : W) (j : JudgesStops d
   -- what follows the end makes no pieces
   one_after_end : (c : Command) (earlier : List Command) → has_ended earlier ≡ true → IsOk (effect_by d.table p earlier c) → pieces_by d.table p (c ∷ earlier) ≡ pieces_by d.table p earlier
   unfolding image_by
-  one_after_end c earlier h ok = ap (λ (r : Result (Effect G E) W). (with_effect p (length earlier + 1) (image_by d.table p earlier) r).pieces) (stays_behind d.table not_ended j (known_by d.table p earlier) c h ok)
+  one_after_end c earlier h ok = ap (λ (r : Result (Effect G E A) W). (with_effect p (length earlier + 1) (image_by d.table p earlier) r).pieces) (stays_behind d.table not_ended j (known_by d.table p earlier) c h ok)
 
   after_end : (later earlier : List Command) → has_ended earlier ≡ true → IsClean (later ++ earlier) → pieces_by d.table p (later ++ earlier) ≡ pieces_by d.table p earlier
   after_end [] earlier h clean = refl

@@ -9,14 +9,14 @@ use Rattle.file_reading.specs.LookingBack.{keep_first, latest}
 use Rattle.gerber_reading.specs.Settings.{lengthened}
 
 -- where an effect leads
-abbrev pub heads : {G E : Type 0} → (Effect G E) → Option Spot
+abbrev pub heads : {G E A : Type 0} → (Effect G E A) → Option Spot
 heads (performs to figure) = Some to
 heads (extends to e) = Some to
 heads (closes to figure) = Some to
 heads other = None
 
 -- the block that it opens
-abbrev pub opened : {G E : Type 0} → (Effect G E) → Option Repeat
+abbrev pub opened : {G E A : Type 0} → (Effect G E A) → Option Repeat
 opened (steps next pieces) = next
 opened other = None
 
@@ -35,7 +35,7 @@ after s ends to next = record s { ended = true }
 after s other to next = s
 
 -- the contour behind an effect
-abbrev pub contour_after : {G E : Type 0} → Effect G E → Option (Outline E) → Spot → Option (Outline E)
+abbrev pub contour_after : {G E A : Type 0} → Effect G E A → Option (Outline E) → Spot → Option (Outline E)
 contour_after (extends to e) contour from = lengthened contour from to e
 contour_after (closes to figure) contour from = None
 contour_after opens contour from = None

@@ -1,7 +1,6 @@
 -- Commands without where they lie in memory.
-use Rattle.std.specs.Prelude.{ℕ, Bool, List, Option, option_map}
+use Rattle.std.specs.Prelude.{ℕ, Bool, false, List, Option, None, option_map}
 use Rattle.lengths.specs.declared.decimal.Unit.{Unit as Measure}
-use Rattle.aperture_macros.specs.declared.primitive.Copper.{Copper}
 use Rattle.gerber_words.specs.declared.fault.WordFault.{WordFault}
 use Rattle.gerber_reading.specs.declared.kind.GerberKind.{GerberKind}
 use Rattle.gerber_reading.specs.declared.command.Code.{Code}
@@ -22,6 +21,10 @@ pub record Bending : Type 0 where
 abbrev pub bending_of : SeenBending → Bending
 bending_of b = record { curve = b.curve; i = option_map (λ t. t.now) b.i; j = option_map (λ t. t.now) b.j; more = b.more }
 
+-- that of an operation that says nothing of an arc
+abbrev pub unbent : Bending
+unbent = record { curve = None; i = None; j = None; more = false }
+
 -- a word of a copper file, read by itself; where the words stop, that they break off or that the file finishes
 pub data Command : Type 0 where
   nothing : Command
@@ -30,7 +33,7 @@ pub data Command : Type 0 where
   formats : Format → Command
   defines : List ℕ → Command
   names_macro : List ℕ → Command
-  body_word : Copper → List ℕ → Command
+  body_word : List ℕ → Command
   selects : ℕ → Command
   curves : Curve → Command
   quarters : Quadrants → Command
@@ -51,7 +54,7 @@ view (seen.Unit unit) = counts_in unit
 view (seen.Format format) = formats format
 view (seen.Define text) = defines text.now
 view (seen.Macro name) = names_macro name.now
-view (seen.Body copper text) = body_word copper text.now
+view (seen.Body text) = body_word text.now
 view (seen.Select n) = selects n
 view (seen.Curve curve) = curves curve
 view (seen.Quadrants quadrants) = quarters quadrants

@@ -14,7 +14,7 @@ use Rattle.gerber_reading.specs.Dialect.{Dialect, IsReadBy, IsRefusedBy}
 -- ---- A file that is cut off
 
 -- by a dialect the file has these words, and its end word, the first that ends it, has its star at this place
-pub record EndsAtBy {G E W : Type 0} (d : Dialect G E W) (file : List ℕ) (star : ℕ) : Type 0 where
+pub record EndsAtBy {G E A W : Type 0} (d : Dialect G E A W) (file : List ℕ) (star : ℕ) : Type 0 where
   pub front : List Entry
   pub last : Entry
   pub back : List Entry
@@ -25,19 +25,19 @@ pub record EndsAtBy {G E W : Type 0} (d : Dialect G E W) (file : List ℕ) (star
   pub star_is : star ≡ star_of last
 
 -- The file has an end word, and every prefix without that word's star is refused, as not ended.
-pub record PrefixesAreRefusedBy {G E W : Type 0} (d : Dialect G E W) (not_ended : W) (file : List ℕ) (p : Place) : Type 0 where
+pub record PrefixesAreRefusedBy {G E A W : Type 0} (d : Dialect G E A W) (not_ended : W) (file : List ℕ) (p : Place) : Type 0 where
   pub has_end : (star : ℕ) × EndsAtBy d file star
   pub refused : (star n : ℕ) → EndsAtBy d file star → n ≤ star → (number : ℕ) × (place : ℕ) × IsRefusedBy d (take n file) p not_ended number place
 
 -- what a table says of a stop, and of all that stands behind an end word
-pub record JudgesStops {G E W : Type 0} (f : Profile G E W) (not_ended : W) : Type 0 where
+pub record JudgesStops {G E A W : Type 0} (f : Profile G E A W) (not_ended : W) : Type 0 where
   pub after_end : W
   pub of_word : WordFault → W
-  pub behind : (k : (Known G E)) (c : Command) → k.settings.ended ≡ true → f.does k c ≡ (if is_finish c then Ok stays else Err after_end)
-  pub unended : (k : (Known G E)) → k.settings.ended ≡ false → f.does k finishes ≡ Err not_ended
-  pub faulty : (k : (Known G E)) (fault : WordFault) → k.settings.ended ≡ false → f.does k (breaks fault) ≡ Err (of_word fault)
+  pub behind : (k : (Known G E A)) (c : Command) → k.settings.ended ≡ true → f.does k c ≡ (if is_finish c then Ok stays else Err after_end)
+  pub unended : (k : (Known G E A)) → k.settings.ended ≡ false → f.does k finishes ≡ Err not_ended
+  pub faulty : (k : (Known G E A)) (fault : WordFault) → k.settings.ended ≡ false → f.does k (breaks fault) ≡ Err (of_word fault)
   pub early : of_word NotEnded ≡ not_ended
 
 -- a prefix that is read makes the same pieces
-abbrev pub PrefixMakesTheSame : {G E W : Type 0} → Dialect G E W → List ℕ → Place → Type 0
+abbrev pub PrefixMakesTheSame : {G E A W : Type 0} → Dialect G E A W → List ℕ → Place → Type 0
 PrefixMakesTheSame {G = G} d file p = (pieces others : List (PieceOf G)) (n : ℕ) → IsReadBy d file p pieces → IsReadBy d (take n file) p others → others ≡ pieces

@@ -5,7 +5,7 @@ use Rattle.std.specs.Option.{option_or}
 use Rattle.file_reading.specs.LookingBack.{latest, last_or, last_said, first_said, how_many}
 use Rattle.lengths.specs.declared.decimal.Unit.{Unit as Measure}
 use Rattle.planar.specs.declared.Spot.{Spot}
-use Rattle.aperture_macros.specs.BodyWord.{PlainPrimitive, primitive_at}
+use Rattle.aperture_macros.specs.BodyWord.{PlainPrimitive}
 use Rattle.aperture_macros.specs.declared.fault.MacroFault.{MacroFault}
 use Rattle.step_repeat.specs.declared.repeat.Repeat.{Repeat}
 use Rattle.gerber_reading.specs.declared.settings.Curve.{Curve}
@@ -18,7 +18,8 @@ use Rattle.gerber_reading.specs.declared.command.Code.TheVariants.{Draw, Move}
 use Rattle.gerber_reading.specs.declared.command.Format.{Format}
 use Rattle.gerber_reading.specs.declared.settings.Settings.{Settings}
 use Rattle.gerber_reading.specs.Tools.{Macros, Tool, begun, filled_up, tool_in}
-use Rattle.gerber_reading.specs.CommandEffects.{Leg, Outline, code_of, coordinate, next_block}
+use Rattle.gerber_reading.specs.CommandEffects.{Leg, Meaning, Outline, code_of, coordinate, next_block}
+use Rattle.apertures.specs.declared.fault.ApertureFault.{ApertureFault}
 
 -- what a command says of a setting
 abbrev pub format_in : Command → Option Format
@@ -170,32 +171,32 @@ contour_before edge [] = None
 contour_before edge (c ∷ earlier) = contour_by c (region_open earlier) (contour_before edge earlier) (point_before earlier) (point_before (c ∷ earlier)) (edge (settings_before earlier) c)
 
 -- the aperture, where n is its number
-abbrev pub as_number : ℕ → Option (ℕ × Tool) → Option Tool
+abbrev pub as_number : {A : Type 0} → ℕ → Option (ℕ × Tool A) → Option (Tool A)
 as_number n (Some made) = if made.0 == n then Some made.1 else None
 as_number n None = None
 
--- what a command defines n as, in the unit in force
-abbrev pub definition_in : Command → Option Measure → ℕ → Option Tool
-definition_in (defines text) (Some unit) n = as_number n (tool_in text unit)
-definition_in other unit n = None
+-- what a command defines n as, in the unit in force, by the standard aperture that a word means
+abbrev pub definition_in : {A : Type 0} → (List ℕ → Measure → Result (ℕ × A) ApertureFault) → Command → Option Measure → ℕ → Option (Tool A)
+definition_in aperture (defines text) (Some unit) n = as_number n (tool_in aperture text unit)
+definition_in aperture other unit n = None
 
 -- the aperture that n is defined as
-abbrev pub defined_before : List Command → ℕ → Option Tool
-defined_before [] n = None
-defined_before (c ∷ earlier) n = option_or (definition_in c (unit_before earlier) n) (defined_before earlier n)
+abbrev pub defined_before : {A : Type 0} → (List ℕ → Measure → Result (ℕ × A) ApertureFault) → List Command → ℕ → Option (Tool A)
+defined_before aperture [] n = None
+defined_before aperture (c ∷ earlier) n = option_or (definition_in aperture c (unit_before earlier) n) (defined_before aperture earlier n)
 
 -- a word of a body gives the last macro its primitive, if it is one
 abbrev pub with_body : Macros → Result (Option PlainPrimitive) MacroFault → Macros
 with_body m (Ok (Some p)) = filled_up m p
 with_body m other = m
 
--- the macros behind a command
-abbrev pub macros_by : Command → Macros → Macros
-macros_by (names_macro name) m = begun m name
-macros_by (body_word copper text) m = with_body m (primitive_at copper text)
-macros_by other m = m
+-- the macros behind a command, by the primitive that a word means
+abbrev pub macros_by : (List ℕ → Result (Option PlainPrimitive) MacroFault) → Command → Macros → Macros
+macros_by primitive (names_macro name) m = begun m name
+macros_by primitive (body_word text) m = with_body m (primitive text)
+macros_by primitive other m = m
 
 -- the macros: `AM` begins one, and the words of its body give it primitives
-abbrev pub macros_before : List Command → Macros
-macros_before [] = record { latest = None; others = λ name. None }
-macros_before (c ∷ earlier) = macros_by c (macros_before earlier)
+abbrev pub macros_before : (List ℕ → Result (Option PlainPrimitive) MacroFault) → List Command → Macros
+macros_before primitive [] = record { latest = None; others = λ name. None }
+macros_before primitive (c ∷ earlier) = macros_by primitive c (macros_before primitive earlier)

@@ -5,25 +5,17 @@ use Rattle.std.specs.Str.Parse.{digits_value}
 use Rattle.texts.specs.Words.{is_word}
 use Rattle.lengths.specs.Decimal.{Fraction, is_decimal, fraction}
 use Rattle.lengths.specs.declared.decimal.Unit.{Unit as Measure}
-use Rattle.apertures.specs.declared.aperture.Aperture.{Aperture}
 use Rattle.apertures.specs.declared.fault.ApertureFault.{ApertureFault}
 use Rattle.apertures.specs.declared.fault.ApertureFault.TheVariants as aperture
-use Rattle.apertures.specs.Flash.{pen_of}
 pub use Rattle.apertures.specs.Definition.{name_text, number_digits}
 use Rattle.apertures.specs.Definition.{is_comma, is_x, name_of}
-use Rattle.apertures.specs.Real.{real_aperture_at}
 use Rattle.aperture_macros.specs.BodyWord.{PlainPrimitive}
 use Rattle.gerber_reading.specs.declared.TheConstants.{MOST_PRIMITIVES}
 
 -- An aperture: a standard one, or the macro of a name with its parameters and their unit.
-pub data Tool : Type 0 where
-  standard : Aperture → Tool
-  composed : List ℕ → List Fraction → Measure → Tool
-
--- the diameter of the pen that it is: a circle alone draws
-abbrev pub pen_with : Tool → Option ℤ
-pen_with (standard aperture) = pen_of aperture
-pen_with (composed name parameters unit) = None
+pub data Tool (A : Type 0) : Type 0 where
+  standard : A → (Tool A)
+  composed : List ℕ → List Fraction → Measure → (Tool A)
 
 -- a macro: its name and the primitives of its body
 pub record Macro : Type 0 where
@@ -77,16 +69,16 @@ parameters_in text =
     else Some []
 
 -- the number and the aperture that such a word defines
-abbrev pub composed_in : List ℕ → Measure → Option (ℕ × Tool)
+abbrev pub composed_in : {A : Type 0} → List ℕ → Measure → Option (ℕ × Tool A)
 composed_in word unit =
     option_map (λ parameters. (digits_value 10 (number_digits word), composed (name_of (name_text word)) parameters unit)) (parameters_in (name_text word))
 
 -- a standard aperture, or the other where the name is none of a standard aperture
-abbrev pub tool_by : Result (ℕ × Aperture) ApertureFault → Option (ℕ × Tool) → Option (ℕ × Tool)
+abbrev pub tool_by : {A : Type 0} → Result (ℕ × A) ApertureFault → Option (ℕ × Tool A) → Option (ℕ × Tool A)
 tool_by (Ok made) other = Some (made.0, standard made.1)
 tool_by (Err aperture.Macro) other = other
 tool_by (Err fault) other = None
 
--- what an `AD` word defines: a standard aperture, or one of a macro. Where copper is taken exactly, a hole and an odd size are refused.
-abbrev pub tool_in : List ℕ → Measure → Option (ℕ × Tool)
-tool_in word unit = tool_by (real_aperture_at word unit) (composed_in word unit)
+-- what an `AD` word defines: the standard aperture that it means, or one of a macro
+abbrev pub tool_in : {A : Type 0} → (List ℕ → Measure → Result (ℕ × A) ApertureFault) → List ℕ → Measure → Option (ℕ × Tool A)
+tool_in aperture word unit = tool_by (aperture word unit) (composed_in word unit)

@@ -1,7 +1,7 @@
 //! A dialect without copper: each word says nothing. It shows what a dialect gives.
 ghost use Rattle.board_shapes.specs.Figures.{Figure, figure_of};
 ghost use Rattle.step_repeat.specs.Figures.{shape_handling};
-ghost use Rattle.gerber_reading.specs.Blank.{blank};
+ghost use Rattle.gerber_reading.specs.Blank.{FitsBlank, blank};
 
 use crate::command::Command;
 use crate::dialect::Dialect;
@@ -22,11 +22,15 @@ impl Dialect for Blank {
 
     type Edge = ();
 
+    type Aperture = ();
+
     ghost Plain = { Figure };
 
     ghost plain = { figure_of };
 
     ghost handling = { shape_handling };
+
+    ghost Fits = { FitsBlank };
 
     ghost dialect = { blank };
 
@@ -37,7 +41,7 @@ impl Dialect for Blank {
     }
 
     fn obey<'a>(
-        reader: &mut Reader<'a, Shape, ()>,
+        reader: &mut Reader<'a, Shape, (), ()>,
         _alloc: Global,
         command: &Command<'a>,
     ) -> Result<(), Halt<GerberKind>> {

@@ -1,7 +1,6 @@
 //! Commands, as each is read on its own.
 use crate::kind::GerberKind;
 use crate::settings::{Curve, Quadrants};
-use aperture_macros::Copper;
 use gerber_words::WordFault;
 use lengths::decimal::Unit;
 
@@ -30,6 +29,23 @@ pub struct Bending<'a> {
     pub more: bool,
 }
 
+impl<'a> Bending<'a> {
+    ghost use Rattle.std.specs.Prelude.{◌≡◌};
+    ghost use Rattle.gerber_reading.specs.Command.{bending_of, unbent};
+
+    /// Nothing of an arc.
+    pub fn none() -> Bending<'a>
+        ensures { bending_of result ≡ unbent }
+    {
+        Bending {
+            curve: None,
+            i: None,
+            j: None,
+            more: false,
+        }
+    }
+}
+
 /// What a command says, apart from all others. The end of a file, proper or not, is its last command.
 #[derive(Clone, Copy)]
 pub enum Command<'a> {
@@ -40,8 +56,8 @@ pub enum Command<'a> {
     Define(&'a [u8]),
     /// The name of a macro.
     Macro(&'a [u8]),
-    /// A word of a macro's body, and of which copper.
-    Body(Copper, &'a [u8]),
+    /// A word of a macro's body.
+    Body(&'a [u8]),
     Select(u32),
     /// `G01`, `G02` or `G03` alone.
     Curve(Curve),

@@ -7,6 +7,8 @@ ghost use Rattle.gerber_reading.specs.Lawful.{IsLawfulCommand};
 ghost use Rattle.step_repeat.specs.Figures.{Handling};
 ghost use Rattle.gerber_reading.specs.Outcomes.{HasOutcomes, KeepsLayer};
 ghost use Rattle.gerber_reading.specs.Reader.{IsLawfulReader, Obeys, Stops, known_of};
+ghost use Rattle.gerber_reading.specs.Tools.{Macros};
+ghost use Rattle.gerber_reading.specs.declared.tool.Tool.{Tool};
 
 use crate::command::Command;
 use crate::reader::Reader;
@@ -25,6 +27,9 @@ pub trait Dialect {
     /// What it keeps of an edge of a contour beside its end: its bend, or nothing.
     type Edge: Copy + Drop;
 
+    /// A standard aperture.
+    type Aperture: Copy + Drop;
+
     /// A figure as plain data, and what is done with such.
     ghost Plain: { Type 0 };
 
@@ -32,8 +37,11 @@ pub trait Dialect {
 
     ghost handling: { Handling Plain };
 
+    /// What is right of an aperture that is defined, where a file has these macros.
+    ghost Fits: { Macros → Tool Self.Aperture → Type 0 };
+
     /// What a word says, and what a command does.
-    ghost dialect: { spec.Dialect Plain Self.Edge Self.Kind };
+    ghost dialect: { spec.Dialect Plain Self.Edge Self.Aperture Self.Kind };
 
     /// What an effect says of its command, and that pieces stay on their layer.
     fn is_lawful()
@@ -47,14 +55,14 @@ pub trait Dialect {
 
     /// Obeys a command. An `Err` leaves a reader that is of no more use.
     fn obey<'a>(
-        reader: &mut Reader<'a, Self::Figure, Self::Edge>,
+        reader: &mut Reader<'a, Self::Figure, Self::Edge, Self::Aperture>,
         alloc: Global,
         command: &Command<'a>,
     ) -> Result<(), Halt<Self::Kind>>
-        requires lawful { IsLawfulReader plain handling reader.old }
+        requires lawful { IsLawfulReader plain handling Fits reader.old }
         requires command { IsLawfulCommand (view command.now) }
         requires few { reader.old.commands + 1 < 2 ^ 32 }
         ensures ok { OnOk result (Obeys plain reader.old (view command.now) (dialect.table.does (known_of plain reader.old) (view command.now)) reader.new) }
-        ensures lawful { OnOk result (IsLawfulReader plain handling reader.new) }
+        ensures lawful { OnOk result (IsLawfulReader plain handling Fits reader.new) }
         ensures halt { IfErr result (Stops (dialect.table.does (known_of plain reader.old) (view command.now))) };
 }

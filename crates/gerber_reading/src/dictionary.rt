@@ -17,13 +17,13 @@ pub struct Macro<'a> {
 /// The apertures that a file has defined, by their numbers, the macro that it has begun last, and
 /// the other macros by their names.
 #[derive(Drop)]
-pub struct Dictionary<'a> {
-    tools: HashMap<u32, Tool<'a>>,
+pub struct Dictionary<'a, A> {
+    tools: HashMap<u32, Tool<'a, A>>,
     latest: Option<Macro<'a>>,
     others: HashMap<&'a [u8], Vec<Primitive<'a>>>,
 }
 
-impl<'a> Dictionary<'a> {
+impl<'a, A: Drop> Dictionary<'a, A> {
     ghost use Rattle.std.specs.Prelude.{◌≡◌, ◌==◌, if◌then◌else◌, OnOk, OnErr, None, Some, ℕ, List, option_map, is_some};
     ghost use Rattle.std.specs.Option.{option_copied};
     ghost use Rattle.aperture_macros.specs.Seen.{plain};
@@ -31,7 +31,7 @@ impl<'a> Dictionary<'a> {
     ghost use Rattle.gerber_reading.specs.Tools.{begun, filled_up, has_room, macro_named};
 
     /// No apertures and no macros.
-    pub fn new(alloc: Global) -> Dictionary<'a>
+    pub fn new(alloc: Global) -> Dictionary<'a, A>
         ensures empty { (n : ℕ) → defined_in result n ≡ None }
         ensures size { size_of result ≡ 0 }
         ensures kept { (n : ℕ) → kept_in result n ≡ None }
@@ -53,7 +53,7 @@ impl<'a> Dictionary<'a> {
     }
 
     /// The aperture of a number.
-    pub fn find(&self, n: u32) -> Option<&Tool<'a>>
+    pub fn find(&self, n: u32) -> Option<&Tool<'a, A>>
         ensures value { option_map tool_of (option_copied result) ≡ defined_in self.now n }
         ensures kept { option_copied result ≡ kept_in self.now n }
     {
@@ -112,7 +112,7 @@ impl<'a> Dictionary<'a> {
     /// Defines a number that was not defined before. An `Err` leaves all definitions as they were. It is a call, since few words
     /// define one; so are the next two.
     #[inline(never)]
-    pub fn add(&mut self, n: u32, tool: Tool<'a>) -> Result<(), NoMemory>
+    pub fn add(&mut self, n: u32, tool: Tool<'a, A>) -> Result<(), NoMemory>
         requires { defined_in self.old n ≡ None }
         ensures ok { OnOk result (Adds self.old self.new n (tool_of tool.entry)) }
         ensures kept { OnOk result ((m : ℕ) → kept_in self.new m ≡ (if n == m then Some tool.entry else kept_in self.old m)) }

@@ -21,15 +21,15 @@ use texts::MOST_BYTES;
 #[inline(always)]
 fn obey_at<'a, D: Dialect>(
     alloc: Global,
-    reader: &mut Reader<'a, D::Figure, D::Edge>,
+    reader: &mut Reader<'a, D::Figure, D::Edge, D::Aperture>,
     command: &Command<'a>,
     at: usize,
 ) -> Result<(), FileFault<D::Kind>>
-    requires lawful { IsLawfulReader D.plain D.handling reader.old }
+    requires lawful { IsLawfulReader D.plain D.handling D.Fits reader.old }
     requires command { IsLawfulCommand (view command.now) }
     requires few { reader.old.commands + 1 < 2 ^ 32 }
     ensures ok { OnOk result (Obeys D.plain reader.old (view command.now) (D.dialect.table.does (known_of D.plain reader.old) (view command.now)) reader.new) }
-    ensures lawful { OnOk result (IsLawfulReader D.plain D.handling reader.new) }
+    ensures lawful { OnOk result (IsLawfulReader D.plain D.handling D.Fits reader.new) }
     ensures stops { IfErr result (StopsAt D.plain D.dialect.table reader.old (view command.now) at) }
 {
     let command_number = reader.commands + 1;
@@ -42,11 +42,11 @@ fn obey_at<'a, D: Dialect>(
 // Obeys the last command, and gives the pieces.
 fn finished<'a, D: Dialect>(
     alloc: Global,
-    mut reader: Reader<'a, D::Figure, D::Edge>,
+    mut reader: Reader<'a, D::Figure, D::Edge, D::Aperture>,
     command: Command<'a>,
     at: usize,
 ) -> Result<Vec<Placed<D::Figure>>, FileFault<D::Kind>>
-    requires lawful { IsLawfulReader D.plain D.handling reader }
+    requires lawful { IsLawfulReader D.plain D.handling D.Fits reader }
     requires command { IsLawfulCommand (view command) }
     requires few { reader.commands + 1 < 2 ^ 32 }
     ensures ok { IfOk result (λ pieces. Leaves D.plain D.dialect.table reader.entry (view command.entry) pieces.items) }

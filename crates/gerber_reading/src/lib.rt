@@ -7,12 +7,13 @@
 
 mod blank;
 mod command;
-mod contour;
+mod command_effects;
 mod dialect;
 mod dictionary;
 mod file;
 mod kind;
 pub mod laws;
+mod parameters;
 mod place;
 mod reader;
 mod settings;
@@ -20,13 +21,17 @@ mod tool;
 
 pub use blank::Blank;
 pub use command::{Bending, Code, Command, Format};
-pub use contour::{Contour, Leg};
+pub use command_effects::{
+    Here, code_of, coordinate, go_behind, halt_of_copy, halt_of_flash, is_drawing, is_finish, is_of_layer,
+    next_block, other_format, target,
+};
 pub use dialect::Dialect;
 pub use dictionary::Dictionary;
 pub use file::read_by;
-pub use kind::GerberKind;
+pub use kind::{GerberKind, LayerFault};
+pub use parameters::parameters;
 pub use place::Place;
-pub use reader::Reader;
+pub use reader::{Reader, refused};
 pub use settings::{Curve, Quadrants, Settings};
 pub use tool::Tool;
 

@@ -1,4 +1,4 @@
-//! The table of commands: the conditions of their rows, and what is in force behind them. The rows themselves are calls of the reader.
+//! What the tables of all dialects share: conditions of their rows, and what is in force behind a command.
 ghost use Rattle.std.specs.Prelude.{◌≡◌, ◌≤◌, true, IfOk, IfSome, Option, Some, None};
 ghost use Rattle.planar.specs.Plane.{IsPlaced, IsReached};
 ghost use Rattle.lengths.specs.Decimal.{is_whole, over_power};
@@ -6,13 +6,13 @@ ghost use Rattle.lengths.specs.Grid.{position_of};
 ghost use Rattle.std.specs.Option.{option_copied};
 ghost use Rattle.step_repeat.specs.Repeats.{IsLawful as IsLawfulRepeat};
 ghost use Rattle.file_reading.specs.LookingBack.{keep_first};
-ghost use Rattle.gerber_layer.specs.After.{after};
-ghost use Rattle.gerber_layer.specs.Command.{operates, view};
-ghost use Rattle.gerber_layer.specs.CommandEffects as spec;
-ghost use Rattle.gerber_layer.specs.Lawful.{AreLawfulSettings, IsWhole};
-ghost use Rattle.gerber_layer.specs.Reader.{halt_of_copy, halt_of_flash};
+ghost use Rattle.gerber_reading.specs.After.{after};
+ghost use Rattle.gerber_reading.specs.Command.{bending_of, operates, view};
+ghost use Rattle.gerber_reading.specs.CommandEffects as spec;
+ghost use Rattle.gerber_reading.specs.Lawful.{AreLawfulSettings, IsWhole};
+ghost use Rattle.gerber_reading.specs.Reader.{halt_of_copy, halt_of_flash};
 
-use crate::command::{Code, Command, Format};
+use crate::command::{Bending, Code, Command, Format};
 use crate::kind::GerberKind;
 use crate::settings::Settings;
 use apertures::FlashFault;
@@ -176,18 +176,23 @@ pub fn go_behind(settings: &mut Settings, command: &Command, to: Option<Spot>, n
         Command::Repeat(_) => settings.block = next,
         Command::OpenRegion => settings.region = true,
         Command::CloseRegion => settings.region = false,
-        Command::Operate(_, _, code) => perform(settings, code, to),
+        Command::Operate(_, _, code, bending) => perform(settings, code, bending, to),
+        Command::Curve(curve) => settings.curve = curve,
+        Command::Quadrants(quadrants) => settings.quadrants = Some(quadrants),
         Command::End => settings.ended = true,
         _ => (),
     }
 }
 
-fn perform(settings: &mut Settings, code: Option<Code>, to: Option<Spot>)
-    ensures { settings.new ≡ after settings.old (operates None None code) to None }
+fn perform(settings: &mut Settings, code: Option<Code>, bending: Bending, to: Option<Spot>)
+    ensures { settings.new ≡ after settings.old (operates None None code (bending_of bending.entry)) to None }
 {
     if let Some(to) = to {
         settings.at = to;
         settings.last = Some(code_of(code));
+        if let Some(curve) = bending.curve {
+            settings.curve = curve;
+        }
     }
 }
 

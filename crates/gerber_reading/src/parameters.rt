@@ -2,7 +2,7 @@
 ghost use Rattle.std.specs.Prelude.{◌≡◌, IfOk, option_map};
 ghost use Rattle.std.specs.List.{count_by};
 ghost use Rattle.apertures.specs.Definition.{is_x};
-ghost use Rattle.gerber_layer.specs.Tools as spec;
+ghost use Rattle.gerber_reading.specs.Tools as spec;
 
 use lengths::decimal::{Decimal, read_decimal};
 use lengths::rows::NoMemory;
