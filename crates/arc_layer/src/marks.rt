@@ -19,7 +19,7 @@ use crate::pens::{draws, keep_pen};
 use crate::state::{State, at_start, selected_behind};
 use crate::words::{Saying, are_silent, is_quiet, read_word, selects_alone};
 use file_reading::Halt;
-use gerber_layer::Command;
+use gerber_reading::Command;
 use gerber_words::laws::words_lie_ahead;
 use gerber_words::{Step, Words};
 use std::alloc::Global;

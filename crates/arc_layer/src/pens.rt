@@ -11,7 +11,7 @@ use crate::kind::RealKind;
 use crate::words::Saying;
 use apertures::{Aperture, read_real_aperture};
 use file_reading::Halt;
-use gerber_layer::{Code, Command, code_of};
+use gerber_reading::{Code, Command, code_of};
 use lengths::decimal::Unit;
 use std::collections::HashMap;
 
@@ -81,7 +81,7 @@ pub fn draws(command: &Command) -> bool
     ensures { result ≡ spec.draws (view command.now) }
 {
     match *command {
-        Command::Operate(_, _, code) => matches!(code_of(code), Code::Draw),
+        Command::Operate(_, _, code, _) => matches!(code_of(code), Code::Draw),
         _ => false,
     }
 }

@@ -11,7 +11,7 @@ ghost use Rattle.std.specs.Option.{option_copied, option_or};
 ghost use Rattle.std.specs.Prelude.{◌≡◌, []};
 
 use crate::words::{Curve, Quadrants, Saying};
-use gerber_layer::{Command, Format, Here, coordinate};
+use gerber_reading::{Command, Format, Here, coordinate};
 use lengths::decimal::Unit;
 use planar::Spot;
 
@@ -133,7 +133,7 @@ impl State {
         ensures placed { IsPlaced result }
     {
         match *command {
-            Command::Operate(x, y, _) => Spot {
+            Command::Operate(x, y, _, _) => Spot {
                 x: value_in(x, self.format, self.unit, Here { u: self.at.x }),
                 y: value_in(y, self.format, self.unit, Here { u: self.at.y }),
             },

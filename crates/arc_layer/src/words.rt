@@ -8,7 +8,8 @@ ghost use Rattle.gerber_words.specs.Words as words;
 ghost use Rattle.std.specs.Prelude.{◌≡◌, ◌≤◌, ◌==◌, ◌&&◌, not, true, length};
 
 use apertures::{has_seventh, is_further, may_be_fine, may_have_hole};
-use gerber_layer::{Command, behind_code, goes_on, part, read_loose_command};
+use gerber_layer::{behind_code, goes_on, part, read_loose_command};
+use gerber_reading::Command;
 use gerber_words::Word;
 use texts::{begins, is_word};
 

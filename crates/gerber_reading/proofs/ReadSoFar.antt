@@ -1,5 +1,5 @@
 -- How far a file is read.
-use Rattle.std.proofs.Common.{◌≡◌, ℕ, ◌+◌, List, [], ◌∷◌, length, Option, None, Result, Ok, Err, IsOk, refl, sym, ap, ◌∙◌, subst, arith}
+use Rattle.std.proofs.Common.{◌≡◌, ℕ, ◌+◌, ◌<◌, ◌^◌, List, [], ◌∷◌, length, Option, None, Result, Ok, Err, IsOk, refl, sym, ap, ◌∙◌, subst, arith}
 use mathlib.Core.Path.{fun_ext}
 use Rattle.std.proofs.lemmas.List.{length-map}
 use Rattle.step_repeat.specs.Copies.{pieces_by}
@@ -134,9 +134,9 @@ none-fits P None none = tt
 none-fits P (Some x) none = absurd (cc)
 
 -- a new reader is lawful, whatever its dialect
-pub new-lawful : {F G E A : Type 0} (plain : F → G) (h : Handling G) (fits : Macros → Tool A → Type 0) (p : Place) (r : Reader F E A) → IsSound r → ((n : ℕ) → kept_in r.dictionary n ≡ None) → r.edges ≡ 0 → IsNew p r → IsLawfulReader plain h fits r
-new-lawful plain h fits p r sound kept edges n = record {
+pub new-lawful : {F G E A : Type 0} (plain : F → G) (h : Handling G) (fits : Macros → Tool A → Type 0) (p : Place) (r : Reader F E A) → IsSound r → r.room.pieces < 2 ^ 32 → ((n : ℕ) → kept_in r.dictionary n ≡ None) → r.edges ≡ 0 → IsNew p r → IsLawfulReader plain h fits r
+new-lawful plain h fits p r sound room kept edges n = record {
   sound = sound;
   fit = λ m. none-fits (fits (macros_in r.dictionary)) (kept_in r.dictionary m) (kept m);
-  counted = record { edges = rw (edges, n.pieces) refl; few_pieces = rw n.pieces (omega arith); start = rw (n.start, n.pieces) (omega arith) };
+  counted = record { edges = rw (edges, n.pieces) refl; few_pieces = rw n.pieces (omega arith); room = room; start = rw (n.start, n.pieces) (omega arith) };
 }

@@ -1,5 +1,5 @@
 -- Commands without where they lie in memory.
-use Rattle.std.specs.Prelude.{ℕ, Bool, List, Option, option_map}
+use Rattle.std.specs.Prelude.{ℕ, Bool, false, List, Option, None, option_map}
 use Rattle.lengths.specs.declared.decimal.Unit.{Unit as Measure}
 use Rattle.gerber_words.specs.declared.fault.WordFault.{WordFault}
 use Rattle.gerber_reading.specs.declared.kind.GerberKind.{GerberKind}
@@ -20,6 +20,10 @@ pub record Bending : Type 0 where
 
 abbrev pub bending_of : SeenBending → Bending
 bending_of b = record { curve = b.curve; i = option_map (λ t. t.now) b.i; j = option_map (λ t. t.now) b.j; more = b.more }
+
+-- that of an operation that says nothing of an arc
+abbrev pub unbent : Bending
+unbent = record { curve = None; i = None; j = None; more = false }
 
 -- a word of a copper file, read by itself; where the words stop, that they break off or that the file finishes
 pub data Command : Type 0 where

@@ -20,8 +20,8 @@ use Rattle.step_repeat.specs.declared.fault.CopyFault.{CopyFault}
 use Rattle.step_repeat.specs.declared.fault.CopyFault.TheVariants as copy
 use Rattle.step_repeat.specs.Repeats.{IsLawful as IsLawfulRepeat}
 use Rattle.step_repeat.specs.declared.repeat.Repeat.{Repeat}
-use Rattle.gerber_reading.specs.declared.contour.Contour.{Contour}
-use Rattle.gerber_reading.specs.declared.contour.Leg.{Leg as Seen}
+use Rattle.regions.specs.Contours.{outline_of}
+use Rattle.regions.specs.declared.contour.Contour.{Contour}
 use Rattle.gerber_reading.specs.declared.kind.GerberKind.{GerberKind}
 use Rattle.gerber_reading.specs.declared.kind.GerberKind.TheVariants as kind
 use Rattle.file_reading.specs.Faults.{IsFault}
@@ -35,12 +35,13 @@ use Rattle.gerber_reading.specs.declared.tool.Tool.{Tool as Given}
 use Rattle.gerber_reading.specs.declared.tool.Tool.TheVariants as given
 use Rattle.gerber_reading.specs.Tools.{Macro, Macros, Tool, standard, composed, begun, filled_up, macro_named}
 use Rattle.gerber_reading.specs.declared.reader.Reader.{Reader}
-use Rattle.gerber_reading.specs.CommandEffects.{Leg, Outline, Place, Known, Effect, stays, makes, begins_macro, fills_macro, Profile}
+use Rattle.gerber_reading.specs.CommandEffects.{Outline, Place, Known, Effect, stays, makes, begins_macro, fills_macro, Profile, ended_block_by, listed}
 use Rattle.gerber_reading.specs.After.{after, contour_after, heads, opened}
-use Rattle.gerber_reading.specs.Image.{pieces_after, start_after}
+use Rattle.gerber_reading.specs.Image.{made, pieces_after, start_after}
 use Rattle.gerber_reading.specs.Lawful.{AreLawfulSettings}
 use Rattle.gerber_reading.specs.Command.{Command}
-use Rattle.gerber_reading.specs.Settings.{settings_before}
+use Rattle.gerber_reading.specs.Settings.{lengthened, settings_before}
+use Rattle.board_shapes.specs.Pieces.{PieceOf}
 
 -- an aperture without where its name lies in memory
 abbrev pub tool_of : {A : Type 0} → (Given A) → (Tool A)
@@ -100,12 +101,6 @@ pub record HasMacros {A : Type 0} (old new : Dictionary A) (macros : Macros) : T
   pub others : (name : List ℕ) → (macros_in new).others name ≡ macros.others name
 
 -- the contour without where it lies in memory
-abbrev pub leg_of : {E : Type 0} → Seen E → Leg E
-leg_of l = record { to = l.to; bend = l.bend }
-
-abbrev pub outline_of : {E : Type 0} → Contour E → Outline E
-outline_of c = record { first = c.first; legs = map leg_of c.legs.items }
-
 abbrev pub contour_of : {E : Type 0} → Option (Contour E) → Option (Outline E)
 contour_of contour = option_map outline_of contour
 
@@ -148,12 +143,12 @@ pub record Obeys {F G E A W : Type 0} (plain : F → G) (old : (Reader F E A)) (
 pub record AreCounted {F G E A : Type 0} (plain : F → G) (h : Handling G) (r : Reader F E A) : Type 0 where
   pub edges : r.edges ≡ edges_by h (pieces_by plain r.pieces.items)
   pub few_pieces : length r.pieces.items ≤ r.room.pieces
+  pub room : r.room.pieces < 2 ^ 32
   pub start : r.start ≤ length r.pieces.items
 
 -- what a reader keeps whatever its dialect
 pub record IsSound {F E A : Type 0} (r : Reader F E A) : Type 0 where
   pub settings : AreLawfulSettings r.settings
-  pub room : r.room.pieces < 2 ^ 32
   pub layer : r.layer ≤ MOST_LAYERS
 
 -- what a reader keeps between two commands
@@ -161,6 +156,73 @@ pub record IsLawfulReader {F G E A : Type 0} (plain : F → G) (h : Handling G) 
   pub sound : IsSound r
   pub fit : AllFit fits r.dictionary
   pub counted : AreCounted plain h r
+
+-- The reader has carried an effect out. Its settings are as before.
+pub record Carries {F G E A : Type 0} (plain : F → G) (old : Reader F E A) (e : Effect G E A) (new : Reader F E A) : Type 0 where
+  pub settings : new.settings ≡ old.settings
+  pub dictionary : Turns old.dictionary e new.dictionary
+  pub contour : contour_of new.contour ≡ contour_after e (contour_of old.contour) old.settings.at
+  pub pieces : pieces_by plain new.pieces.items ≡ pieces_after (place_of old) (old.commands + 1) (pieces_by plain old.pieces.items) e
+  pub start : new.start ≡ start_after old.start e
+  pub counts : new.commands ≡ old.commands
+  pub place : place_of new ≡ place_of old
+
+-- What a command does is no fault, and the reader has carried it out.
+pub record CarriesOut {F G E A W : Type 0} (plain : F → G) (old : Reader F E A) (what : Result (Effect G E A) W) (new : Reader F E A) : Type 0 where
+  pub effect_is : Effect G E A
+  pub is : what ≡ Ok effect_is
+  pub carries : Carries plain old effect_is new
+
+-- The reader has these pieces more.
+pub record TakesOn {F G E A : Type 0} (plain : F → G) (old : Reader F E A) (more : List (PieceOf G)) (new : Reader F E A) : Type 0 where
+  pub settings : new.settings ≡ old.settings
+  pub dictionary : new.dictionary ≡ old.dictionary
+  pub contour : new.contour ≡ old.contour
+  pub pieces : pieces_by plain new.pieces.items ≡ pieces_by plain old.pieces.items ++ more
+  pub start : new.start ≡ old.start
+  pub counts : new.commands ≡ old.commands
+  pub place : place_of new ≡ place_of old
+
+-- The reader has a piece more, if there is a figure.
+abbrev pub Places : {F G E A : Type 0} → (F → G) → Reader F E A → Option G → Reader F E A → Type 0
+Places plain old figure new = TakesOn plain old (made (place_of old) (old.commands + 1) (listed figure)) new
+
+-- The contour of the reader has an edge more.
+pub record Lengthens {F E A : Type 0} (old : Reader F E A) (to : Spot) (e : E) (new : Reader F E A) : Type 0 where
+  pub settings : new.settings ≡ old.settings
+  pub dictionary : new.dictionary ≡ old.dictionary
+  pub contour : contour_of new.contour ≡ lengthened (contour_of old.contour) old.settings.at to e
+  pub pieces : new.pieces ≡ old.pieces
+  pub edges : new.edges ≡ old.edges
+  pub start : new.start ≡ old.start
+  pub counts : new.commands ≡ old.commands
+  pub place : place_of new ≡ place_of old
+
+-- The reader has the pieces where its open block has ended.
+pub record EndsBlock {F G E A : Type 0} (plain : F → G) (h : Handling G) (old new : Reader F E A) : Type 0 where
+  pub is : ended_block_by h (known_of plain old) ≡ Ok (pieces_by plain new.pieces.items)
+  pub settings : new.settings ≡ old.settings
+  pub dictionary : new.dictionary ≡ old.dictionary
+  pub contour : new.contour ≡ old.contour
+  pub start : new.start ≡ old.start
+  pub counts : new.commands ≡ old.commands
+  pub place : place_of new ≡ place_of old
+
+-- what stops the reader where a flash or the copies of a block fail
+abbrev pub halt_of_flash : FlashFault → Halt GerberKind
+halt_of_flash flash.OutOfRange = halt.Fault kind.OutOfRange
+halt_of_flash flash.NoMemory = halt.NoMemory
+
+abbrev pub halt_of_copy : CopyFault → Halt GerberKind
+halt_of_copy copy.TooManyPieces = halt.Fault kind.TooManyPieces
+halt_of_copy copy.TooManyEdges = halt.Fault kind.TooManyVertices
+halt_of_copy copy.OutOfRange = halt.Fault kind.OutOfRange
+halt_of_copy copy.NoMemory = halt.NoMemory
+
+-- what stops the reader is that there is no room, or want of memory
+abbrev pub Lacks : Option GerberKind → Halt GerberKind → Type 0
+Lacks what (halt.Fault fault) = what ≡ Some fault
+Lacks what halt.NoMemory = Unit {0}
 
 -- What stops the reader is that fault, or want of memory.
 abbrev pub Stops : {A W : Type 0} → Result A W → Halt W → Type 0

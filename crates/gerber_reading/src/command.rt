@@ -29,6 +29,23 @@ pub struct Bending<'a> {
     pub more: bool,
 }
 
+impl<'a> Bending<'a> {
+    ghost use Rattle.std.specs.Prelude.{◌≡◌};
+    ghost use Rattle.gerber_reading.specs.Command.{bending_of, unbent};
+
+    /// Nothing of an arc.
+    pub fn none() -> Bending<'a>
+        ensures { bending_of result ≡ unbent }
+    {
+        Bending {
+            curve: None,
+            i: None,
+            j: None,
+            more: false,
+        }
+    }
+}
+
 /// What a command says, apart from all others. The end of a file, proper or not, is its last command.
 #[derive(Clone, Copy)]
 pub enum Command<'a> {

@@ -1,8 +1,20 @@
-//! The table of commands: the conditions of their rows, and what is in force behind them. The rows themselves are calls of the reader.
+//! What the tables of all dialects share: conditions of their rows, and what is in force behind a command.
+ghost use Rattle.std.specs.Prelude.{◌≡◌, ◌≤◌, true, IfOk, IfSome, Option, Some, None};
+ghost use Rattle.planar.specs.Plane.{IsPlaced, IsReached};
+ghost use Rattle.lengths.specs.Decimal.{is_whole, over_power};
+ghost use Rattle.lengths.specs.Grid.{position_of};
+ghost use Rattle.std.specs.Option.{option_copied};
+ghost use Rattle.step_repeat.specs.Repeats.{IsLawful as IsLawfulRepeat};
+ghost use Rattle.file_reading.specs.LookingBack.{keep_first};
+ghost use Rattle.gerber_reading.specs.After.{after};
+ghost use Rattle.gerber_reading.specs.Command.{bending_of, operates, view};
+ghost use Rattle.gerber_reading.specs.CommandEffects as spec;
+ghost use Rattle.gerber_reading.specs.Lawful.{AreLawfulSettings, IsWhole};
+ghost use Rattle.gerber_reading.specs.Reader.{halt_of_copy, halt_of_flash};
 
-use crate::command::{Code, Command, Format};
+use crate::command::{Bending, Code, Command, Format};
 use crate::kind::GerberKind;
-use crate::settings::{Curve, Settings};
+use crate::settings::Settings;
 use apertures::FlashFault;
 use board_shapes::MOST_LAYERS;
 use file_reading::Halt;
@@ -14,6 +26,7 @@ use texts::is_word;
 
 /// Whether a format is another than the first, if there was one.
 pub fn other_format(first: Option<Format>, format: Format) -> bool
+    ensures { result ≡ spec.other_format first format }
 {
     match first {
         None => false,
@@ -23,12 +36,14 @@ pub fn other_format(first: Option<Format>, format: Format) -> bool
 
 /// Whether the last operation was a draw.
 pub fn is_drawing(last: Option<Code>) -> bool
+    ensures { result ≡ spec.is_drawing last }
 {
     matches!(last, Some(Code::Draw))
 }
 
 /// The operation of coordinates: a draw where no code is given.
 pub fn code_of(code: Option<Code>) -> Code
+    ensures { result ≡ spec.code_of code }
 {
     match code {
         None => Code::Draw,
@@ -38,12 +53,16 @@ pub fn code_of(code: Option<Code>) -> Code
 
 /// Whether the command is the file's proper end.
 pub fn is_finish(command: &Command) -> bool
+    ensures { result ≡ spec.is_finish (view command.now) }
 {
     matches!(command, Command::Finish)
 }
 
 /// The block that a step and repeat word opens, or none where the word is `SR` alone; or its fault.
+#[tactic(auto, unfolding(crate::specs::CommandEffects::next_block))]
 pub fn next_block(unit: Option<Unit>, text: &[u8]) -> Result<Option<Repeat>, GerberKind>
+    ensures value { result ≡ spec.next_block unit text.now }
+    ensures lawful { IfOk result (λ next. IfSome next IsLawfulRepeat) }
 {
     if is_word(text, b"SR") {
         return Ok(None);
@@ -57,6 +76,8 @@ pub fn next_block(unit: Option<Unit>, text: &[u8]) -> Result<Option<Repeat>, Ger
 
 /// Whether the fields of a file's function name this layer of copper.
 pub fn is_of_layer(function: Option<&[u8]>, field: Option<&[u8]>, layer: u8) -> bool
+    requires { layer ≤ MOST_LAYERS }
+    ensures { result ≡ spec.is_of_layer (option_copied function.entry) (option_copied field.entry) layer }
 {
     if !is_field(function, b"Copper") {
         return false;
@@ -71,6 +92,9 @@ pub fn is_of_layer(function: Option<&[u8]>, field: Option<&[u8]>, layer: u8) -> 
 // Where a coordinate leads. It is inlined into its callers, and they into the operation, so that settings and numbers are not copied.
 #[inline(always)]
 fn position(format: Format, unit: Unit, digits: &[u8]) -> Result<Len, GerberKind>
+    requires decimals { format.decimals ≤ 7 }
+    requires whole { is_whole digits.now ≡ true }
+    ensures { result ≡ spec.gridded (position_of (over_power digits.now format.decimals) unit) }
 {
     match whole_position(digits, format.decimals, unit) {
         Ok(len) => Ok(len),
@@ -86,12 +110,18 @@ pub struct Here {
 
 /// Where a coordinate leads, in u, and here where none is named; or its fault.
 #[inline(always)]
+#[tactic(auto, unfolding(crate::specs::CommandEffects::coordinate))]
 pub fn coordinate(
     format: Format,
     unit: Unit,
     here: Here,
     digits: Option<&[u8]>,
 ) -> Result<i64, GerberKind>
+    requires decimals { format.decimals ≤ 7 }
+    requires whole { IsWhole (option_copied digits) }
+    requires here { IsReached here.u }
+    ensures value { result ≡ spec.coordinate format unit here.u (option_copied digits.entry) }
+    ensures reached { IfOk result IsReached }
 {
     match digits {
         None => Ok(here.u),
@@ -105,7 +135,13 @@ pub fn coordinate(
 /// Where an operation leads, in u, by the current point for a coordinate that is not named; or its
 /// fault.
 #[inline(always)]
+#[tactic(auto, unfolding(crate::specs::CommandEffects::target))]
 pub fn target(settings: Settings, x: Option<&[u8]>, y: Option<&[u8]>) -> Result<Spot, GerberKind>
+    requires lawful { AreLawfulSettings settings }
+    requires x_whole { IsWhole (option_copied x) }
+    requires y_whole { IsWhole (option_copied y) }
+    ensures value { result ≡ spec.target settings (option_copied x.entry) (option_copied y.entry) }
+    ensures placed { IfOk result IsPlaced }
 {
     let Some(format) = settings.format else {
         return Err(GerberKind::MissingFormat);
@@ -120,6 +156,7 @@ pub fn target(settings: Settings, x: Option<&[u8]>, y: Option<&[u8]>) -> Result<
 
 // What was set first.
 fn keep_first<T: Copy>(first: Option<T>, set: T) -> Option<T>
+    ensures { result ≡ keep_first (Some set) first }
 {
     match first {
         None => Some(set),
@@ -130,6 +167,7 @@ fn keep_first<T: Copy>(first: Option<T>, set: T) -> Option<T>
 /// Takes the settings on past a command that has no fault, by where it leads and the block that it opens. Only what the command
 /// sets is written.
 pub fn go_behind(settings: &mut Settings, command: &Command, to: Option<Spot>, next: Option<Repeat>)
+    ensures { settings.new ≡ after settings.old (view command.now) to next }
 {
     match *command {
         Command::Format(format) => settings.format = keep_first(settings.format, format),
@@ -138,20 +176,21 @@ pub fn go_behind(settings: &mut Settings, command: &Command, to: Option<Spot>, n
         Command::Repeat(_) => settings.block = next,
         Command::OpenRegion => settings.region = true,
         Command::CloseRegion => settings.region = false,
-        Command::Operate(_, _, code, bending) => perform(settings, code, bending.curve, to),
-        Command::End => settings.ended = true,
+        Command::Operate(_, _, code, bending) => perform(settings, code, bending, to),
         Command::Curve(curve) => settings.curve = curve,
         Command::Quadrants(quadrants) => settings.quadrants = Some(quadrants),
+        Command::End => settings.ended = true,
         _ => (),
     }
 }
 
-fn perform(settings: &mut Settings, code: Option<Code>, curve: Option<Curve>, to: Option<Spot>)
+fn perform(settings: &mut Settings, code: Option<Code>, bending: Bending, to: Option<Spot>)
+    ensures { settings.new ≡ after settings.old (operates None None code (bending_of bending.entry)) to None }
 {
     if let Some(to) = to {
         settings.at = to;
         settings.last = Some(code_of(code));
-        if let Some(curve) = curve {
+        if let Some(curve) = bending.curve {
             settings.curve = curve;
         }
     }
@@ -159,6 +198,7 @@ fn perform(settings: &mut Settings, code: Option<Code>, curve: Option<Curve>, to
 
 /// What stops the reader where a flash fails.
 pub fn halt_of_flash(fault: FlashFault) -> Halt<GerberKind>
+    ensures { result ≡ halt_of_flash fault }
 {
     match fault {
         FlashFault::OutOfRange => Halt::Fault(GerberKind::OutOfRange),
@@ -168,6 +208,7 @@ pub fn halt_of_flash(fault: FlashFault) -> Halt<GerberKind>
 
 /// What stops the reader where the copies of a block fail.
 pub fn halt_of_copy(fault: CopyFault) -> Halt<GerberKind>
+    ensures { result ≡ halt_of_copy fault }
 {
     match fault {
         CopyFault::TooManyPieces => Halt::Fault(GerberKind::TooManyPieces),

@@ -8,7 +8,6 @@
 mod blank;
 mod command;
 mod command_effects;
-mod contour;
 mod dialect;
 mod dictionary;
 mod file;
@@ -17,25 +16,22 @@ pub mod laws;
 mod parameters;
 mod place;
 mod reader;
-mod macro_kind;
 mod settings;
-mod shared;
 mod tool;
-mod word_commands;
 
 pub use blank::Blank;
 pub use command::{Bending, Code, Command, Format};
-pub use contour::{Contour, Leg};
-pub use command_effects::{Here, code_of, coordinate, go_behind, halt_of_copy, is_drawing, is_finish, is_of_layer, next_block, other_format, target};
-pub use macro_kind::{FlattenFault, FlattenKind};
-pub use parameters::parameters;
-pub use word_commands::{Offsets, behind_line_code, code_in, from_x, goes_on, is_number_if, macro_or, part, read_command};
+pub use command_effects::{
+    Here, code_of, coordinate, go_behind, halt_of_copy, halt_of_flash, is_drawing, is_finish, is_of_layer,
+    next_block, other_format, target,
+};
 pub use dialect::Dialect;
 pub use dictionary::Dictionary;
 pub use file::read_by;
-pub use kind::GerberKind;
+pub use kind::{GerberKind, LayerFault};
+pub use parameters::parameters;
 pub use place::Place;
-pub use reader::Reader;
+pub use reader::{Reader, refused};
 pub use settings::{Curve, Quadrants, Settings};
 pub use tool::Tool;
 

@@ -1,4 +1,8 @@
 //! The definition of an aperture by a macro.
+ghost use Rattle.std.specs.Prelude.{◌≡◌, IfOk, option_map};
+ghost use Rattle.std.specs.List.{count_by};
+ghost use Rattle.apertures.specs.Definition.{is_x};
+ghost use Rattle.gerber_reading.specs.Tools as spec;
 
 use lengths::decimal::{Decimal, read_decimal};
 use lengths::rows::NoMemory;
@@ -7,12 +11,15 @@ use texts::{after_byte, before_byte, has};
 
 // How often `X` stands in a text.
 fn count(text: &[u8]) -> usize
+    ensures { result ≡ count_by is_x text.now }
 {
     text.iter().filter(|b| **b == b'X').count()
 }
 
 // So many decimals, cut at `X`.
+#[tactic(auto, unfolding(crate::specs::Tools::decimals_in))]
 fn decimals(alloc: Global, n: usize, text: &[u8]) -> Result<Option<Vec<Decimal>>, NoMemory>
+    ensures { IfOk result (λ ds. option_map (λ v. v.items) ds ≡ spec.decimals_in n text.now) }
 {
     let mut decimals = Vec::new(alloc);
     let mut rest = text;
@@ -29,7 +36,9 @@ fn decimals(alloc: Global, n: usize, text: &[u8]) -> Result<Option<Vec<Decimal>>
 }
 
 /// The parameters of an aperture of a macro, where all are decimals.
+#[tactic(auto, unfolding(crate::specs::Tools::parameters_in))]
 pub fn parameters(alloc: Global, text: &[u8]) -> Result<Option<Vec<Decimal>>, NoMemory>
+    ensures { IfOk result (λ ds. option_map (λ v. v.items) ds ≡ spec.parameters_in text.now) }
 {
     if !has(text, b',') {
         return Ok(Some(Vec::new(alloc)));

@@ -1,5 +1,5 @@
--- Which shapes stay within 1 m where they are shifted.
-use Rattle.std.proofs.Common.{◌≡◌, ℕ, ◌<◌, suc, zero, Bool, true, false, ◌&&◌, List, [], ◌∷◌, length, map, ℤ, ◌+ℤ◌, refl, ap, ◌∙◌, arith}
+-- Which shapes stay within 1 m where they are shifted, and that each has few edges.
+use Rattle.std.proofs.Common.{◌≡◌, ℕ, ◌<◌, ◌≤◌, suc, zero, Bool, true, false, ◌&&◌, List, [], ◌∷◌, length, map, ℤ, ◌+ℤ◌, refl, ap, ◌∙◌, arith}
 use Rattle.std.specs.Prelude.{All, slice_index_or}
 use Rattle.std.specs.List.{list_all}
 use Rattle.std.proofs.lemmas.Int.{ints}
@@ -10,6 +10,7 @@ use Rattle.board_shapes.specs.Figures.{Figure, round, filled, figure_of, IsLawfu
 use Rattle.board_shapes.specs.Moved.{IsShift, StaysPlaced, corners, shifted, shifted_figure}
 use Rattle.board_shapes.specs.Shapes.{lawful}
 use Rattle.board_shapes.specs.declared.shape.Shape.{Shape}
+use Rattle.board_shapes.specs.declared.shape.Shape.TheVariants.{Round, Filled}
 use Rattle.step_repeat.specs.Figures.{Handling, shape_handling}
 
 -- the test of one spot, and of several
@@ -76,3 +77,8 @@ is_short dx dy (filled points) h k = along dx dy points (let enough = h.enough i
 -- no shape stays within 1 m that is moved farther than 2 m
 pub shape_leaves : (s : Shape) (dx dy : ℤ) → ¬ (IsShift dx × IsShift dy) → shape_handling.within (shape_handling.shifted dx dy (figure_of s)) ≡ false
 shape_leaves s dx dy long = figure_leaves dx dy (figure_of s) (λ k. long (is_short dx dy (figure_of s) (lawful s) k))
+
+-- no shape counts 2^32 edges or more
+pub shape_few : (s : Shape) → shape_handling.edges (figure_of s) ≤ 4294967295
+shape_few (Round c) = omega arith
+shape_few (Filled area) = let h = area.not_many in omega (arith, h)

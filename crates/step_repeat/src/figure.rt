@@ -2,8 +2,8 @@
 ghost use Rattle.board_shapes.specs.Figures.{Figure as PlainFigure, figure_of};
 ghost use Rattle.board_shapes.specs.Moved.{IsShift};
 ghost use Rattle.step_repeat.specs.Figures.{Handling, shape_handling};
-ghost use Rattle.step_repeat.specs.Shifting.{shape_leaves};
-ghost use Rattle.std.specs.Prelude.{ℤ, true, false, ◌≡◌, IfErr, IfOk};
+ghost use Rattle.step_repeat.specs.Shifting.{shape_few, shape_leaves};
+ghost use Rattle.std.specs.Prelude.{ℤ, true, false, ◌≡◌, ◌≤◌, IfErr, IfOk};
 
 use board_shapes::{MoveFault, Shape};
 use std::alloc::Global;
@@ -33,6 +33,9 @@ pub trait Figure: Sized {
 
     /// No figure stays within 1 m that is moved farther than 2 m.
     ghost leaves: { (f : Self) (dx dy : ℤ) → ¬ (IsShift dx × IsShift dy) → handling.within (handling.shifted dx dy (plain f)) ≡ false };
+
+    /// No figure counts 2^32 edges or more.
+    ghost few: { (f : Self) → handling.edges (plain f) ≤ 4294967295 };
 }
 
 impl Figure for Shape {
@@ -51,4 +54,6 @@ impl Figure for Shape {
     }
 
     ghost leaves = { shape_leaves };
+
+    ghost few = { shape_few };
 }
