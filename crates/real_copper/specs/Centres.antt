@@ -1,18 +1,10 @@
 -- Which centre an arc of a single quadrant means: its offsets have no signs (Gerber Layer Format Specification, 4.7, G74, in the revisions that have it).
-use Rattle.std.specs.Prelude.{ℕ, ◌+◌, ◌*◌, ◌^◌, Bool, ◌&&◌, ◌||◌, not, ◌==◌, nat_le, nat_lt, int_lt, if◌then◌else◌, ℤ, pos, neg_ℤ, unsigned_abs, ◌+ℤ◌, ◌-ℤ◌, Option, Some, None}
+use Rattle.std.specs.Prelude.{ℕ, ◌+◌, ◌*◌, ◌^◌, ◌≤◌, Bool, ◌&&◌, ◌||◌, not, ◌==◌, nat_le, nat_lt, int_lt, if◌then◌else◌, ℤ, pos, neg_ℤ, unsigned_abs, ◌+ℤ◌, ◌-ℤ◌, Option, Some, None}
 use Rattle.std.specs.Int.{abs_diff}
-use Rattle.planar.specs.Plane.{cross_of, dot_of, same_spot}
+use Rattle.planar.specs.Plane.{IsPlaced, cross_of, dot_of, same_spot}
 use Rattle.planar.specs.declared.Spot.{Spot}
 use Rattle.lengths.specs.Decimal.{units_in}
-use Rattle.lengths.specs.declared.decimal.Unit.{Unit as Measure}
-
--- an arc draw whose centre is sought: its direction, both ends, and the step of its file
-pub record Draw : Type 0 where
-  pub clockwise : Bool
-  pub start : Spot
-  pub end : Spot
-  pub decimals : ℕ
-  pub unit : Measure
+use Rattle.real_copper.specs.declared.centres.Draw.{Draw}
 
 -- the spot this way from another
 abbrev pub moved : Spot → Spot → Spot
@@ -95,3 +87,9 @@ choice d way =
     else (if wins d (flip_y way) then Some (flip_y way)
     else (if wins d (flip_x (flip_y way)) then Some (flip_x (flip_y way))
     else None)))
+
+-- both ends are within a metre, and the format has at most 7 decimals
+pub record IsLawfulDraw (d : Draw) : Type 0 where
+  pub start : IsPlaced d.start
+  pub end : IsPlaced d.end
+  pub decimals : d.decimals ≤ 7

@@ -16,6 +16,7 @@ use Rattle.turned_polygons.specs.declared.TurnedPolygon.{TurnedPolygon}
 use Rattle.fine_figures.specs.declared.FineFigure.{FineFigure}
 use Rattle.fine_figures.specs.declared.FineFigure.TheVariants.{Round, Rectangle}
 use Rattle.fine_figures.specs.declared.HoledFigure.{HoledFigure}
+use Rattle.step_repeat.specs.Figures.{Handling}
 
 -- A figure that is taken exactly; an arc draw by its two ends, its centre and its pen (4.7, 4.8); the rectangle of a vector line along no
 -- axis (4.5.1, code 20); what a contour with arcs bounds, by where it begins and its edges (4.10); a contour, and a disc, that is
@@ -93,3 +94,7 @@ is_real_placed (turned_disc d) = is_placed d.centre && is_placed d.about
 is_real_placed (polygon g) = is_placed g.polygon.centre && is_placed g.about
 is_real_placed (odd f) = is_odd_placed f
 is_real_placed (holed h) = is_odd_placed h.outline && is_placed h.centre
+
+-- what the reader does with figures of real copper
+abbrev pub real_handling : Handling RealFigure
+real_handling = record { edges = real_edges; shifted = shifted_real; within = is_real_placed }

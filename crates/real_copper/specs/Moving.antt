@@ -12,7 +12,7 @@ use Rattle.fine_figures.specs.declared.FineFigure.TheVariants.{Round, Rectangle}
 use Rattle.real_shapes.specs.declared.RealShape.{RealShape}
 use Rattle.real_shapes.specs.declared.RealShape.TheVariants as shape
 use Rattle.step_repeat.specs.Shifting.{shape_leaves}
-use Rattle.real_copper.specs.Figures.{is_half_placed, is_odd_placed, is_real_placed, shifted_odd, shifted_real}
+use Rattle.real_copper.specs.Figures.{is_half_placed, is_odd_placed, is_real_placed, real_edges, shifted_odd, shifted_real}
 use Rattle.real_copper.specs.Shapes.{real_figure}
 use Rattle.real_copper.specs.declared.anchored.Anchored.{Anchored}
 
@@ -85,3 +85,7 @@ shape_gone dx dy (shape.Holed h) long near = by_first _ _ (odd_gone dx dy h.outl
 
 pub anchored_leaves : (f : Anchored) (dx dy : ℤ) → ¬ (IsShift dx × IsShift dy) → is_real_placed (shifted_real dx dy (real_figure f.shape)) ≡ false
 anchored_leaves f dx dy long = shape_gone dx dy f.shape long f.near
+
+-- none counts 2^32 edges or more
+pub anchored_few : (f : Anchored) → real_edges (real_figure f.shape) ≤ 4294967295
+anchored_few f = f.few

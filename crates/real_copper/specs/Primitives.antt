@@ -1,22 +1,37 @@
 -- What primitives of macros flash: figures about the origin, turned by quarter turns and what is left, and set down (Gerber Layer Format
 -- Specification, 4.5.1).
-use Rattle.std.specs.Prelude.{ℕ, ◌+◌, ◌*◌, ◌==◌, if◌then◌else◌, List, map, ◌||◌, unsigned_abs}
+use Rattle.std.specs.Prelude.{ℕ, ◌+◌, ◌*◌, ◌/◌, ◌==◌, ◌||◌, Bool, if◌then◌else◌, List, map, Option, Some, None, Result, Ok, Err, pos, ◌-ℤ◌, unsigned_abs}
 use Rattle.planar.specs.Plane.{same_spot}
 use Rattle.planar.specs.declared.Spot.{Spot}
 use Rattle.board_shapes.specs.Figures.{filled, round}
 use Rattle.board_shapes.specs.Rectangles.{halved, rectangle}
 use Rattle.contact.specs.declared.Bounds.{Bounds}
-use Rattle.aperture_macros.specs.Images.{set_down}
+use Rattle.lengths.specs.Decimal.{Fraction}
+use Rattle.lengths.specs.declared.decimal.Unit.{Unit as Measure}
+use Rattle.aperture_macros.specs.BodyWord.{◌>>=◌, PlainPrimitive}
+use Rattle.aperture_macros.specs.Fine.{fine_at}
+use Rattle.aperture_macros.specs.Flashes.{is_fine, turn_behind}
+use Rattle.aperture_macros.specs.Images.{centre_at, circle_at, line_at, outline_at, polygon_at, set_down}
 use Rattle.aperture_macros.specs.declared.degrees.Turn.{Turn}
-use Rattle.aperture_macros.specs.declared.primitive.Rotation.{Rotation}
-use Rattle.aperture_macros.specs.declared.primitive.Rotation.TheVariants.{Unturned, Quarter, Half, ThreeQuarters}
+use Rattle.aperture_macros.specs.declared.fault.MacroFault.{MacroFault}
+use Rattle.aperture_macros.specs.declared.fault.MacroFault.TheVariants.{OutOfRange}
+use Rattle.aperture_macros.specs.declared.fine.FineKind.{FineKind}
+use Rattle.aperture_macros.specs.declared.fine.FineKind.TheVariants as fine
+use Rattle.aperture_macros.specs.declared.fine.FineSketch.{FineSketch}
 use Rattle.aperture_macros.specs.declared.images.Sketch.{Sketch}
 use Rattle.aperture_macros.specs.declared.images.Sketch.TheVariants.{Disc, Rectangle, Regular, Stroke}
+use Rattle.aperture_macros.specs.declared.primitive.Copper.TheVariants.{Real}
+use Rattle.aperture_macros.specs.declared.primitive.Form.{Form}
+use Rattle.aperture_macros.specs.declared.primitive.Form.TheVariants.{Circle, Outline, VectorLine, CentreLine, Polygon}
+use Rattle.aperture_macros.specs.declared.primitive.Rotation.{Rotation}
+use Rattle.aperture_macros.specs.declared.primitive.Rotation.TheVariants.{Unturned, Quarter, Half, ThreeQuarters}
+use Rattle.aperture_macros.specs.declared.primitive.Turning.{Turning}
+use Rattle.aperture_macros.specs.declared.primitive.Turning.TheVariants.{Quarters, Degrees}
 use Rattle.fine_figures.specs.declared.FineFigure.TheVariants as odd_figure
 use Rattle.slants.specs.declared.cones.TheConstants.{RIGHT_ANGLE}
 use Rattle.slants.specs.declared.polygons.RegularPolygon.{RegularPolygon}
 use Rattle.turned_polygons.specs.declared.TurnedPolygon.{TurnedPolygon}
-use Rattle.real_copper.specs.Figures.{RealFigure, exact, line, turned, turned_disc, polygon, odd}
+use Rattle.real_copper.specs.Figures.{RealFigure, exact, is_real_placed, line, odd, polygon, turned, turned_disc}
 use Rattle.real_copper.specs.Flashes.{sides_about, stroke_about}
 
 -- a contour that is turned about a spot by what is left, if anything is
@@ -24,13 +39,13 @@ abbrev pub contour_turned : Spot → ℕ → List Spot → RealFigure
 contour_turned about rest contour = if rest == 0 then exact (filled contour) else turned contour about rest
 
 -- a disc that is: one about that spot stays as it is
+abbrev pub disc : Spot → ℕ → RealFigure
+disc p d = exact (round (record { a = p; b = p; r = halved d }))
+
 abbrev pub disc_turned : Spot → ℕ → Spot → ℕ → RealFigure
 disc_turned about rest p d =
-    if rest == 0 || same_spot p about then exact (round (record { a = p; b = p; r = halved d }))
-    else turned_disc (record { centre = p; radius = halved_of d; about = about; angle = rest })
-  where
-    halved_of : ℕ → ℕ
-    halved_of n = unsigned_abs (halved n)
+    if rest == 0 || same_spot p about then disc p d
+    else turned_disc (record { centre = p; radius = d / 2; about = about; angle = rest })
 
 -- how many quarter turns it is
 abbrev pub quarters_of : Rotation → ℕ
@@ -41,37 +56,75 @@ quarters_of ThreeQuarters = 3
 
 -- A polygon by its middle, the diameter of its circle in parts of a u, and its corners: the first is in the direction of the turn. Its middle is
 -- turned with it about the flash.
-abbrev pub polygon_turned : Rotation → Spot → ℕ → Spot → ℕ → ℕ → RealFigure
-polygon_turned rotation about rest p d n =
-    let g : RegularPolygon = record { centre = p; corners = n; diameter = d; angle = quarters_of rotation * RIGHT_ANGLE + rest } in
-    polygon (record { polygon = g; about = if rest == 0 then p else about; angle = rest })
+abbrev pub polygon_turned : Turn → Spot → Spot → ℕ → ℕ → RealFigure
+polygon_turned turn about p d n =
+    let g : RegularPolygon = record { centre = p; corners = n; diameter = d; angle = quarters_of turn.quarters * RIGHT_ANGLE + turn.rest } in
+    polygon (record { polygon = g; about = if turn.rest == 0 then p else about; angle = turn.rest })
 
 -- a figure about the origin: by quarter turns, set down at a spot, and turned by what is left about it. A vector line along no axis has quarter turns alone.
 abbrev pub sketch_at : Turn → Spot → Sketch → RealFigure
 sketch_at turn at (Disc p d) = disc_turned at turn.rest (set_down turn.quarters at p) d
 sketch_at turn at (Stroke p q w) = line (record { start = set_down turn.quarters at p; end = set_down turn.quarters at q; width = w })
 sketch_at turn at (Rectangle low high) = contour_turned at turn.rest (map (set_down turn.quarters at) (rectangle low high))
-sketch_at turn at (Regular p d n) = polygon_turned turn.quarters at turn.rest (set_down turn.quarters at p) d n
+sketch_at turn at (Regular p d n) = polygon_turned turn at (set_down turn.quarters at p) d n
 
 -- and the points of an outline (code 4)
-abbrev pub outline_at : Turn → Spot → List Spot → RealFigure
-outline_at turn at points = contour_turned at turn.rest (map (set_down turn.quarters at) points)
+abbrev pub outlined_at : Turn → Spot → List Spot → RealFigure
+outlined_at turn at points = contour_turned at turn.rest (map (set_down turn.quarters at) points)
 
 -- ---- Those of an odd size, by quarter turns
 
--- a disc (code 1), a rectangle (code 21), whose sides change places at a quarter turn, and a line (code 20)
-pub data OddSketch : Type 0 where
-  disc : Spot → ℕ → OddSketch
-  sides : Spot → ℕ → ℕ → OddSketch
-  between : Spot → Spot → ℕ → OddSketch
-
+-- the sides of a rectangle change places at a quarter turn
 abbrev pub sides_turned : Rotation → Spot → ℕ → ℕ → Bounds
 sides_turned Unturned m w h = sides_about m w h
 sides_turned Quarter m w h = sides_about m h w
 sides_turned Half m w h = sides_about m w h
 sides_turned ThreeQuarters m w h = sides_about m h w
 
-abbrev pub odd_sketch_at : Rotation → Spot → OddSketch → RealFigure
-odd_sketch_at rotation at (disc p d) = odd (odd_figure.Round (stroke_about (set_down rotation at p) d d))
-odd_sketch_at rotation at (sides p w h) = odd (odd_figure.Rectangle (sides_turned rotation (set_down rotation at p) w h))
-odd_sketch_at rotation at (between p q w) = line (record { start = set_down rotation at p; end = set_down rotation at q; width = w })
+-- a disc (code 1), a rectangle (code 21), and a line (code 20)
+abbrev pub odd_sketch_at : Rotation → Spot → FineSketch → RealFigure
+odd_sketch_at rotation at f = by f.kind
+  where
+    wide : ℕ
+    wide = unsigned_abs (f.end.x -ℤ f.start.x)
+    by : FineKind → RealFigure
+    by fine.Disc = odd (odd_figure.Round (stroke_about (set_down rotation at f.start) wide wide))
+    by fine.Rectangle = odd (odd_figure.Rectangle (sides_turned rotation (set_down rotation at f.start) wide (unsigned_abs (f.side.y -ℤ f.start.y))))
+    by fine.Line = line (record { start = set_down rotation at f.start; end = set_down rotation at f.end; width = unsigned_abs (f.side.x -ℤ f.start.x) })
+
+-- ---- A primitive
+
+-- how it is turned
+abbrev pub turn_of : PlainPrimitive → List Fraction → Result Turn MacroFault
+turn_of p parameters = by p.rotation
+  where
+    by : Turning → Result Turn MacroFault
+    by (Quarters rotation) = Ok (record { quarters = rotation; rest = 0 })
+    by Degrees = turn_behind p.form p.lengths parameters
+
+-- each end, corner and middle is at most 1 m from 0, before the turn that quarter turns leave (own)
+abbrev pub within : RealFigure → Result (Option RealFigure) MacroFault
+within f = if is_real_placed f then Ok (Some f) else Err OutOfRange
+
+abbrev pub sketched : Turn → Spot → Option Sketch → Result (Option RealFigure) MacroFault
+sketched turn at None = Ok None
+sketched turn at (Some sketch) = within (sketch_at turn at sketch)
+
+abbrev pub odd_sketched : Turn → Spot → Option FineSketch → Result (Option RealFigure) MacroFault
+odd_sketched turn at None = Ok None
+odd_sketched turn at (Some f) = within (odd_sketch_at turn.quarters at f)
+
+-- by its form and the text of its lengths
+unfoldable pub even_figure : Turn → Form → List ℕ → List Fraction → Measure → Spot → Result (Option RealFigure) MacroFault
+even_figure turn Circle text parameters unit at = circle_at text parameters unit >>= λ s. sketched turn at s
+even_figure turn (Outline n) text parameters unit at = outline_at n text parameters unit >>= λ points. within (outlined_at turn at points)
+even_figure turn VectorLine text parameters unit at = line_at Real text parameters unit >>= λ s. sketched turn at s
+even_figure turn CentreLine text parameters unit at = centre_at text parameters unit >>= λ s. sketched turn at s
+even_figure turn (Polygon n) text parameters unit at = polygon_at n text parameters unit >>= λ s. sketched turn at s
+
+-- what a primitive flashes at a spot: one with a length off the grid of even sizes is judged anew
+unfoldable pub primitive_figure : PlainPrimitive → List Fraction → Measure → Spot → Result (Option RealFigure) MacroFault
+primitive_figure p parameters unit at =
+    turn_of p parameters >>= λ turn.
+    (if is_fine p.rotation p.form p.lengths parameters unit then (fine_at p.form p.lengths parameters unit >>= λ f. odd_sketched turn at f)
+    else even_figure turn p.form p.lengths parameters unit at)

@@ -1,90 +1,150 @@
--- The rows of real copper that make pieces: of draws, of contours, and of blocks (Gerber Layer Format Specification, 4.8, 4.10 and 4.12).
-use Rattle.std.specs.Prelude.{ℕ, Bool, ◌+◌, ◌-◌, ◌||◌, not, nat_le, nat_lt, if◌then◌else◌, List, [], ◌∷◌, ◌++◌, length, take, drop, sum_by, Option, Some, None, Result, Ok, Err}
+-- The rows of real copper that make pieces: of draws, of flashes, of contours, and of blocks (Gerber Layer Format Specification, 4.4, 4.5, 4.8,
+-- 4.10 and 4.12).
+use Rattle.std.specs.Prelude.{ℕ, Bool, ◌+◌, ◌-◌, ◌&&◌, ◌||◌, not, nat_le, nat_lt, if◌then◌else◌, List, [], ◌∷◌, ◌++◌, length, take, drop, Option, Some, None, is_none, Result, Ok, Err}
 use Rattle.planar.specs.Plane.{same_spot}
 use Rattle.planar.specs.declared.Spot.{Spot}
-use Rattle.area_contact.specs.Contour.{end_from}
+use Rattle.apertures.specs.Flash.{NoFlash}
+use Rattle.aperture_macros.specs.BodyWord.{PlainPrimitive}
+use Rattle.aperture_macros.specs.BodyWord as lengths
+use Rattle.aperture_macros.specs.declared.fault.MacroFault.{MacroFault}
 use Rattle.area_contact.specs.declared.TheConstants.{MOST_CONTOUR_EDGES}
 use Rattle.board_shapes.specs.Pieces.{PieceOf}
-use Rattle.board_shapes.specs.declared.placed.Room.{Room}
-use Rattle.file_reading.specs.Conditions.{◌>>=◌, unless}
-use Rattle.gerber_reading.specs.CommandEffects.{Effect, Known, Leg, Outline, closes, extends, leaves, listed, performs, steps}
-use Rattle.gerber_reading.specs.declared.kind.GerberKind.TheVariants as kind
-use Rattle.step_repeat.specs.Copies.{Refusal, copies_by, edges_by, out_of_range, too_many_edges, too_many_pieces}
-use Rattle.step_repeat.specs.Figures.{Handling}
-use Rattle.step_repeat.specs.declared.repeat.Repeat.{Repeat}
-use Rattle.gerber_reading.specs.declared.command.Code.TheVariants.{Draw}
+use Rattle.file_reading.specs.Conditions.{◌>>=◌, unless, needed}
 use Rattle.gerber_reading.specs.Command.{Bending}
-use Rattle.real_copper.specs.Arcs.{ArcFault, as_straight, bend_of}
-use Rattle.real_copper.specs.Draws.{Edge, area_of, draw_of}
-use Rattle.real_copper.specs.Figures.{RealFigure, is_real_placed, real_edges, shifted_real}
+use Rattle.gerber_reading.specs.CommandEffects.{Effect, Known, Outline, closes, code_of, concludes, edges_for, edges_in, ended_block_by, exceed, extends, is_drawing, leaves, listed, next_block, performs, room_for, room_for_all, selected, steps, target}
+use Rattle.gerber_reading.specs.Tools.{Tool, composed, macro_named, standard}
+use Rattle.gerber_reading.specs.declared.command.Code.{Code}
+use Rattle.gerber_reading.specs.declared.command.Code.TheVariants.{Draw, Move, Flash}
+use Rattle.gerber_reading.specs.declared.kind.GerberKind.TheVariants as kind
+use Rattle.lengths.specs.Decimal.{Fraction}
+use Rattle.lengths.specs.declared.decimal.Unit.{Unit as Measure}
+use Rattle.real_copper.specs.Apertures.{pen_of}
+use Rattle.real_copper.specs.Arcs.{as_real, bend_of, no_arc}
+use Rattle.real_copper.specs.Contours.{area_of, end_of}
+use Rattle.real_copper.specs.Draws.{draw_of}
+use Rattle.real_copper.specs.Figures.{RealFigure, real_handling}
+use Rattle.real_copper.specs.Flashes.{real_flash}
+use Rattle.real_copper.specs.Kinds.{gerber}
+use Rattle.real_copper.specs.Primitives.{primitive_figure}
+use Rattle.real_copper.specs.declared.aperture.RealAperture.{RealAperture}
 use Rattle.real_copper.specs.declared.draw.Bend.{Bend}
-
--- what the reader does with figures of real copper
-abbrev pub real_handling : Handling RealFigure
-real_handling = record { edges = real_edges; shifted = shifted_real; within = is_real_placed }
+use Rattle.real_copper.specs.declared.kind.RealKind.{RealKind}
 
 -- what is known before a command, and what one does: contours keep the bends of their edges
 abbrev pub RealKnown : Type 0
-RealKnown = Known RealFigure (Option Bend)
+RealKnown = Known RealFigure (Option Bend) RealAperture
 
 abbrev pub RealEffect : Type 0
-RealEffect = Effect RealFigure (Option Bend)
+RealEffect = Effect RealFigure (Option Bend) RealAperture
 
--- so many edges more are too many
-abbrev pub exceed : RealKnown → ℕ → Bool
-exceed k more = nat_lt k.place.room.edges (edges_by real_handling k.pieces + more)
+-- ---- Draws
 
--- one piece more, if there is room
-abbrev pub room_for : RealKnown → RealFigure → Result RealFigure ArcFault
-room_for k f = unless (nat_le k.place.room.pieces (length k.pieces)) (as_straight kind.TooManyPieces) (Ok f)
+-- the pen that an aperture is: one of a macro is none
+abbrev pub pen_with : Tool RealAperture → Option ℕ
+pen_with (standard aperture) = pen_of aperture
+pen_with (composed name parameters unit) = None
 
--- a `D01` outside a region with a round pen of this diameter: nothing with one of 0 (own)
-unfoldable pub draw : RealKnown → ℕ → Bending → Spot → Result RealEffect ArcFault
-draw k pen b to = do
-  bend ← bend_of k.settings Draw b to
-  if nat_lt 0 pen then (room_for k (draw_of bend k.settings.at to pen) >>= λ f. Ok (performs to (f ∷ []))) else Ok (performs to [])
+-- there is no room for one piece more
+abbrev pub is_full : RealKnown → Bool
+is_full k = nat_le k.place.room.pieces (length k.pieces)
 
--- how many edges a contour has, and where it ends
-abbrev pub legs_in : Option (Outline (Option Bend)) → ℕ
-legs_in None = 0
-legs_in (Some o) = length o.legs
+-- a pen of diameter 0 draws nothing (own)
+abbrev pub drawn : Option Bend → Spot → Spot → ℕ → List RealFigure
+drawn bend from to pen = if nat_lt 0 pen then draw_of bend from to pen ∷ [] else []
+
+-- a `D01` outside a region (4.8): the arc comes behind the pen and the room
+unfoldable pub draw : RealKnown → Bending → Spot → Result RealEffect RealKind
+draw k b to =
+    needed (gerber kind.NoAperture) (selected k) >>= λ tool.
+    needed (gerber kind.PenNotCircle) (pen_with tool) >>= λ pen.
+    unless (nat_lt 0 pen && is_full k) (gerber kind.TooManyPieces) (bend_of k.settings b to >>= λ bend.
+    Ok (performs to (drawn bend k.settings.at to pen)))
+
+-- ---- Flashes
+
+-- an end, a corner or a middle is over 1 m from 0
+abbrev pub as_flash : Result (Option RealFigure) NoFlash → Result (Option RealFigure) RealKind
+as_flash (Ok figure) = Ok figure
+as_flash (Err why) = Err (gerber kind.OutOfRange)
+
+-- a figure, if there is room for it
+abbrev pub flash_in_room : RealKnown → Option RealFigure → Result (List RealFigure) RealKind
+flash_in_room k flash = as_real (room_for k flash) >>= λ piece. as_real (edges_for real_handling k piece) >>= λ figure. Ok (listed figure)
+
+-- what the primitives of a macro flash, in order
+unfoldable pub figures_of : List PlainPrimitive → List Fraction → Measure → Spot → Result (List RealFigure) MacroFault
+figures_of [] parameters unit to = Ok []
+figures_of (p ∷ body) parameters unit to =
+    primitive_figure p parameters unit to lengths.>>= λ figure. figures_of body parameters unit to lengths.>>= λ more. Ok (listed figure ++ more)
+
+-- and nothing where there is no macro
+abbrev pub macro_figures : Option (List PlainPrimitive) → List Fraction → Measure → Spot → Result (List RealFigure) MacroFault
+macro_figures None parameters unit to = Ok []
+macro_figures (Some body) parameters unit to = figures_of body parameters unit to
+
+-- Their lengths were judged at the definition, so that a fault is an end, a corner or a middle over 1 m from 0.
+abbrev pub all_flashed : Result (List RealFigure) MacroFault → Result (List RealFigure) RealKind
+all_flashed (Ok figures) = Ok figures
+all_flashed (Err fault) = Err (gerber kind.OutOfRange)
+
+unfoldable pub flash_with : RealKnown → Tool RealAperture → Spot → Result (List RealFigure) RealKind
+flash_with k (standard aperture) to = as_flash (real_flash aperture to) >>= λ flash. flash_in_room k flash
+flash_with k (composed name parameters unit) to =
+    all_flashed (macro_figures (macro_named k.macros name) parameters unit to) >>= λ all. as_real (room_for_all real_handling k all)
+
+-- a `D03` outside a region
+unfoldable pub flash : RealKnown → Bending → Spot → Result RealEffect RealKind
+flash k b to =
+    needed (gerber kind.NoAperture) (selected k) >>= λ tool. flash_with k tool to >>= λ figures. no_arc b >>= λ none. Ok (performs to figures)
+
+-- what an operation does outside a region; one that is no draw has no offsets, behind all else (own)
+unfoldable pub perform : RealKnown → Code → Bending → Spot → Result RealEffect RealKind
+perform k Draw b to = draw k b to
+perform k Move b to = no_arc b >>= λ none. Ok (performs to [])
+perform k Flash b to = flash k b to
+
+-- ---- Contours
 
 -- a `D01` in a region adds an edge with its bend
-unfoldable pub extend : RealKnown → Bending → Spot → Result RealEffect ArcFault
-extend k b to = do
-  bend ← bend_of k.settings Draw b to
-  unless (nat_le MOST_CONTOUR_EDGES (legs_in k.contour) || exceed k (legs_in k.contour + 1)) (as_straight kind.TooManyVertices) (Ok (extends to bend))
-
--- where the last edge ends
-abbrev pub end_of : Spot → List (Leg (Option Bend)) → Spot
-end_of p [] = p
-end_of p (l ∷ legs) = end_of l.to legs
-
-abbrev pub edge_of : Leg (Option Bend) → Edge
-edge_of l = record { to = l.to; bend = l.bend }
-
-abbrev pub edges_of : List (Leg (Option Bend)) → List Edge
-edges_of [] = []
-edges_of (l ∷ legs) = edge_of l ∷ edges_of legs
+unfoldable pub extend : RealKnown → Bending → Spot → Result RealEffect RealKind
+extend k b to =
+    unless (nat_le MOST_CONTOUR_EDGES (edges_in k.contour) || exceed real_handling k (edges_in k.contour + 1)) (gerber kind.TooManyVertices)
+    (bend_of k.settings b to >>= λ bend. Ok (extends to bend))
 
 -- what the contour that ends bounds, if it has an edge: it is closed, of three edges or more, and there is room for one piece
-unfoldable pub closing : RealKnown → Option (Outline (Option Bend)) → Result (Option RealFigure) ArcFault
-closing k None = Ok None
-closing k (Some o) =
-    unless (not (same_spot (end_of o.first o.legs) o.first)) (as_straight kind.OpenContour)
-    (unless (nat_lt (length o.legs) 3) (as_straight kind.ShortContour)
-    (room_for k (area_of o.first (edges_of o.legs)) >>= λ f. Ok (Some f)))
+abbrev pub closed : RealKnown → Option (Outline (Option Bend)) → Result (Option RealFigure) RealKind
+closed k None = Ok None
+closed k (Some o) =
+    unless (not (same_spot (end_of o.first o.legs) o.first)) (gerber kind.OpenContour)
+    (unless (nat_lt (length o.legs) 3) (gerber kind.ShortContour)
+    (unless (is_full k) (gerber kind.TooManyPieces) (Ok (Some (area_of o)))))
 
--- where a block ends: its pieces give way to its copies, each arc and each turned figure as a whole
-abbrev pub left : RealKnown → Room
-left k = record { pieces = k.place.room.pieces - k.start; edges = k.place.room.edges - edges_by real_handling (take k.start k.pieces) }
+unfoldable pub closing : RealKnown → Result (Option RealFigure) RealKind
+closing k = closed k k.contour
 
-abbrev pub as_copies : List (PieceOf RealFigure) → Result (List (PieceOf RealFigure)) Refusal → Result (List (PieceOf RealFigure)) ArcFault
-as_copies before (Ok copies) = Ok (before ++ copies)
-as_copies before (Err too_many_pieces) = Err (as_straight kind.TooManyPieces)
-as_copies before (Err too_many_edges) = Err (as_straight kind.TooManyVertices)
-as_copies before (Err out_of_range) = Err (as_straight kind.OutOfRange)
+-- what an operation does in a region: a `D02` closes the contour
+unfoldable pub perform_in_region : RealKnown → Code → Bending → Spot → Result RealEffect RealKind
+perform_in_region k Draw b to = extend k b to
+perform_in_region k Move b to = closing k >>= λ area. no_arc b >>= λ none. Ok (closes to area)
+perform_in_region k Flash b to = Err (gerber kind.NotInRegion)
 
-abbrev pub ended : RealKnown → Option Repeat → Result (List (PieceOf RealFigure)) ArcFault
-ended k None = Ok k.pieces
-ended k (Some block) = as_copies (take k.start k.pieces) (copies_by real_handling block (left k) (drop k.start k.pieces))
+-- ---- Operations
+
+unfoldable pub operate : RealKnown → Option (List ℕ) → Option (List ℕ) → Option Code → Bending → Result RealEffect RealKind
+operate k x y code b =
+    unless (is_none code && not (is_drawing k.settings.last)) (gerber kind.NoOperation) (as_real (target k.settings x y) >>= λ to.
+    (if k.settings.region then perform_in_region k (code_of code) b to else perform k (code_of code) b to))
+
+-- the row of `G37`
+unfoldable pub leave : RealKnown → Result RealEffect RealKind
+leave k = unless (not k.settings.region) (gerber kind.NotInRegion) (closing k >>= λ area. Ok (leaves area))
+
+-- ---- Blocks: each arc and each turned figure is copied as a whole
+
+unfoldable pub repeat : RealKnown → List ℕ → Result RealEffect RealKind
+repeat k text =
+    unless k.settings.region (gerber kind.NotInRegion) (as_real (next_block k.settings.unit text) >>= λ next.
+    as_real (ended_block_by real_handling k) >>= λ pieces. Ok (steps next pieces))
+
+unfoldable pub end : RealKnown → Result RealEffect RealKind
+end k = unless k.settings.region (gerber kind.NotInRegion) (as_real (ended_block_by real_handling k) >>= λ pieces. Ok (concludes pieces))

@@ -1,7 +1,7 @@
 //! Figures near enough to be read and moved.
 ghost use Rattle.real_copper.specs.Figures.{is_real_placed, real_edges};
 ghost use Rattle.real_copper.specs.Shapes.{real_figure};
-ghost use Rattle.std.specs.Prelude.{◌≡◌, ◌<◌, ◌^◌, true};
+ghost use Rattle.std.specs.Prelude.{◌≡◌, ◌≤◌, true};
 
 use real_shapes::RealShape;
 
@@ -10,5 +10,5 @@ use real_shapes::RealShape;
 pub struct Anchored {
     pub shape: RealShape,
     pub ghost near: { is_real_placed (real_figure shape) ≡ true },
-    pub ghost few: { real_edges (real_figure shape) < 2 ^ 32 },
+    pub ghost few: { real_edges (real_figure shape) ≤ 4294967295 },
 }

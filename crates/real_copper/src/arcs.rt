@@ -13,7 +13,8 @@ use crate::centres::{Draw, moved};
 use crate::draw::Bend;
 use crate::kind::{RealKind, gerber};
 
-use gerber_reading::{Bending, Curve, Format, GerberKind, Here, Quadrants, Settings, coordinate, is_number_if};
+use gerber_layer::is_number_if;
+use gerber_reading::{Bending, Curve, Format, GerberKind, Here, Quadrants, Settings, coordinate};
 use lengths::decimal::Unit;
 use planar::{Spot, is_placed, is_same};
 

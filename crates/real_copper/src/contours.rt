@@ -1,6 +1,6 @@
 //! What a contour bounds (Gerber Layer Format Specification, 4.10).
 ghost use Rattle.area_contact.specs.declared.TheConstants.{MOST_CONTOUR_EDGES};
-ghost use Rattle.gerber_reading.specs.Reader.{leg_of, outline_of};
+ghost use Rattle.regions.specs.Contours.{leg_of, outline_of};
 ghost use Rattle.planar.specs.Plane.{IsPlaced};
 ghost use Rattle.real_copper.specs.Contours as spec;
 ghost use Rattle.real_copper.specs.Contours.{IsClosedOutline};
@@ -12,7 +12,7 @@ use crate::anchored::Anchored;
 use crate::draw::Bend;
 use arc_regions::{Bend as Curve, Part, Region};
 use board_shapes::Shape;
-use gerber_reading::{Contour, Leg};
+use regions::{Contour, Leg};
 use lengths::rows::NoMemory;
 use planar::Spot;
 use real_shapes::RealShape;

@@ -1,4 +1,4 @@
-//! How a draw goes, and with which pen.
+//! How a draw goes.
 use planar::Spot;
 
 /// What makes a draw an arc: its direction, and its centre (Gerber Layer Format Specification, 4.7).
@@ -6,10 +6,4 @@ use planar::Spot;
 pub struct Bend {
     pub clockwise: bool,
     pub centre: Spot,
-}
-
-/// A round pen by its diameter in u, which may be odd (4.8).
-#[derive(Clone, Copy, Debug)]
-pub struct Pen {
-    pub diameter: u64,
 }

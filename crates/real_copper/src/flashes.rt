@@ -170,7 +170,7 @@ fn pierced_at(form: OddForm, hole: u64, at: Spot) -> RealShape
 
 // The figure, where it is within 1 m of 0.
 fn within(shape: RealShape) -> Result<Option<Anchored>, FlashFault>
-    requires few { real_edges (real_figure shape) < 2 ^ 32 }
+    requires few { real_edges (real_figure shape) ≤ 4294967295 }
     ensures { Flashes result (spec.within (real_figure shape)) }
 {
     if is_anchored(&shape) {

@@ -4,7 +4,7 @@ ghost use Rattle.real_copper.specs.Kinds.{real_row};
 ghost use Rattle.std.specs.Prelude.{◌≡◌};
 
 use file_reading::{FileFault, RefusalKind, name_of};
-use gerber_reading::FlattenKind;
+use gerber_layer::FlattenKind;
 use gerber_reading::GerberKind;
 
 /// Why a command of a copper file with arcs is refused. Sections are those of the Gerber Layer Format

@@ -1,8 +1,37 @@
-//! What pieces of real copper are made of, told directly (Gerber Layer Format Specification, 4.4, 4.5, 4.7, 4.8 and 4.10).
+//! Real copper: what pieces of copper files are made of whose draws and contours may have arcs, apertures holes and odd sizes, and macros
+//! slanted lines, turned figures and polygons (Gerber Layer Format Specification, 4.4, 4.5, 4.7, 4.8 and 4.10).
 #![tactic(auto)]
 
+mod anchored;
 mod aperture;
+mod arcs;
+mod centres;
+mod contours;
+mod definitions;
 mod draw;
+mod flashes;
+mod kind;
+mod moving;
+mod obeying;
+mod real;
+mod sketches;
+mod strokes;
+mod words;
 
+pub use anchored::Anchored;
 pub use aperture::{Hole, OddForm, RealAperture};
-pub use draw::{Bend, Pen};
+pub use contours::area_of;
+pub use definitions::read_real_aperture;
+pub use draw::Bend;
+pub use flashes::flash;
+pub use kind::{RealFault, RealKind};
+pub use moving::is_anchored;
+pub use real::{RealCopper, read_real};
+pub use real_shapes::{RealPiece, RealShape};
+pub use sketches::primitive_at;
+pub use strokes::draw_of;
+
+#[cfg(test)]
+mod oracle;
+#[cfg(test)]
+mod tests;

@@ -4,7 +4,7 @@ ghost use Rattle.board_shapes.specs.Moved.{IsShift, corners, shifted};
 ghost use Rattle.planar.specs.Plane.{IsPlaced, IsReachable, is_placed as has_place};
 ghost use Rattle.real_copper.specs.Figures as spec;
 ghost use Rattle.real_copper.specs.Figures.{RealFigure, arc, holed, is_half_placed, is_odd_placed, is_part_placed, is_real_placed, line, odd, polygon, real_edges, real_handling, region, shifted_odd, shifted_part, shifted_real, turned, turned_disc};
-ghost use Rattle.real_copper.specs.Moving.{anchored_leaves};
+ghost use Rattle.real_copper.specs.Moving.{anchored_few, anchored_leaves};
 ghost use Rattle.real_copper.specs.Shapes.{real_figure};
 ghost use Rattle.std.specs.List.{list_all};
 ghost use Rattle.std.specs.Prelude.{All, IfErr, IfOk, false, length, map, pos, true, ◌≡◌, ◌<◌, ◌^◌, ◌*ℤ◌};
@@ -327,4 +327,6 @@ impl Figure for Anchored {
     }
 
     ghost leaves = { anchored_leaves };
+
+    ghost few = { anchored_few };
 }

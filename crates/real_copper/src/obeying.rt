@@ -11,12 +11,14 @@ use crate::sketches::primitive_at;
 use crate::strokes::draw_of;
 use aperture_macros::{Copper, FigureFault, Primitive, read_body};
 use apertures::{ApertureFault, FlashFault, name_text, number};
-use board_shapes::Placed;
+use board_shapes::{Origin, Placed};
 use file_reading::Halt;
-use gerber_reading::{Bending, Code, Command, FlattenKind, GerberKind, Reader, Tool, code_of, go_behind, is_finish, is_of_layer, next_block, other_format, parameters, target};
+use gerber_layer::FlattenKind;
+use gerber_reading::{Bending, Code, Command, GerberKind, Reader, Tool, code_of, go_behind, is_finish, is_of_layer, next_block, other_format, parameters, target};
 use lengths::decimal::{Decimal, Unit, other_unit};
 use lengths::rows::NoMemory;
 use planar::{Spot, is_same};
+use regions::Contour;
 use std::alloc::Global;
 use step_repeat::Figure;
 use texts::{before_byte, is_word};
@@ -109,6 +111,11 @@ fn macro_pieces(
     marks: &[bool],
     to: Spot,
 ) -> Result<Vec<Placed<Anchored>>, Halt<RealKind>> {
+    let origin = Origin {
+        file: reader.file,
+        command: reader.commands + 1,
+        copy: 0,
+    };
     let mut pieces = Vec::new(alloc);
     for (i, primitive) in body.iter().enumerate() {
         if is_marked(marks, i) {
@@ -124,7 +131,7 @@ fn macro_pieces(
             shape,
             top: reader.layer,
             bottom: reader.layer,
-            origin: reader.origin(),
+            origin,
         };
         if let Err(_) = pieces.push(piece) {
             return Err(Halt::NoMemory);
@@ -186,7 +193,7 @@ fn perform(reader: &mut RealReader, alloc: Global, code: Code, bending: &Bending
 }
 
 // Where a contour that has edges ends.
-fn end_of(contour: &gerber_reading::Contour<Option<Bend>>) -> Spot {
+fn end_of(contour: &Contour<Option<Bend>>) -> Spot {
     match contour.legs.last() {
         Some(leg) => leg.to,
         None => contour.first,
@@ -335,7 +342,7 @@ fn compose<'a>(reader: &RealReader<'a>, alloc: Global, text: &'a [u8], unit: Uni
         return Err(flattened(FlattenKind::BadMacro));
     };
     let n = number(text);
-    checked(reader.may_define(n))?;
+    checked(reader.judge_number(n))?;
     let marks = judge(alloc, body, &given, unit)?;
     Ok((n, Tool::Composed(name, given, unit, marks)))
 }
@@ -346,7 +353,7 @@ fn defined<'a>(reader: &RealReader<'a>, alloc: Global, text: &'a [u8]) -> Result
     };
     match read_real_aperture(text, unit) {
         Ok((n, aperture)) => {
-            checked(reader.may_define(n))?;
+            checked(reader.judge_number(n))?;
             Ok((n, Tool::Standard(aperture)))
         },
         Err(ApertureFault::Macro) => compose(reader, alloc, text, unit),

@@ -32,7 +32,7 @@ use turned_polygons::TurnedPolygon;
 
 // The figure, where it is within 1 m of 0.
 fn within(shape: RealShape) -> Result<Option<Anchored>, FigureFault>
-    requires few { real_edges (real_figure shape) < 2 ^ 32 }
+    requires few { real_edges (real_figure shape) ≤ 4294967295 }
     ensures { Makes result (spec.within (real_figure shape)) }
 {
     if is_anchored(&shape) {

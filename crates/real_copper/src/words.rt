@@ -6,7 +6,8 @@ ghost use Rattle.real_copper.specs.Words as spec;
 ghost use Rattle.std.specs.Option.{option_copied};
 ghost use Rattle.std.specs.Prelude.{length, ◌≡◌, ◌≤◌};
 
-use gerber_reading::{Bending, Command, Curve, GerberKind, Offsets, Quadrants, behind_line_code, code_in, from_x, goes_on, is_number_if, macro_or, part, read_command};
+use gerber_layer::{Offsets, behind_line_code, code_in, from_x, goes_on, is_number_if, macro_or, part, read_command};
+use gerber_reading::{Bending, Command, Curve, GerberKind, Quadrants};
 use gerber_words::Word;
 use texts::{begins, is_word, run_len};
 
