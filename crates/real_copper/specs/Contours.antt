@@ -1,14 +1,13 @@
 -- What a contour bounds (Gerber Layer Format Specification, 4.10).
-use Rattle.std.specs.Prelude.{ℕ, ◌≤◌, ◌≡◌, Bool, true, not, if◌then◌else◌, List, [], ◌∷◌, All, length, map, Option, Some, None, is_none}
+use Rattle.std.specs.Prelude.{ℕ, ◌≤◌, ◌≡◌, Bool, true, not, if◌then◌else◌, List, [], ◌∷◌, length, map, Option, Some, None, is_none}
 use Rattle.std.specs.List.{list_all}
-use Rattle.planar.specs.Plane.{IsPlaced, same_spot}
+use Rattle.planar.specs.Plane.{same_spot}
 use Rattle.planar.specs.declared.Spot.{Spot}
 use Rattle.board_shapes.specs.Figures.{filled}
 use Rattle.arc_regions.specs.declared.Part.{Part}
 use Rattle.arc_regions.specs.declared.Part.TheVariants.{Straight, Curved}
 use Rattle.gerber_reading.specs.CommandEffects.{Leg, Outline}
-use Rattle.real_copper.specs.Draws.{IsNearBend}
-use Rattle.real_copper.specs.Figures.{RealFigure, exact, region}
+use Rattle.real_copper.specs.Figures.{RealFigure, exact, is_real_placed, region}
 use Rattle.real_copper.specs.declared.draw.Bend.{Bend}
 
 -- an edge of a contour: where it ends, and its bend, if it is an arc
@@ -40,13 +39,11 @@ abbrev pub end_of : Spot → List Edge → Spot
 end_of p [] = p
 end_of p (e ∷ edges) = end_of e.to edges
 
--- the edge ends, and has its centre, at most 1 m from 0
-abbrev pub IsNearEdge : Edge → Type 0
-IsNearEdge e = IsPlaced e.to × IsNearBend e.bend
+-- each spot and centre is within 1 m
+abbrev pub within : RealFigure → Option RealFigure
+within f = if is_real_placed f then Some f else None
 
--- a contour of three edges or more that ends where it begins, each within 1 m
+-- a contour of three edges or more that ends where it begins
 pub record IsClosedOutline (o : Outline (Option Bend)) : Type 0 where
-  pub first : IsPlaced o.first
-  pub near : All IsNearEdge o.legs
   pub enough : 3 ≤ length o.legs
   pub closed : same_spot (end_of o.first o.legs) o.first ≡ true

@@ -9,6 +9,7 @@ pub mod Flashes
 pub mod Kinds
 pub mod Moving
 pub mod Primitives
+pub mod RealReader
 pub mod Rows
 pub mod Shapes
 pub mod Table

@@ -22,7 +22,7 @@ use Rattle.real_copper.specs.Apertures.{pen_of}
 use Rattle.real_copper.specs.Arcs.{as_real, bend_of, no_arc}
 use Rattle.real_copper.specs.Contours.{area_of, end_of}
 use Rattle.real_copper.specs.Draws.{draw_of}
-use Rattle.real_copper.specs.Figures.{RealFigure, real_handling}
+use Rattle.real_copper.specs.Figures.{RealFigure, is_real_placed, real_handling}
 use Rattle.real_copper.specs.Flashes.{real_flash}
 use Rattle.real_copper.specs.Kinds.{gerber}
 use Rattle.real_copper.specs.Primitives.{primitive_figure}
@@ -48,17 +48,22 @@ pen_with (composed name parameters unit) = None
 abbrev pub is_full : RealKnown → Bool
 is_full k = nat_le k.place.room.pieces (length k.pieces)
 
--- a pen of diameter 0 draws nothing (own)
-abbrev pub drawn : Option Bend → Spot → Spot → ℕ → List RealFigure
-drawn bend from to pen = if nat_lt 0 pen then draw_of bend from to pen ∷ [] else []
+-- the pen that is selected
+abbrev pub pen_selected : RealKnown → Result ℕ RealKind
+pen_selected k = needed (gerber kind.NoAperture) (selected k) >>= λ tool. needed (gerber kind.PenNotCircle) (pen_with tool)
 
--- a `D01` outside a region (4.8): the arc comes behind the pen and the room
+-- a pen of diameter 0 draws nothing (own)
+abbrev pub drawn : Option Bend → Spot → Spot → ℕ → Option RealFigure
+drawn bend from to pen = if nat_lt 0 pen then Some (draw_of bend from to pen) else None
+
+-- the stroke of a `D01` outside a region (4.8): its arc comes behind the pen and the room
+unfoldable pub stroke : RealKnown → Bending → Spot → Result (Option RealFigure) RealKind
+stroke k b to =
+    pen_selected k >>= λ pen. unless (nat_lt 0 pen && is_full k) (gerber kind.TooManyPieces)
+    (bend_of k.settings b to >>= λ bend. Ok (drawn bend k.settings.at to pen))
+
 unfoldable pub draw : RealKnown → Bending → Spot → Result RealEffect RealKind
-draw k b to =
-    needed (gerber kind.NoAperture) (selected k) >>= λ tool.
-    needed (gerber kind.PenNotCircle) (pen_with tool) >>= λ pen.
-    unless (nat_lt 0 pen && is_full k) (gerber kind.TooManyPieces) (bend_of k.settings b to >>= λ bend.
-    Ok (performs to (drawn bend k.settings.at to pen)))
+draw k b to = stroke k b to >>= λ figure. Ok (performs to (listed figure))
 
 -- ---- Flashes
 
@@ -92,10 +97,13 @@ flash_with k (standard aperture) to = as_flash (real_flash aperture to) >>= λ f
 flash_with k (composed name parameters unit) to =
     all_flashed (macro_figures (macro_named k.macros name) parameters unit to) >>= λ all. as_real (room_for_all real_handling k all)
 
+-- what the selected aperture flashes
+unfoldable pub flashed : RealKnown → Spot → Result (List RealFigure) RealKind
+flashed k to = needed (gerber kind.NoAperture) (selected k) >>= λ tool. flash_with k tool to
+
 -- a `D03` outside a region
 unfoldable pub flash : RealKnown → Bending → Spot → Result RealEffect RealKind
-flash k b to =
-    needed (gerber kind.NoAperture) (selected k) >>= λ tool. flash_with k tool to >>= λ figures. no_arc b >>= λ none. Ok (performs to figures)
+flash k b to = flashed k to >>= λ figures. no_arc b >>= λ none. Ok (performs to figures)
 
 -- what an operation does outside a region; one that is no draw has no offsets, behind all else (own)
 unfoldable pub perform : RealKnown → Code → Bending → Spot → Result RealEffect RealKind
@@ -111,13 +119,15 @@ extend k b to =
     unless (nat_le MOST_CONTOUR_EDGES (edges_in k.contour) || exceed real_handling k (edges_in k.contour + 1)) (gerber kind.TooManyVertices)
     (bend_of k.settings b to >>= λ bend. Ok (extends to bend))
 
--- what the contour that ends bounds, if it has an edge: it is closed, of three edges or more, and there is room for one piece
+-- What the contour that ends bounds, if it has an edge: it is closed, of three edges or more, there is room for one piece, and each of its
+-- spots and centres is within 1 m, which was judged at its draws.
 abbrev pub closed : RealKnown → Option (Outline (Option Bend)) → Result (Option RealFigure) RealKind
 closed k None = Ok None
 closed k (Some o) =
     unless (not (same_spot (end_of o.first o.legs) o.first)) (gerber kind.OpenContour)
     (unless (nat_lt (length o.legs) 3) (gerber kind.ShortContour)
-    (unless (is_full k) (gerber kind.TooManyPieces) (Ok (Some (area_of o)))))
+    (unless (is_full k) (gerber kind.TooManyPieces)
+    (unless (not (is_real_placed (area_of o))) (gerber kind.OutOfRange) (Ok (Some (area_of o))))))
 
 unfoldable pub closing : RealKnown → Result (Option RealFigure) RealKind
 closing k = closed k k.contour

@@ -243,6 +243,12 @@ fn is_part_placed(part: &Part) -> bool
     }
 }
 
+fn are_parts_placed(parts: &[Part]) -> bool
+    ensures { result ≡ list_all spec.is_part_placed parts.now }
+{
+    parts.iter().all(|part| is_part_placed(part))
+}
+
 fn is_odd_placed(f: &FineFigure) -> bool
     ensures { result ≡ spec.is_odd_placed f.now }
 {
@@ -266,7 +272,7 @@ pub fn is_anchored(shape: &RealShape) -> bool
         RealShape::Plain(shape) => is_plain_placed(shape),
         RealShape::ArcDraw(a) => is_placed(a.centre) && (is_placed(a.start) && is_placed(a.end)),
         RealShape::Slanted(a) => is_placed(a.start) && is_placed(a.end),
-        RealShape::Region(area) => is_placed(area.start) && area.parts.iter().all(|part| is_part_placed(part)),
+        RealShape::Region(area) => is_placed(area.start) && are_parts_placed(&area.parts),
         RealShape::Turned(t) => is_placed(t.about) && are_placed(&t.contour),
         RealShape::TurnedDisc(d) => is_placed(d.centre) && is_placed(d.about),
         RealShape::Polygon(g) => is_placed(g.polygon.centre) && is_placed(g.about),
