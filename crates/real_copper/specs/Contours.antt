@@ -7,7 +7,7 @@ use Rattle.board_shapes.specs.Figures.{filled}
 use Rattle.arc_regions.specs.declared.Part.{Part}
 use Rattle.arc_regions.specs.declared.Part.TheVariants.{Straight, Curved}
 use Rattle.gerber_reading.specs.CommandEffects.{Leg, Outline}
-use Rattle.real_copper.specs.Figures.{RealFigure, exact, is_real_placed, region}
+use Rattle.real_copper.specs.Figures.{RealFigure, exact, region}
 use Rattle.real_copper.specs.declared.draw.Bend.{Bend}
 
 -- an edge of a contour: where it ends, and its bend, if it is an arc
@@ -38,10 +38,6 @@ area_of o = if is_straight o.legs then straight_area o else curved_area o
 abbrev pub end_of : Spot → List Edge → Spot
 end_of p [] = p
 end_of p (e ∷ edges) = end_of e.to edges
-
--- each spot and centre is within 1 m
-abbrev pub within : RealFigure → Option RealFigure
-within f = if is_real_placed f then Some f else None
 
 -- a contour of three edges or more that ends where it begins
 pub record IsClosedOutline (o : Outline (Option Bend)) : Type 0 where

@@ -8,10 +8,14 @@ use Rattle.fine_figures.specs.declared.FineFigure.TheVariants.{Round}
 use Rattle.real_copper.specs.Figures.{RealFigure, arc, exact, odd}
 use Rattle.real_copper.specs.declared.draw.Bend.{Bend}
 
+-- the stroke of a pen of an odd diameter, in half u
+abbrev pub odd_draw : Spot → Spot → ℕ → RealFigure
+odd_draw from to pen = odd (Round (record { a = doubled from; b = doubled to; r = pen }))
+
 -- A straight draw: a stroke with half the pen, and with a pen of an odd diameter that in half u.
 abbrev pub straight_draw : Spot → Spot → ℕ → RealFigure
 straight_draw from to pen =
-    if pen % 2 == 0 then exact (round (record { a = from; b = to; r = pos (pen / 2) })) else odd (Round (record { a = doubled from; b = doubled to; r = pen }))
+    if pen % 2 == 0 then exact (round (record { a = from; b = to; r = pos (pen / 2) })) else odd_draw from to pen
 
 -- An arc, as wide as its pen. Arcs go counterclockwise, so one that goes clockwise is the one that goes back.
 abbrev pub arc_draw : Bend → Spot → Spot → ℕ → RealFigure

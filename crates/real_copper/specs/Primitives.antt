@@ -10,8 +10,9 @@ use Rattle.lengths.specs.Decimal.{Fraction}
 use Rattle.lengths.specs.declared.decimal.Unit.{Unit as Measure}
 use Rattle.aperture_macros.specs.BodyWord.{◌>>=◌, PlainPrimitive}
 use Rattle.aperture_macros.specs.Fine.{fine_at}
-use Rattle.aperture_macros.specs.Flashes.{is_fine, turn_behind}
-use Rattle.aperture_macros.specs.Images.{centre_at, circle_at, line_at, outline_at, polygon_at, set_down}
+use Rattle.aperture_macros.specs.Flashes.{is_fine}
+use Rattle.aperture_macros.specs.Images.{outline_at, set_down}
+use Rattle.aperture_macros.specs.Parts.{sketch_of, turn_of}
 use Rattle.aperture_macros.specs.declared.degrees.Turn.{Turn}
 use Rattle.aperture_macros.specs.declared.fault.MacroFault.{MacroFault}
 use Rattle.aperture_macros.specs.declared.fault.MacroFault.TheVariants.{OutOfRange}
@@ -20,13 +21,10 @@ use Rattle.aperture_macros.specs.declared.fine.FineKind.TheVariants as fine
 use Rattle.aperture_macros.specs.declared.fine.FineSketch.{FineSketch}
 use Rattle.aperture_macros.specs.declared.images.Sketch.{Sketch}
 use Rattle.aperture_macros.specs.declared.images.Sketch.TheVariants.{Disc, Rectangle, Regular, Stroke}
-use Rattle.aperture_macros.specs.declared.primitive.Copper.TheVariants.{Real}
 use Rattle.aperture_macros.specs.declared.primitive.Form.{Form}
-use Rattle.aperture_macros.specs.declared.primitive.Form.TheVariants.{Circle, Outline, VectorLine, CentreLine, Polygon}
+use Rattle.aperture_macros.specs.declared.primitive.Form.TheVariants.{Outline}
 use Rattle.aperture_macros.specs.declared.primitive.Rotation.{Rotation}
 use Rattle.aperture_macros.specs.declared.primitive.Rotation.TheVariants.{Unturned, Quarter, Half, ThreeQuarters}
-use Rattle.aperture_macros.specs.declared.primitive.Turning.{Turning}
-use Rattle.aperture_macros.specs.declared.primitive.Turning.TheVariants.{Quarters, Degrees}
 use Rattle.fine_figures.specs.declared.FineFigure.TheVariants as odd_figure
 use Rattle.slants.specs.declared.cones.TheConstants.{RIGHT_ANGLE}
 use Rattle.slants.specs.declared.polygons.RegularPolygon.{RegularPolygon}
@@ -94,14 +92,6 @@ odd_sketch_at rotation at f = by f.kind
 
 -- ---- A primitive
 
--- how it is turned
-abbrev pub turn_of : PlainPrimitive → List Fraction → Result Turn MacroFault
-turn_of p parameters = by p.rotation
-  where
-    by : Turning → Result Turn MacroFault
-    by (Quarters rotation) = Ok (record { quarters = rotation; rest = 0 })
-    by Degrees = turn_behind p.form p.lengths parameters
-
 -- each end, corner and middle is at most 1 m from 0, before the turn that quarter turns leave (own)
 abbrev pub within : RealFigure → Result (Option RealFigure) MacroFault
 within f = if is_real_placed f then Ok (Some f) else Err OutOfRange
@@ -114,17 +104,21 @@ abbrev pub odd_sketched : Turn → Spot → Option FineSketch → Result (Option
 odd_sketched turn at None = Ok None
 odd_sketched turn at (Some f) = within (odd_sketch_at turn.quarters at f)
 
--- by its form and the text of its lengths
-unfoldable pub even_figure : Turn → Form → List ℕ → List Fraction → Measure → Spot → Result (Option RealFigure) MacroFault
-even_figure turn Circle text parameters unit at = circle_at text parameters unit >>= λ s. sketched turn at s
-even_figure turn (Outline n) text parameters unit at = outline_at n text parameters unit >>= λ points. within (outlined_at turn at points)
-even_figure turn VectorLine text parameters unit at = line_at Real text parameters unit >>= λ s. sketched turn at s
-even_figure turn CentreLine text parameters unit at = centre_at text parameters unit >>= λ s. sketched turn at s
-even_figure turn (Polygon n) text parameters unit at = polygon_at n text parameters unit >>= λ s. sketched turn at s
+-- of an odd size
+abbrev pub odd_figure : Turn → Form → List ℕ → List Fraction → Measure → Spot → Result (Option RealFigure) MacroFault
+odd_figure turn form text parameters unit at = fine_at form text parameters unit >>= λ f. odd_sketched turn at f
+
+-- of even sizes: what the points of an outline bound, or its sketch
+abbrev pub outline_figure : Turn → ℕ → List ℕ → List Fraction → Measure → Spot → Result (Option RealFigure) MacroFault
+outline_figure turn n text parameters unit at = outline_at n text parameters unit >>= λ points. within (outlined_at turn at points)
+
+abbrev pub even_figure : Turn → Form → List ℕ → List Fraction → Measure → Spot → Result (Option RealFigure) MacroFault
+even_figure turn (Outline n) text parameters unit at = outline_figure turn n text parameters unit at
+even_figure turn form text parameters unit at = sketch_of form text parameters unit >>= λ s. sketched turn at s
 
 -- what a primitive flashes at a spot: one with a length off the grid of even sizes is judged anew
 unfoldable pub primitive_figure : PlainPrimitive → List Fraction → Measure → Spot → Result (Option RealFigure) MacroFault
 primitive_figure p parameters unit at =
     turn_of p parameters >>= λ turn.
-    (if is_fine p.rotation p.form p.lengths parameters unit then (fine_at p.form p.lengths parameters unit >>= λ f. odd_sketched turn at f)
+    (if is_fine p.rotation p.form p.lengths parameters unit then odd_figure turn p.form p.lengths parameters unit at
     else even_figure turn p.form p.lengths parameters unit at)

@@ -9,6 +9,7 @@ use Rattle.gerber_reading.specs.Reader.{AreCounted, CarriesOut, IsLawfulReader, 
 use Rattle.gerber_reading.specs.declared.kind.GerberKind.{GerberKind}
 use Rattle.gerber_reading.specs.declared.reader.Reader.{Reader}
 use Rattle.step_repeat.specs.Copies.{pieces_by}
+use Rattle.real_copper.specs.Draws.{IsNearBend}
 use Rattle.real_copper.specs.Figures.{RealFigure, real_handling}
 use Rattle.real_copper.specs.Kinds.{gerber}
 use Rattle.real_copper.specs.Rows.{RealEffect, RealKnown, closing}
@@ -31,7 +32,7 @@ abbrev pub known : Seen → RealKnown
 known r = known_of plain r
 
 abbrev pub IsLawful : Seen → Type 0
-IsLawful r = IsLawfulReader plain real_handling fits r
+IsLawful r = IsLawfulReader plain real_handling fits IsNearBend r
 
 abbrev pub IsCounted : Seen → Type 0
 IsCounted r = AreCounted plain real_handling r

@@ -22,7 +22,7 @@ use Rattle.real_copper.specs.Apertures.{pen_of}
 use Rattle.real_copper.specs.Arcs.{as_real, bend_of, no_arc}
 use Rattle.real_copper.specs.Contours.{area_of, end_of}
 use Rattle.real_copper.specs.Draws.{draw_of}
-use Rattle.real_copper.specs.Figures.{RealFigure, is_real_placed, real_handling}
+use Rattle.real_copper.specs.Figures.{RealFigure, real_handling}
 use Rattle.real_copper.specs.Flashes.{real_flash}
 use Rattle.real_copper.specs.Kinds.{gerber}
 use Rattle.real_copper.specs.Primitives.{primitive_figure}
@@ -119,15 +119,13 @@ extend k b to =
     unless (nat_le MOST_CONTOUR_EDGES (edges_in k.contour) || exceed real_handling k (edges_in k.contour + 1)) (gerber kind.TooManyVertices)
     (bend_of k.settings b to >>= λ bend. Ok (extends to bend))
 
--- What the contour that ends bounds, if it has an edge: it is closed, of three edges or more, there is room for one piece, and each of its
--- spots and centres is within 1 m, which was judged at its draws.
+-- what the contour that ends bounds, if it has an edge: it is closed, of three edges or more, and there is room for one piece
 abbrev pub closed : RealKnown → Option (Outline (Option Bend)) → Result (Option RealFigure) RealKind
 closed k None = Ok None
 closed k (Some o) =
     unless (not (same_spot (end_of o.first o.legs) o.first)) (gerber kind.OpenContour)
     (unless (nat_lt (length o.legs) 3) (gerber kind.ShortContour)
-    (unless (is_full k) (gerber kind.TooManyPieces)
-    (unless (not (is_real_placed (area_of o))) (gerber kind.OutOfRange) (Ok (Some (area_of o))))))
+    (unless (is_full k) (gerber kind.TooManyPieces) (Ok (Some (area_of o)))))
 
 unfoldable pub closing : RealKnown → Result (Option RealFigure) RealKind
 closing k = closed k k.contour

@@ -34,7 +34,7 @@ fn end_of(contour: &Contour<Option<Bend>>) -> Spot
 #[tactic(auto, unfolding(crate::specs::Rows::closing))]
 pub fn close(reader: &mut RealReader, alloc: Global) -> Result<(), Halt<RealKind>>
     requires few { reader.old.commands + 1 < 2 ^ 32 }
-    requires counted { IsCounted reader.old }
+    requires lawful { IsLawful reader.old }
     ensures ok { OnOk result (Closes reader.old reader.new) }
     ensures counted { OnOk result (IsCounted reader.new) }
     ensures halt { IfErr result (Stops (spec.closing (known reader.old))) }
@@ -53,9 +53,6 @@ pub fn close(reader: &mut RealReader, alloc: Global) -> Result<(), Halt<RealKind
     }
     let Ok(area) = area_of(alloc, &contour) else {
         return Err(Halt::NoMemory);
-    };
-    let Some(area) = area else {
-        return Err(Halt::Fault(gerber(GerberKind::OutOfRange)));
     };
     match reader.add_piece(area) {
         Ok(()) => Ok(()),

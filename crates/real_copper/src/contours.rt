@@ -2,13 +2,13 @@
 ghost use Rattle.regions.specs.Contours.{leg_of, outline_of};
 ghost use Rattle.real_copper.specs.Contours as spec;
 ghost use Rattle.real_copper.specs.Contours.{IsClosedOutline};
-ghost use Rattle.real_copper.specs.Flashed.{option_figure};
-ghost use Rattle.std.specs.Prelude.{IfOk, map, ◌∷◌, ◌≡◌};
+ghost use Rattle.real_copper.specs.Draws.{IsNearBend};
+ghost use Rattle.real_copper.specs.Shapes.{real_figure};
+ghost use Rattle.std.specs.Prelude.{All, IfOk, map, ◌∷◌, ◌≡◌};
 
 use crate::anchored::Anchored;
 use crate::draw::Bend;
 use crate::flashes::plain;
-use crate::moving::is_anchored;
 use arc_regions::{Bend as Curve, Part, Region};
 use board_shapes::Shape;
 use regions::{Contour, Leg};
@@ -69,36 +69,34 @@ fn is_straight(edges: &[Edge]) -> bool
     edges.iter().all(|edge| edge.bend.is_none())
 }
 
-// What straight edges bound, where each ends within 1 m, as all do.
-fn straight_area(alloc: Global, contour: &Contour<Option<Bend>>) -> Result<Option<Anchored>, NoMemory>
+// What straight edges bound.
+fn straight_area(alloc: Global, contour: &Contour<Option<Bend>>) -> Result<Anchored, NoMemory>
     requires closed { IsClosedOutline (outline_of contour.now) }
-    ensures { IfOk result (λ made. option_figure made ≡ spec.within (spec.straight_area (outline_of contour.now))) }
+    ensures { IfOk result (λ made. real_figure made.shape ≡ spec.straight_area (outline_of contour.now)) }
 {
     let points = points_of(alloc, contour.first, &contour.legs)?;
-    let shape = Shape::area_of(alloc, points)?;
-    Ok(Some(plain(shape)))
+    Ok(plain(Shape::area_of(alloc, points)?))
 }
 
-// What edges bound of which some are arcs, where each centre is within 1 m.
-fn curved_area(alloc: Global, contour: &Contour<Option<Bend>>) -> Result<Option<Anchored>, NoMemory>
-    ensures { IfOk result (λ made. option_figure made ≡ spec.within (spec.curved_area (outline_of contour.now))) }
+// What edges bound of which some are arcs.
+fn curved_area(alloc: Global, contour: &Contour<Option<Bend>>) -> Result<Anchored, NoMemory>
+    requires bends { All (λ leg. IsNearBend leg.bend) (outline_of contour.now).legs }
+    ensures { IfOk result (λ made. real_figure made.shape ≡ spec.curved_area (outline_of contour.now)) }
 {
     let parts = parts_of(alloc, &contour.legs)?;
-    let shape = RealShape::Region(Region {
-        start: contour.first,
-        parts,
-    });
-    if is_anchored(&shape) {
-        Ok(Some(Anchored { shape }))
-    } else {
-        Ok(None)
-    }
+    Ok(Anchored {
+        shape: RealShape::Region(Region {
+            start: contour.first,
+            parts,
+        }),
+    })
 }
 
-/// What a closed contour of three edges or more bounds, by even and odd, where each of its spots and centres is within 1 m.
-pub fn area_of(alloc: Global, contour: &Contour<Option<Bend>>) -> Result<Option<Anchored>, NoMemory>
+/// What a closed contour of three edges or more bounds, by even and odd.
+pub fn area_of(alloc: Global, contour: &Contour<Option<Bend>>) -> Result<Anchored, NoMemory>
     requires closed { IsClosedOutline (outline_of contour.now) }
-    ensures { IfOk result (λ made. option_figure made ≡ spec.within (spec.area_of (outline_of contour.now))) }
+    requires bends { All (λ leg. IsNearBend leg.bend) (outline_of contour.now).legs }
+    ensures { IfOk result (λ made. real_figure made.shape ≡ spec.area_of (outline_of contour.now)) }
 {
     if is_straight(&contour.legs) {
         straight_area(alloc, contour)

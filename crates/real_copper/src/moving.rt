@@ -1,9 +1,9 @@
 //! Figures moved by step and repeat (Gerber Layer Format Specification, 4.12).
 ghost use Rattle.board_shapes.specs.Figures.{figure_of};
-ghost use Rattle.board_shapes.specs.Moved.{IsShift, corners, shifted};
+ghost use Rattle.board_shapes.specs.Moved.{IsShift, corners, shifted, shifted_figure};
 ghost use Rattle.planar.specs.Plane.{IsPlaced, IsReachable, is_placed as has_place};
 ghost use Rattle.real_copper.specs.Figures as spec;
-ghost use Rattle.real_copper.specs.Figures.{RealFigure, arc, holed, is_half_placed, is_odd_placed, is_part_placed, is_real_placed, line, odd, polygon, real_edges, real_handling, region, shifted_odd, shifted_part, shifted_real, turned, turned_disc};
+ghost use Rattle.real_copper.specs.Figures.{RealFigure, arc, exact, holed, is_half_placed, is_odd_placed, is_part_placed, is_real_placed, line, odd, polygon, real_edges, real_handling, region, shifted_odd, shifted_part, shifted_real, turned, turned_disc};
 ghost use Rattle.real_copper.specs.Moving.{anchored_few, anchored_leaves};
 ghost use Rattle.real_copper.specs.Shapes.{real_figure};
 ghost use Rattle.std.specs.List.{list_all};
@@ -210,13 +210,23 @@ fn moved_holed(h: &HoledFigure, by: Way) -> HoledFigure
     }
 }
 
+fn moved_plain(alloc: Global, shape: &Shape, by: Way) -> Result<Shape, MoveFault>
+    ensures value { IfOk result (λ made. figure_of made ≡ shifted_figure by.x by.y (figure_of shape.now)) }
+    ensures fault { IfErr result (λ why. why ≡ MoveFault.OutOfRange → is_real_placed (shifted_real by.x by.y (exact (figure_of shape.now))) ≡ false) }
+{
+    shape.moved(alloc, by.x, by.y)
+}
+
 // The shape moved, wherever that is; of one that is taken exactly `OutOfRange` where it is over 1 m from 0.
 fn moved_shape(alloc: Global, f: &Anchored, by: Way) -> Result<RealShape, MoveFault>
     ensures value { IfOk result (λ made. real_figure made ≡ shifted_real by.x by.y (real_figure f.now.shape)) }
     ensures fault { IfErr result (λ why. why ≡ MoveFault.OutOfRange → is_real_placed (shifted_real by.x by.y (real_figure f.now.shape)) ≡ false) }
 {
     match &f.shape {
-        RealShape::Plain(shape) => Ok(RealShape::Plain(shape.moved(alloc, by.x, by.y)?)),
+        RealShape::Plain(shape) => match moved_plain(alloc, shape, by) {
+            Ok(shape) => Ok(RealShape::Plain(shape)),
+            Err(fault) => Err(fault),
+        },
         RealShape::ArcDraw(a) => Ok(RealShape::ArcDraw(moved_arc(a, by))),
         RealShape::Slanted(a) => Ok(RealShape::Slanted(moved_line(a, by))),
         RealShape::Region(area) => Ok(RealShape::Region(moved_region(alloc, area, by)?)),

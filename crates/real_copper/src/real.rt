@@ -12,6 +12,7 @@ use gerber_words::Word;
 use real_shapes::RealPiece;
 use std::alloc::Global;
 
+ghost use Rattle.real_copper.specs.Draws.{IsNearBend};
 ghost use Rattle.real_copper.specs.Figures.{RealFigure, real_handling};
 ghost use Rattle.real_copper.specs.Shapes.{real_figure};
 ghost use Rattle.real_copper.specs.Table.{fits, real};
@@ -35,6 +36,8 @@ impl Dialect for RealCopper {
     ghost handling = { real_handling };
 
     ghost Fits = { fits };
+
+    ghost Keeps = { IsNearBend };
 
     ghost dialect = { real };
 

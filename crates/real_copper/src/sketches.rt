@@ -1,6 +1,8 @@
 //! What primitives of macros flash (Gerber Layer Format Specification, 4.5.1).
 ghost use Rattle.aperture_macros.specs.Fine.{IsNearFine};
 ghost use Rattle.aperture_macros.specs.Images.{set_down};
+ghost use Rattle.aperture_macros.specs.Seen.{plain as plain_primitive};
+ghost use Rattle.aperture_macros.specs.Sized.{IsSized};
 ghost use Rattle.aperture_macros.specs.Sketches.{IsNear};
 ghost use Rattle.area_contact.specs.Contour.{IsClosed};
 ghost use Rattle.area_contact.specs.declared.TheConstants.{MOST_CONTOUR_POINTS};
@@ -249,37 +251,94 @@ fn odd_sketched(rotation: Rotation, at: Spot, fine: FineSketch) -> Result<Option
     }
 }
 
+// One of an odd size, if it has an image.
+fn odd_figure(
+    primitive: &Primitive,
+    parameters: &[Decimal],
+    unit: Unit,
+    turn: Turn,
+    at: Spot,
+) -> Result<Option<Anchored>, FigureFault>
+    requires placed { IsPlaced at }
+    ensures { Makes result (spec.odd_figure turn primitive.now.form primitive.now.lengths.now parameters.now unit at) }
+{
+    match primitive.fine(parameters, unit) {
+        Ok(Some(fine)) => odd_sketched(turn.quarters, at, fine),
+        Ok(None) => Ok(None),
+        Err(fault) => Err(FigureFault::Macro(fault)),
+    }
+}
+
+// What the points of an outline bound.
+fn outline_figure(
+    alloc: Global,
+    primitive: &Primitive,
+    edges: u32,
+    parameters: &[Decimal],
+    unit: Unit,
+    turn: Turn,
+    at: Spot,
+) -> Result<Option<Anchored>, FigureFault>
+    requires placed { IsPlaced at }
+    requires sized { IsSized (Form.Outline edges) }
+    ensures { Makes result (spec.outline_figure turn edges primitive.now.lengths.now parameters.now unit at) }
+{
+    let by = Placing {
+        rotation: turn.quarters,
+        at,
+    };
+    match primitive.points(alloc, edges, parameters, unit, by) {
+        Ok(points) => contour_turned(alloc, at, turn.rest, points),
+        Err(fault) => Err(fault),
+    }
+}
+
+// One of even sizes, if it has an image.
+fn even_figure(
+    alloc: Global,
+    primitive: &Primitive,
+    parameters: &[Decimal],
+    unit: Unit,
+    turn: Turn,
+    at: Spot,
+) -> Result<Option<Anchored>, FigureFault>
+    requires placed { IsPlaced at }
+    requires below { turn.rest < RIGHT_ANGLE }
+    ensures { Makes result (spec.even_figure turn primitive.now.form primitive.now.lengths.now parameters.now unit at) }
+{
+    if let Form::Outline(edges) = primitive.form {
+        return outline_figure(alloc, primitive, edges, parameters, unit, turn, at);
+    }
+    match primitive.sketch(parameters, unit) {
+        Ok(Some(sketch)) => sketched(alloc, turn, at, sketch),
+        Ok(None) => Ok(None),
+        Err(fault) => Err(FigureFault::Macro(fault)),
+    }
+}
+
 /// What a primitive of a macro flashes at a spot within 1 m of 0, with the parameters of an aperture in their unit: its figure about the
 /// origin of the macro, turned counterclockwise about it and moved to the spot. `None` where it has no image.
+///
+/// The fault of its rotation comes first, then that of its lengths, then `OutOfRange`, where an end, a corner or a middle is over 1 m from 0
+/// in x or y before the turn that quarter turns leave.
+#[tactic(auto, unfolding(crate::specs::Primitives::primitive_figure))]
 pub fn primitive_at(
     alloc: Global,
     primitive: &Primitive,
     parameters: &[Decimal],
     unit: Unit,
     at: Spot,
-) -> Result<Option<Anchored>, FigureFault> {
+) -> Result<Option<Anchored>, FigureFault>
+    requires placed { IsPlaced at }
+    ensures { Makes result (spec.primitive_figure (plain_primitive primitive.now) parameters.now unit at) }
+{
     let turn = match primitive.turned(parameters) {
         Ok(turn) => turn,
         Err(fault) => return Err(FigureFault::Macro(fault)),
     };
     if primitive.is_fine(parameters, unit) {
-        return match primitive.fine(parameters, unit) {
-            Ok(Some(fine)) => odd_sketched(turn.quarters, at, fine),
-            Ok(None) => Ok(None),
-            Err(fault) => Err(FigureFault::Macro(fault)),
-        };
-    }
-    if let Form::Outline(_) = primitive.form {
-        let by = Placing {
-            rotation: turn.quarters,
-            at,
-        };
-        let points = primitive.points(alloc, parameters, unit, by)?;
-        return contour_turned(alloc, at, turn.rest, points);
-    }
-    match primitive.sketch(parameters, unit) {
-        Ok(Some(sketch)) => sketched(alloc, turn, at, sketch),
-        Ok(None) => Ok(None),
-        Err(fault) => Err(FigureFault::Macro(fault)),
+        odd_figure(primitive, parameters, unit, turn, at)
+    } else {
+        even_figure(alloc, primitive, parameters, unit, turn, at)
     }
 }

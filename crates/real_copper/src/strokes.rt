@@ -9,6 +9,7 @@ ghost use Rattle.std.specs.Prelude.{◌≡◌};
 
 use crate::anchored::Anchored;
 use crate::draw::Bend;
+use crate::flashes::plain;
 use apertures::half;
 use arcs::Arc;
 use board_shapes::Shape;
@@ -17,6 +18,21 @@ use fine_figures::{FineFigure, FineStroke, doubled};
 use planar::Spot;
 use real_shapes::RealShape;
 
+// The stroke between two spots, in half u.
+fn odd_draw(from: Spot, to: Spot, pen: u64) -> Anchored
+    requires from { IsPlaced from }
+    requires to { IsPlaced to }
+    ensures { real_figure result.shape ≡ spec.odd_draw from to pen }
+{
+    Anchored {
+        shape: RealShape::Fine(FineFigure::Round(FineStroke {
+            a: doubled(from),
+            b: doubled(to),
+            r: pen,
+        })),
+    }
+}
+
 // The stroke between two spots with a pen of this diameter.
 fn straight_draw(from: Spot, to: Spot, pen: u64) -> Anchored
     requires from { IsPlaced from }
@@ -24,16 +40,11 @@ fn straight_draw(from: Spot, to: Spot, pen: u64) -> Anchored
     requires pen { IsNarrow pen }
     ensures { real_figure result.shape ≡ spec.straight_draw from to pen }
 {
-    let shape = if pen % 2 == 0 {
-        RealShape::Plain(Shape::Round(Capsule::new(from, to, half(pen))))
+    if pen % 2 == 0 {
+        plain(Shape::Round(Capsule::new(from, to, half(pen))))
     } else {
-        RealShape::Fine(FineFigure::Round(FineStroke {
-            a: doubled(from),
-            b: doubled(to),
-            r: pen,
-        }))
-    };
-    Anchored { shape }
+        odd_draw(from, to, pen)
+    }
 }
 
 fn arc_draw(bend: Bend, from: Spot, to: Spot, pen: u64) -> Anchored
