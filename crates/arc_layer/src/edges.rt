@@ -2,7 +2,7 @@
 ghost use Rattle.arc_layer.specs.Bends.{IsShort};
 ghost use Rattle.arc_layer.specs.Marks as spec;
 ghost use Rattle.arc_layer.specs.Marks.{IsShortMark, plain_mark};
-ghost use Rattle.gerber_layer.specs.Command.{view};
+ghost use Rattle.gerber_reading.specs.Command.{view};
 ghost use Rattle.gerber_layer.specs.Laws.{is_move};
 ghost use Rattle.gerber_reading.specs.declared.command.Code.TheVariants as codes;
 ghost use Rattle.std.specs.List.{list_any};

@@ -2,7 +2,7 @@
 ghost use Rattle.apertures.specs.Real.{real_aperture_at};
 ghost use Rattle.arc_layer.specs.Pens as spec;
 ghost use Rattle.arc_layer.specs.Words.{saying_of};
-ghost use Rattle.gerber_layer.specs.Command.{view};
+ghost use Rattle.gerber_reading.specs.Command.{view};
 ghost use Rattle.file_reading.specs.declared.halt.Halt.TheVariants as halt;
 ghost use Rattle.std.specs.HashMap.{get};
 ghost use Rattle.std.specs.Prelude.{◌≡◌, ℕ, nat_eq, IfErr, OnOk};

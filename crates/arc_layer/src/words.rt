@@ -1,8 +1,8 @@
 //! What a word says of arcs, and whether it begins a macro, or may define a hole or a fine aperture.
 ghost use Rattle.apertures.specs.Holes.{ends_number};
 ghost use Rattle.arc_layer.specs.Words as spec;
-ghost use Rattle.gerber_layer.specs.Command.{view};
-ghost use Rattle.gerber_layer.specs.Lawful.{IsLawfulCommand};
+ghost use Rattle.gerber_reading.specs.Command.{view};
+ghost use Rattle.gerber_reading.specs.Lawful.{IsLawfulCommand};
 ghost use Rattle.gerber_words.specs.Stepping.{entry_of};
 ghost use Rattle.gerber_words.specs.Words as words;
 ghost use Rattle.std.specs.Prelude.{◌≡◌, ◌≤◌, ◌==◌, ◌&&◌, not, true, length};

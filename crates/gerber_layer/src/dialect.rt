@@ -5,7 +5,7 @@ ghost use Rattle.step_repeat.specs.Figures.{shape_handling};
 ghost use Rattle.gerber_layer.specs.Layer.{standard};
 ghost use Rattle.gerber_layer.specs.MacroLayer.{loose, with_macros};
 ghost use Rattle.gerber_layer.specs.MacroReader.{any_halt};
-ghost use Rattle.gerber_layer.specs.Reader.{Fits};
+ghost use Rattle.gerber_layer.specs.Reader.{Fits, KeepsStraight};
 
 use crate::macro_kind::FlattenKind;
 use crate::macro_rows::{effect_loosely, effect_with_macros, has_few_radii, is_of_macros};
@@ -39,6 +39,8 @@ impl Dialect for Plain {
     ghost handling = { shape_handling };
 
     ghost Fits = { Fits };
+
+    ghost Keeps = { KeepsStraight };
 
     ghost dialect = { standard };
 
@@ -77,6 +79,8 @@ impl Dialect for WithMacros {
     ghost handling = { shape_handling };
 
     ghost Fits = { Fits };
+
+    ghost Keeps = { KeepsStraight };
 
     ghost dialect = { with_macros };
 
@@ -124,6 +128,8 @@ impl Dialect for Loose {
     ghost handling = { shape_handling };
 
     ghost Fits = { Fits };
+
+    ghost Keeps = { KeepsStraight };
 
     ghost dialect = { loose };
 

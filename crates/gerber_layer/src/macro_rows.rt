@@ -18,7 +18,7 @@ use crate::reader::{PlainReader, define, define_as, effect};
 use aperture_macros::{Copper, Primitive, read_body};
 use apertures::{ApertureFault, name_text, number, read_aperture, read_real_aperture};
 use file_reading::Halt;
-use gerber_reading::{Command, GerberKind, MOST_APERTURES, Tool, is_finish, parameters};
+use gerber_reading::{Command, GerberKind, MOST_APERTURES, Tool, is_finish, read_parameters};
 use lengths::decimal::{Decimal, Unit};
 use std::alloc::Global;
 use texts::{before_byte, is_word};
@@ -149,7 +149,7 @@ fn compose<'a>(reader: &PlainReader<'a>, alloc: Global, copper: Copper, text: &'
     let Some(body) = reader.dictionary.body(name) else {
         return Err(Halt::Fault(FlattenKind::NoMacro));
     };
-    let Ok(parameters) = parameters(alloc, word) else {
+    let Ok(parameters) = read_parameters(alloc, word) else {
         return Err(Halt::NoMemory);
     };
     let Some(parameters) = parameters else {

@@ -88,9 +88,7 @@ fn operate_at_once<'a>(
     perform_at_once(reader, alloc, code, to)?;
     reader.settings.at = to;
     reader.settings.last = Some(code);
-    if let Some(curve) = bending.curve {
-        reader.settings.curve = curve;
-    }
+    reader.settings.curve = bending.curve.unwrap_or(reader.settings.curve);
     reader.commands += 1;
     Ok(())
 }

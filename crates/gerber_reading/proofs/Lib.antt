@@ -1,5 +1,8 @@
 pub mod Bodies
 pub mod Bridge
+pub mod Coordinates
+pub mod Copies
+pub mod Edges
 pub mod OneAnswer
 pub mod Placing
 pub mod Prefixes

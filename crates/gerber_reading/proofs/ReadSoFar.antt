@@ -10,7 +10,7 @@ use Rattle.gerber_words.specs.Words.{Ahead, Entry, Stop, HasWords, start}
 use Rattle.gerber_words.specs.Items.{AreItems, word_item, stop_item, items_with}
 use Rattle.gerber_words.specs.Laws.{HasOneReadingAhead}
 use Rattle.gerber_reading.specs.Command.{Command}
-use Rattle.std.specs.Prelude.{IfErr, IfOk, IfSome, Some}
+use Rattle.std.specs.Prelude.{All, IfErr, IfOk, IfSome, Some}
 use Rattle.board_shapes.specs.declared.placed.Placed.{Placed}
 use Rattle.file_reading.specs.declared.halt.Halt.{Halt}
 use Rattle.file_reading.specs.declared.halt.Halt.TheVariants as halt
@@ -18,7 +18,7 @@ use Rattle.file_reading.specs.Faults.{stopped_at}
 use Rattle.file_reading.specs.declared.fault.FileFault.{FileFault}
 use Rattle.file_reading.specs.declared.fault.FileFault.TheVariants as fault
 use Rattle.gerber_reading.specs.declared.reader.Reader.{Reader}
-use Rattle.gerber_reading.specs.CommandEffects.{Place, Known, Effect, Profile}
+use Rattle.gerber_reading.specs.CommandEffects.{Outline, Place, Known, Effect, Profile}
 use Rattle.gerber_reading.specs.Settings.{settings_before, defined_before, macros_before}
 use Rattle.gerber_reading.specs.Image.{effect_by, image_by}
 use Rattle.gerber_reading.specs.Dialect.{Dialect, IsFaultBy, IsReadBy, IsRefusedBy, stop_command}
@@ -134,9 +134,10 @@ none-fits P None none = tt
 none-fits P (Some x) none = absurd (cc)
 
 -- a new reader is lawful, whatever its dialect
-pub new-lawful : {F G E A : Type 0} (plain : F → G) (h : Handling G) (fits : Macros → Tool A → Type 0) (p : Place) (r : Reader F E A) → IsSound r → r.room.pieces < 2 ^ 32 → ((n : ℕ) → kept_in r.dictionary n ≡ None) → r.edges ≡ 0 → IsNew p r → IsLawfulReader plain h fits r
-new-lawful plain h fits p r sound room kept edges n = record {
+pub new-lawful : {F G E A : Type 0} (plain : F → G) (h : Handling G) (fits : Macros → Tool A → Type 0) (keeps : E → Type 0) (p : Place) (r : Reader F E A) → IsSound r → r.room.pieces < 2 ^ 32 → ((n : ℕ) → kept_in r.dictionary n ≡ None) → r.edges ≡ 0 → IsNew p r → IsLawfulReader plain h fits keeps r
+new-lawful plain h fits keeps p r sound room kept edges n = record {
   sound = sound;
+  bends = none-fits (λ (o : Outline _). All (λ l. keeps l.bend) o.legs) (contour_of r.contour) n.contour;
   fit = λ m. none-fits (fits (macros_in r.dictionary)) (kept_in r.dictionary m) (kept m);
   counted = record { edges = rw (edges, n.pieces) refl; few_pieces = rw n.pieces (omega arith); room = room; start = rw (n.start, n.pieces) (omega arith) };
 }

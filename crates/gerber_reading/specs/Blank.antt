@@ -18,6 +18,10 @@ blank_row k other = Err NotEnded
 abbrev pub FitsBlank : Macros → Tool (Unit {0}) → Type 0
 FitsBlank m tool = Unit {0}
 
+-- and nothing of edges
+abbrev pub KeepsBlank : Unit {0} → Type 0
+KeepsBlank e = Unit {0}
+
 abbrev pub blank : Dialect Figure (Unit {0}) (Unit {0}) GerberKind
 blank = record {
   command = λ w. nothing;

@@ -22,8 +22,8 @@ abbrev pub bending_of : SeenBending → Bending
 bending_of b = record { curve = b.curve; i = option_map (λ t. t.now) b.i; j = option_map (λ t. t.now) b.j; more = b.more }
 
 -- that of an operation that says nothing of an arc
-abbrev pub unbent : Bending
-unbent = record { curve = None; i = None; j = None; more = false }
+abbrev pub no_bending : Bending
+no_bending = record { curve = None; i = None; j = None; more = false }
 
 -- a word of a copper file, read by itself; where the words stop, that they break off or that the file finishes
 pub data Command : Type 0 where

@@ -1,5 +1,5 @@
 -- What the reader keeps, and how it goes on.
-use Rattle.std.specs.Prelude.{◌≡◌, ℕ, ◌+◌, ◌^◌, ◌<◌, ◌≤◌, ◌==◌, Bool, true, false, if◌then◌else◌, List, [], ◌++◌, get_or, length, map, nat_eq, slice_get, Option, Some, None, option_map, Result, Ok, Err, IfSome, IsSomeAnd}
+use Rattle.std.specs.Prelude.{◌≡◌, All, ℕ, ◌+◌, ◌^◌, ◌<◌, ◌≤◌, ◌==◌, Bool, true, false, if◌then◌else◌, List, [], ◌++◌, get_or, length, map, nat_eq, slice_get, Option, Some, None, option_map, Result, Ok, Err, IfSome, IsSomeAnd}
 use Rattle.std.specs.HashMap.{get, get_by, hash_map_len}
 use Rattle.texts.specs.Words.{is_word}
 use Rattle.planar.specs.declared.Spot.{Spot}
@@ -151,10 +151,15 @@ pub record IsSound {F E A : Type 0} (r : Reader F E A) : Type 0 where
   pub settings : AreLawfulSettings r.settings
   pub layer : r.layer ≤ MOST_LAYERS
 
+-- what a dialect says of an edge holds of each of the contour
+abbrev pub AllKeep : {E : Type 0} → (E → Type 0) → Option (Outline E) → Type 0
+AllKeep keeps contour = IfSome contour (λ o. All (λ l. keeps l.bend) o.legs)
+
 -- what a reader keeps between two commands
-pub record IsLawfulReader {F G E A : Type 0} (plain : F → G) (h : Handling G) (fits : Macros → Given A → Type 0) (r : Reader F E A) : Type 0 where
+pub record IsLawfulReader {F G E A : Type 0} (plain : F → G) (h : Handling G) (fits : Macros → Given A → Type 0) (keeps : E → Type 0) (r : Reader F E A) : Type 0 where
   pub sound : IsSound r
   pub fit : AllFit fits r.dictionary
+  pub bends : AllKeep keeps (contour_of r.contour)
   pub counted : AreCounted plain h r
 
 -- The reader has carried an effect out. Its settings are as before.

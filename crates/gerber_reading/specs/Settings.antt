@@ -17,6 +17,7 @@ use Rattle.gerber_reading.specs.declared.command.Code.{Code}
 use Rattle.gerber_reading.specs.declared.command.Code.TheVariants.{Draw, Move}
 use Rattle.gerber_reading.specs.declared.command.Format.{Format}
 use Rattle.gerber_reading.specs.declared.settings.Settings.{Settings}
+use Rattle.regions.specs.Contours.{points_of}
 use Rattle.gerber_reading.specs.Tools.{Macros, Tool, begun, filled_up, tool_in}
 use Rattle.gerber_reading.specs.CommandEffects.{Leg, Meaning, Outline, code_of, coordinate, next_block}
 use Rattle.apertures.specs.declared.fault.ApertureFault.{ApertureFault}
@@ -150,6 +151,11 @@ settings_before earlier = record {
 abbrev pub lengthened : {E : Type 0} → Option (Outline E) → Spot → Spot → E → Option (Outline E)
 lengthened None from to e = Some (record { first = from; legs = record { to = to; bend = e } ∷ [] })
 lengthened (Some o) from to e = Some (record { first = o.first; legs = o.legs ++ record { to = to; bend = e } ∷ [] })
+
+-- where a contour begins and where each of its edges ends, or none
+abbrev pub spots_of : {E : Type 0} → Option (Outline E) → List Spot
+spots_of None = []
+spots_of (Some o) = points_of o
 
 -- behind an operation: in a region a `D01` adds an edge, and a `D02` ends the contour
 abbrev pub drawn : {E : Type 0} → Code → Bool → Option (Outline E) → Spot → Spot → E → Option (Outline E)

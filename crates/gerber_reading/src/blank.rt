@@ -1,7 +1,7 @@
 //! A dialect without copper: each word says nothing. It shows what a dialect gives.
 ghost use Rattle.board_shapes.specs.Figures.{Figure, figure_of};
 ghost use Rattle.step_repeat.specs.Figures.{shape_handling};
-ghost use Rattle.gerber_reading.specs.Blank.{FitsBlank, blank};
+ghost use Rattle.gerber_reading.specs.Blank.{FitsBlank, KeepsBlank, blank};
 
 use crate::command::Command;
 use crate::dialect::Dialect;
@@ -31,6 +31,8 @@ impl Dialect for Blank {
     ghost handling = { shape_handling };
 
     ghost Fits = { FitsBlank };
+
+    ghost Keeps = { KeepsBlank };
 
     ghost dialect = { blank };
 

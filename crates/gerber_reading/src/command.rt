@@ -31,11 +31,11 @@ pub struct Bending<'a> {
 
 impl<'a> Bending<'a> {
     ghost use Rattle.std.specs.Prelude.{◌≡◌};
-    ghost use Rattle.gerber_reading.specs.Command.{bending_of, unbent};
+    ghost use Rattle.gerber_reading.specs.Command.{bending_of, no_bending};
 
     /// Nothing of an arc.
     pub fn none() -> Bending<'a>
-        ensures { bending_of result ≡ unbent }
+        ensures { bending_of result ≡ no_bending }
     {
         Bending {
             curve: None,

@@ -40,6 +40,9 @@ pub trait Dialect {
     /// What is right of an aperture that is defined, where a file has these macros.
     ghost Fits: { Macros → Tool Self.Aperture → Type 0 };
 
+    /// What is right of an edge of a contour.
+    ghost Keeps: { Self.Edge → Type 0 };
+
     /// What a word says, and what a command does.
     ghost dialect: { spec.Dialect Plain Self.Edge Self.Aperture Self.Kind };
 
@@ -59,10 +62,10 @@ pub trait Dialect {
         alloc: Global,
         command: &Command<'a>,
     ) -> Result<(), Halt<Self::Kind>>
-        requires lawful { IsLawfulReader plain handling Fits reader.old }
+        requires lawful { IsLawfulReader plain handling Fits Keeps reader.old }
         requires command { IsLawfulCommand (view command.now) }
         requires few { reader.old.commands + 1 < 2 ^ 32 }
         ensures ok { OnOk result (Obeys plain reader.old (view command.now) (dialect.table.does (known_of plain reader.old) (view command.now)) reader.new) }
-        ensures lawful { OnOk result (IsLawfulReader plain handling Fits reader.new) }
+        ensures lawful { OnOk result (IsLawfulReader plain handling Fits Keeps reader.new) }
         ensures halt { IfErr result (Stops (dialect.table.does (known_of plain reader.old) (view command.now))) };
 }

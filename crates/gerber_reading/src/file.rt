@@ -25,11 +25,11 @@ fn obey_at<'a, D: Dialect>(
     command: &Command<'a>,
     at: usize,
 ) -> Result<(), FileFault<D::Kind>>
-    requires lawful { IsLawfulReader D.plain D.handling D.Fits reader.old }
+    requires lawful { IsLawfulReader D.plain D.handling D.Fits D.Keeps reader.old }
     requires command { IsLawfulCommand (view command.now) }
     requires few { reader.old.commands + 1 < 2 ^ 32 }
     ensures ok { OnOk result (Obeys D.plain reader.old (view command.now) (D.dialect.table.does (known_of D.plain reader.old) (view command.now)) reader.new) }
-    ensures lawful { OnOk result (IsLawfulReader D.plain D.handling D.Fits reader.new) }
+    ensures lawful { OnOk result (IsLawfulReader D.plain D.handling D.Fits D.Keeps reader.new) }
     ensures stops { IfErr result (StopsAt D.plain D.dialect.table reader.old (view command.now) at) }
 {
     let command_number = reader.commands + 1;
@@ -46,7 +46,7 @@ fn finished<'a, D: Dialect>(
     command: Command<'a>,
     at: usize,
 ) -> Result<Vec<Placed<D::Figure>>, FileFault<D::Kind>>
-    requires lawful { IsLawfulReader D.plain D.handling D.Fits reader }
+    requires lawful { IsLawfulReader D.plain D.handling D.Fits D.Keeps reader }
     requires command { IsLawfulCommand (view command) }
     requires few { reader.commands + 1 < 2 ^ 32 }
     ensures ok { IfOk result (λ pieces. Leaves D.plain D.dialect.table reader.entry (view command.entry) pieces.items) }

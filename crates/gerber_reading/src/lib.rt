@@ -29,7 +29,7 @@ pub use dialect::Dialect;
 pub use dictionary::Dictionary;
 pub use file::read_by;
 pub use kind::{GerberKind, LayerFault};
-pub use parameters::parameters;
+pub use parameters::read_parameters;
 pub use place::Place;
 pub use reader::{Reader, refused};
 pub use settings::{Curve, Quadrants, Settings};

@@ -37,7 +37,7 @@ fn decimals(alloc: Global, n: usize, text: &[u8]) -> Result<Option<Vec<Decimal>>
 
 /// The parameters of an aperture of a macro, where all are decimals.
 #[tactic(auto, unfolding(crate::specs::Tools::parameters_in))]
-pub fn parameters(alloc: Global, text: &[u8]) -> Result<Option<Vec<Decimal>>, NoMemory>
+pub fn read_parameters(alloc: Global, text: &[u8]) -> Result<Option<Vec<Decimal>>, NoMemory>
     ensures { IfOk result (λ ds. option_map (λ v. v.items) ds ≡ spec.parameters_in text.now) }
 {
     if !has(text, b',') {

@@ -232,6 +232,7 @@ impl<'a, F: Figure + Drop, E: Copy + Drop, A: Drop> Reader<'a, F, E, A> {
         requires here { IsPlaced self.old.settings.at }
         requires placed { IsPlaced to }
         ensures ok { OnOk result (Lengthens self.old to bend self.new) }
+        ensures counted { OnOk result (AreCounted F.plain F.handling self.new) }
         ensures room { OnOk result (spec.extend_by F.handling (known_of F.plain self.old) to bend ≡ Ok (spec.extends to bend)) }
         ensures halt { IfErr result (Stops (spec.extend_by F.handling (known_of F.plain self.old) to bend)) }
     {

@@ -2,15 +2,15 @@
 use Rattle.std.proofs.Common.{◌≡◌, ◌≤◌, Bool, true, false, cond, length, Ok, Err, refl, sym, ap, ◌∙◌, subst}
 use Rattle.std.proofs.lemmas.Bool.{ltb-false}
 use Rattle.std.specs.Prelude.{nat_lt}
-use Rattle.gerber_layer.specs.Command.{Command, repeats, opens_region, closes_region, operates, ends}
-use Rattle.gerber_layer.specs.declared.kind.GerberKind.TheVariants as kind
+use Rattle.gerber_reading.specs.Command.{Command, repeats, opens_region, closes_region, operates, ends}
+use Rattle.gerber_reading.specs.declared.kind.GerberKind.TheVariants as kind
 use Rattle.gerber_layer.specs.declared.macro_kind.FlattenKind.TheVariants.{Gerber, TooManyRadii}
 use Rattle.gerber_layer.specs.Radii.{radii_of}
 use Rattle.gerber_layer.specs.CommandEffects.{Known, Effect, Profile, ◌>>=◌, concludes, row, effect}
 use Rattle.gerber_layer.specs.MacroTable.{effect_with_macros, few_radii, gerber, macro_row, row_with_macros}
 use Rattle.gerber_layer.proofs.Outcome.{Outcome, bind_ok, outcome, past_test}
 use Rattle.gerber_layer.proofs.MacroOutcome.{outcome_with_macros, gerber_ok}
-use Rattle.gerber_layer.specs.declared.TheConstants.{MOST_APERTURES}
+use Rattle.gerber_reading.specs.declared.TheConstants.{MOST_APERTURES}
 
 -- the commands that make pieces or change the contour: both tables have one row for each
 abbrev pub IsShared : Command → Type 0

@@ -20,16 +20,16 @@ use Rattle.board_shapes.specs.Figures.{Figure, figure_edges}
 use Rattle.board_shapes.specs.Pieces.{PlainPiece}
 use Rattle.board_shapes.specs.Rectangles.{halved}
 use Rattle.file_reading.specs.Reading.{Clean, Item, said}
-use Rattle.gerber_layer.specs.Command.{Command, formats, counts_in, defines, selects, operates, ends, finishes}
+use Rattle.gerber_reading.specs.Command.{Command, formats, counts_in, defines, selects, operates, ends, finishes}
 use Rattle.gerber_layer.specs.CommandEffects.{Known, stays, performs, concludes, coordinate, define, draw, edges_for, edges_of, effect, ended_block, exceed, flash, flash_by, flash_with, operate, perform, room_for, row as row_of, selected, target}
-use Rattle.gerber_layer.specs.declared.place.Place.{Place}
+use Rattle.gerber_reading.specs.declared.place.Place.{Place}
 use Rattle.gerber_layer.specs.Image.{effect_before, image_by, known_before, made, pieces_of}
-use Rattle.gerber_layer.specs.Settings.{block_open, defined_before, format_before, has_ended, point_before, region_open, unit_before, x_before, y_before}
+use Rattle.gerber_reading.specs.Settings.{block_open, defined_before, format_before, has_ended, point_before, region_open, unit_before, x_before, y_before}
 use Rattle.gerber_layer.specs.Tools.{Tool, standard}
 use Rattle.gerber_layer.specs.WordCommands.{code_in, coded, command_of, extended as extended_row, format_of, format_word, from_i, is_number, is_numeric, operation_of, plain}
-use Rattle.gerber_layer.specs.declared.command.Code.{Code}
-use Rattle.gerber_layer.specs.declared.command.Code.TheVariants.{Draw, Move, Flash}
-use Rattle.gerber_layer.specs.declared.command.Format.{Format}
+use Rattle.gerber_reading.specs.declared.command.Code.{Code}
+use Rattle.gerber_reading.specs.declared.command.Code.TheVariants.{Draw, Move, Flash}
+use Rattle.gerber_reading.specs.declared.command.Format.{Format}
 use Rattle.gerber_words.specs.Attributes.{attribute_kind}
 use Rattle.lengths.proofs.GridLemmas.{Positions-is}
 use Rattle.lengths.specs.Decimal.{over_power, unsigned}

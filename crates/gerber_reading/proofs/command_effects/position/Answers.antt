@@ -1,6 +1,6 @@
 use Rattle.std.proofs.Common.{Ok, Err, sym, ◌∙◌}
-use Rattle.gerber_layer.proofs.Coordinates.{fault_named, placed}
-use Rattle.gerber_layer.proofs.command_effects.position.Goals as goal
+use Rattle.gerber_reading.proofs.Coordinates.{fault_named, placed}
+use Rattle.gerber_reading.proofs.command_effects.position.Goals as goal
 
 pub returns-in-Ok : goal.returns-in-Ok
 returns-in-Ok c = placed c.args.digits.now c.args.format.decimals c.args.unit (Ok c.in-Ok.len) c.in-Ok.ensures

@@ -13,7 +13,7 @@ loop-word-init g c =
     let none : c.new-reader.result.commands ≡ 0 = c.new-reader.ensures.new.counts in
     record {
       read = subst (λ (a : Ahead). ReadSoFar g.D.Dialect.plain g.D.Dialect.dialect c.args.file.now c.args.place a c.new-reader.result) (sym at_start) (nothing-read g.D.Dialect.plain g.D.Dialect.dialect c.args.file.now c.args.place c.new-reader.result c.new-reader.ensures.new);
-      lawful = new-lawful g.D.Dialect.plain g.D.Dialect.handling g.D.Dialect.Fits c.args.place c.new-reader.result c.new-reader.ensures.sound c.new-reader.ensures.room c.new-reader.ensures.kept c.new-reader.ensures.edges c.new-reader.ensures.new;
+      lawful = new-lawful g.D.Dialect.plain g.D.Dialect.handling g.D.Dialect.Fits g.D.Dialect.Keeps c.args.place c.new-reader.result c.new-reader.ensures.sound c.new-reader.ensures.room c.new-reader.ensures.kept c.new-reader.ensures.edges c.new-reader.ensures.new;
       few = omega (arith, size, none);
     }
 

@@ -1,7 +1,7 @@
 use Rattle.std.proofs.Common.{◌≡◌, ◌+◌, ◌-◌, ◌++◌, List, ℕ, option_map, subst, sym, ◌∙◌}
-use Rattle.gerber_layer.specs.Tools.{decimals_in}
-use Rattle.gerber_layer.proofs.Bodies.{none_more, one_decimal}
-use Rattle.gerber_layer.proofs.parameters.decimals.Goals as goal
+use Rattle.gerber_reading.specs.Tools.{decimals_in}
+use Rattle.gerber_reading.proofs.Bodies.{none_more, one_decimal}
+use Rattle.gerber_reading.proofs.parameters.decimals.Goals as goal
 
 pub returns-in_default : goal.returns-in_default
 returns-in_default c =

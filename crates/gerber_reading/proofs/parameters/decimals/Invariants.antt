@@ -1,7 +1,7 @@
 use Rattle.std.proofs.Common.{◌≡◌, ◌++◌, ◌-◌}
 use Rattle.std.specs.Prelude.{option_map}
-use Rattle.gerber_layer.specs.Tools.{decimals_in}
-use Rattle.gerber_layer.proofs.parameters.decimals.Given as goal
+use Rattle.gerber_reading.specs.Tools.{decimals_in}
+use Rattle.gerber_reading.proofs.parameters.decimals.Given as goal
 
 -- the decimals so far, with those that remain, are all
 abbrev pub invariant-loop : goal.invariant-loop
