@@ -17,7 +17,7 @@ use aperture_macros::{Copper, Primitive, read_body};
 use apertures::{ApertureFault, name_text, number};
 use file_reading::Halt;
 use gerber_layer::FlattenKind;
-use gerber_reading::{GerberKind, Tool, parameters};
+use gerber_reading::{GerberKind, Tool, read_parameters};
 use lengths::decimal::{Decimal, Unit};
 use std::alloc::Global;
 use texts::{before_byte, is_word};
@@ -132,7 +132,7 @@ fn compose<'a>(
     let Some(body) = reader.dictionary.body(name) else {
         return Err(flattened(FlattenKind::NoMacro));
     };
-    let Ok(given) = parameters(alloc, word) else {
+    let Ok(given) = read_parameters(alloc, word) else {
         return Err(Halt::NoMemory);
     };
     let Some(given) = given else {
