@@ -6,7 +6,7 @@ use Rattle.planar.specs.declared.Spot.{Spot}
 use Rattle.board_shapes.specs.Figures.{filled}
 use Rattle.arc_regions.specs.declared.Part.{Part}
 use Rattle.arc_regions.specs.declared.Part.TheVariants.{Straight, Curved}
-use Rattle.gerber_reading.specs.CommandEffects.{Leg, Outline}
+use Rattle.regions.specs.Contours.{Leg, Outline}
 use Rattle.real_copper.specs.Figures.{RealFigure, exact, region}
 use Rattle.real_copper.specs.declared.draw.Bend.{Bend}
 

@@ -105,8 +105,8 @@ odd_sketched turn at None = Ok None
 odd_sketched turn at (Some f) = within (odd_sketch_at turn.quarters at f)
 
 -- of an odd size
-abbrev pub odd_figure : Turn → Form → List ℕ → List Fraction → Measure → Spot → Result (Option RealFigure) MacroFault
-odd_figure turn form text parameters unit at = fine_at form text parameters unit >>= λ f. odd_sketched turn at f
+abbrev pub odd_primitive : Turn → Form → List ℕ → List Fraction → Measure → Spot → Result (Option RealFigure) MacroFault
+odd_primitive turn form text parameters unit at = fine_at form text parameters unit >>= λ f. odd_sketched turn at f
 
 -- of even sizes: what the points of an outline bound, or its sketch
 abbrev pub outline_figure : Turn → ℕ → List ℕ → List Fraction → Measure → Spot → Result (Option RealFigure) MacroFault
@@ -120,5 +120,5 @@ even_figure turn form text parameters unit at = sketch_of form text parameters u
 unfoldable pub primitive_figure : PlainPrimitive → List Fraction → Measure → Spot → Result (Option RealFigure) MacroFault
 primitive_figure p parameters unit at =
     turn_of p parameters >>= λ turn.
-    (if is_fine p.rotation p.form p.lengths parameters unit then odd_figure turn p.form p.lengths parameters unit at
+    (if is_fine p.rotation p.form p.lengths parameters unit then odd_primitive turn p.form p.lengths parameters unit at
     else even_figure turn p.form p.lengths parameters unit at)

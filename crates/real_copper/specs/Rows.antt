@@ -11,11 +11,12 @@ use Rattle.area_contact.specs.declared.TheConstants.{MOST_CONTOUR_EDGES}
 use Rattle.board_shapes.specs.Pieces.{PieceOf}
 use Rattle.file_reading.specs.Conditions.{◌>>=◌, unless, needed}
 use Rattle.gerber_reading.specs.Command.{Bending}
-use Rattle.gerber_reading.specs.CommandEffects.{Effect, Known, Outline, closes, code_of, concludes, edges_for, edges_in, ended_block_by, exceed, extends, is_drawing, leaves, listed, next_block, performs, room_for, room_for_all, selected, steps, target}
+use Rattle.gerber_reading.specs.CommandEffects.{Effect, Known, closes, code_of, concludes, edges_for, edges_in, ended_block_by, exceed, extends, is_drawing, leaves, listed, next_block, performs, room_for, room_for_all, selected, steps, target}
 use Rattle.gerber_reading.specs.Tools.{Tool, composed, macro_named, standard}
 use Rattle.gerber_reading.specs.declared.command.Code.{Code}
 use Rattle.gerber_reading.specs.declared.command.Code.TheVariants.{Draw, Move, Flash}
 use Rattle.gerber_reading.specs.declared.kind.GerberKind.TheVariants as kind
+use Rattle.regions.specs.Contours.{Outline}
 use Rattle.lengths.specs.Decimal.{Fraction}
 use Rattle.lengths.specs.declared.decimal.Unit.{Unit as Measure}
 use Rattle.real_copper.specs.Apertures.{pen_of}

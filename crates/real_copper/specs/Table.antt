@@ -17,11 +17,12 @@ use Rattle.file_reading.specs.declared.fault.FileFault.{FileFault}
 use Rattle.gerber_layer.specs.MacroTable.{is_reserved, kind_of_macro}
 use Rattle.gerber_layer.specs.declared.macro_kind.FlattenKind.TheVariants.{BadMacro, MacroTwice, NoMacro}
 use Rattle.gerber_reading.specs.Command.{Command, body_word, breaks, closes_region, counts_in, curves, defines, ends, finishes, formats, functions, names_macro, nothing, opens_region, operates, quarters, refused, repeats, selects}
-use Rattle.gerber_reading.specs.CommandEffects.{Place, Profile, begins_macro, code_of, define_as, fills_macro, is_finish, is_of_layer, kind_of_aperture, kind_of_word, makes, opens, other_format, stays, target}
+use Rattle.gerber_reading.specs.CommandEffects.{Profile, begins_macro, code_of, define_as, fills_macro, is_finish, is_of_layer, kind_of_aperture, kind_of_word, makes, opens, other_format, stays, target}
 use Rattle.gerber_reading.specs.Dialect.{Dialect, HasOneAnswerBy, IsFaultBy, IsReadBy, IsRefusedBy}
 use Rattle.gerber_reading.specs.Tools.{Macros, composed, has_room, macro_named, parameters_in}
 use Rattle.gerber_reading.specs.declared.TheConstants.{MOST_APERTURES}
 use Rattle.gerber_reading.specs.declared.kind.GerberKind.TheVariants as kind
+use Rattle.gerber_reading.specs.declared.place.Place.{Place}
 use Rattle.gerber_reading.specs.declared.settings.Settings.{Settings}
 use Rattle.gerber_reading.specs.declared.tool.Tool.{Tool as Given}
 use Rattle.gerber_reading.specs.declared.tool.Tool.TheVariants as given

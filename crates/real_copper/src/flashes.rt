@@ -8,7 +8,7 @@ ghost use Rattle.real_copper.specs.Figures.{exact, real_edges};
 ghost use Rattle.real_copper.specs.Flashed.{Flashes};
 ghost use Rattle.real_copper.specs.Flashes as spec;
 ghost use Rattle.real_copper.specs.Shapes.{real_figure};
-ghost use Rattle.std.specs.Prelude.{IfOk, IfErr, ◌≡◌, ◌≤◌, ◌<◌, ◌^◌, ◌*◌};
+ghost use Rattle.std.specs.Prelude.{IfOk, IfErr, pos, ◌≡◌, ◌≤◌, ◌<◌, ◌^◌, ◌*◌};
 
 use crate::anchored::Anchored;
 use crate::aperture::{OddForm, RealAperture};
@@ -32,6 +32,13 @@ pub fn plain(shape: Shape) -> Anchored
     }
 }
 
+fn way(n: u64) -> i64
+    requires { n ≤ 4 * METRE }
+    ensures { result ≡ pos n }
+{
+    n as i64
+}
+
 // In half u, the spots so far to the left of and below a spot, and to the right of and above it.
 fn around(middle: Spot, w: u64, h: u64) -> (Spot, Spot)
     requires placed { IsPlaced middle }
@@ -40,8 +47,8 @@ fn around(middle: Spot, w: u64, h: u64) -> (Spot, Spot)
     ensures low { result.0 ≡ spec.half_below middle w h }
     ensures high { result.1 ≡ spec.half_above middle w h }
 {
-    let across = w as i64;
-    let up = h as i64;
+    let across = way(w);
+    let up = way(h);
     let low = Spot {
         x: middle.x + middle.x - across,
         y: middle.y + middle.y - up,

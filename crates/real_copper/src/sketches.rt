@@ -260,7 +260,7 @@ fn odd_figure(
     at: Spot,
 ) -> Result<Option<Anchored>, FigureFault>
     requires placed { IsPlaced at }
-    ensures { Makes result (spec.odd_figure turn primitive.now.form primitive.now.lengths.now parameters.now unit at) }
+    ensures { Makes result (spec.odd_primitive turn primitive.now.form primitive.now.lengths.now parameters.now unit at) }
 {
     match primitive.fine(parameters, unit) {
         Ok(Some(fine)) => odd_sketched(turn.quarters, at, fine),
