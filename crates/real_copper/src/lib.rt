@@ -14,6 +14,7 @@ mod draw;
 mod drawing;
 mod flashes;
 mod kind;
+pub mod laws;
 mod moving;
 mod obeying;
 mod real;
