@@ -1,3 +1,4 @@
 pub mod Near
 pub mod Numbers
+pub mod Straight
 pub mod Sums

@@ -6,10 +6,9 @@ use Rattle.std.specs.Str.Parse.{digits_value}
 use Rattle.texts.specs.Words.{is_word}
 use Rattle.contact.specs.declared.TheConstants.{MOST_DIAMETER}
 use Rattle.planar.specs.declared.TheConstants.{METRE}
-use Rattle.lengths.specs.Decimal.{is_decimal, fraction}
-use Rattle.lengths.specs.Grid.{position_of}
 use Rattle.lengths.specs.declared.decimal.Unit.{Unit as Measure}
-use Rattle.apertures.specs.Definition.{◌>>=◌, aperture_at, as_fault, is_comma, is_x, last_behind, name_of, name_text, number_digits}
+use Rattle.apertures.specs.Definition.{◌>>=◌, aperture_at, is_comma, is_x, last_behind, name_of, name_text, number_digits}
+use Rattle.apertures.specs.Fine.{whole_at}
 use Rattle.apertures.specs.Flash.{IsLawful as IsExact, IsNarrow, pen_of as exact_pen}
 use Rattle.apertures.specs.declared.aperture.Aperture.{Aperture}
 use Rattle.apertures.specs.declared.fault.ApertureFault.{ApertureFault}
@@ -25,7 +24,7 @@ abbrev pub as_size : ℤ → Result ℕ ApertureFault
 as_size u = if int_lt (pos 0) u then Ok (unsigned_abs u) else Err fault.OutOfRange
 
 unfoldable pub size_at : List ℕ → Measure → Result ℕ ApertureFault
-size_at text unit = if is_decimal text then (as_fault (position_of (fraction text) unit) >>= as_size) else Err fault.BadText
+size_at text unit = whole_at text unit >>= as_size
 
 -- two sizes with an `X` between them
 unfoldable pub sizes_at : List ℕ → Measure → Result TwoSizes ApertureFault
@@ -93,10 +92,12 @@ unfoldable pub ring_at : List ℕ → Measure → Result RealAperture ApertureFa
 ring_at text unit = last_behind is_x text >>= λ _. sizes_at text unit >>= λ s. with_hole (form.Circle s.x) s.y
 
 -- a rectangle or an obround by both sizes and the diameter of the hole
+unfoldable pub frame_behind : Bool → ℕ → List ℕ → Measure → Result RealAperture ApertureFault
+frame_behind square x text unit = sizes_at text unit >>= λ s. with_hole (sided square x s.x) s.y
+
 unfoldable pub frame_at : Bool → List ℕ → Measure → Result RealAperture ApertureFault
 frame_at square text unit =
-    last_behind is_x (after_first is_x text) >>= λ _. size_at (before_first is_x text) unit >>= λ x. sizes_at (after_first is_x text) unit >>= λ s.
-    with_hole (sided square x s.x) s.y
+    last_behind is_x (after_first is_x text) >>= λ _. size_at (before_first is_x text) unit >>= λ x. frame_behind square x (after_first is_x text) unit
 
 unfoldable pub holed_by : List ℕ → List ℕ → Measure → Result RealAperture ApertureFault
 holed_by word text unit = if is_named (codes "C") word then ring_at text unit else frame_at (is_named (codes "R") word) text unit

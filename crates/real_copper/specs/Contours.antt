@@ -25,8 +25,11 @@ abbrev pub is_straight : List Edge → Bool
 is_straight edges = list_all (λ (e : Edge). is_none e.bend) edges
 
 -- What a contour bounds by even and odd (4.10): without arcs an area, with arcs a region of its edges.
+abbrev pub end_of_edge : Edge → Spot
+end_of_edge e = e.to
+
 abbrev pub straight_area : Outline (Option Bend) → RealFigure
-straight_area o = exact (filled (o.first ∷ map (λ (e : Edge). e.to) o.legs))
+straight_area o = exact (filled (o.first ∷ map end_of_edge o.legs))
 
 abbrev pub curved_area : Outline (Option Bend) → RealFigure
 curved_area o = region o.first (map part_of o.legs)

@@ -4,7 +4,8 @@ ghost use Rattle.real_copper.specs.Contours as spec;
 ghost use Rattle.real_copper.specs.Contours.{IsClosedOutline};
 ghost use Rattle.real_copper.specs.Draws.{IsNearBend};
 ghost use Rattle.real_copper.specs.Shapes.{real_figure};
-ghost use Rattle.std.specs.Prelude.{All, IfOk, map, ◌∷◌, ◌≡◌};
+ghost use Rattle.std.specs.List.{list_all};
+ghost use Rattle.std.specs.Prelude.{All, IfOk, is_none, map, ◌∷◌, ◌≡◌};
 
 use crate::anchored::Anchored;
 use crate::draw::Bend;
@@ -49,7 +50,7 @@ fn parts_of(alloc: Global, edges: &[Edge]) -> Result<Vec<Part>, NoMemory>
 
 // Where a contour begins, and where each edge ends.
 fn points_of(alloc: Global, first: Spot, edges: &[Edge]) -> Result<Vec<Spot>, NoMemory>
-    ensures { IfOk result (λ points. points.items ≡ first ∷ map (λ l. l.to) (map leg_of edges.now)) }
+    ensures { IfOk result (λ points. points.items ≡ first ∷ map spec.end_of_edge (map leg_of edges.now)) }
 {
     let mut points = Vec::new(alloc);
     if let Err(_) = points.push(first) {
@@ -63,10 +64,16 @@ fn points_of(alloc: Global, first: Spot, edges: &[Edge]) -> Result<Vec<Spot>, No
     Ok(points)
 }
 
+fn are_straight(edges: &[Edge]) -> bool
+    ensures { result ≡ list_all (λ e. is_none e.bend) edges.now }
+{
+    edges.iter().all(|edge| edge.bend.is_none())
+}
+
 fn is_straight(edges: &[Edge]) -> bool
     ensures { result ≡ spec.is_straight (map leg_of edges.now) }
 {
-    edges.iter().all(|edge| edge.bend.is_none())
+    are_straight(edges)
 }
 
 // What straight edges bound.

@@ -1,5 +1,7 @@
 //! How an aperture's definition is read in real copper.
+ghost use Rattle.apertures.specs.Fine.{whole_at};
 ghost use Rattle.apertures.specs.Flash.{IsNarrow};
+ghost use Rattle.planar.specs.Plane.{IsReached};
 ghost use Rattle.real_copper.specs.Apertures as spec;
 ghost use Rattle.real_copper.specs.Apertures.{AreSizes, IsLawful, IsSize};
 ghost use Rattle.std.specs.Prelude.{codes, false, IfOk, IfSome, IsTrue, ◌≡◌, ◌≤◌};
@@ -10,22 +12,29 @@ use contact::MOST_DIAMETER;
 use lengths::decimal::{Unit, read_decimal};
 use texts::{after_byte, before_byte, is_word};
 
+// The whole number of u that a parameter is.
+#[tactic(auto, unfolding(apertures::specs::Fine::whole_at))]
+fn whole(text: &[u8], unit: Unit) -> Result<i64, ApertureFault>
+    ensures value { result ≡ whole_at text.now unit }
+    ensures reached { IfOk result IsReached }
+{
+    let Some(decimal) = read_decimal(text) else {
+        return Err(ApertureFault::BadText);
+    };
+    match decimal.position(unit) {
+        Ok(len) => Ok(len.u()),
+        Err(fault) => Err(fault.choose(ApertureFault::OffGrid, ApertureFault::OutOfRange)),
+    }
+}
+
 // A size over 0 and at most 1 m, even or odd.
 #[tactic(auto, unfolding(crate::specs::Apertures::size_at))]
 fn size(text: &[u8], unit: Unit) -> Result<u64, ApertureFault>
     ensures value { result ≡ spec.size_at text.now unit }
     ensures size { IfOk result IsSize }
 {
-    let Some(decimal) = read_decimal(text) else {
-        return Err(ApertureFault::BadText);
-    };
-    let u = match decimal.position(unit) {
-        Ok(len) => len.u(),
-        Err(fault) => {
-            return Err(fault.choose(ApertureFault::OffGrid, ApertureFault::OutOfRange));
-        },
-    };
-    if u > 0 {
+    let u = whole(text, unit)?;
+    if 0 < u {
         Ok(u.unsigned_abs())
     } else {
         Err(ApertureFault::OutOfRange)
@@ -208,7 +217,22 @@ fn frame(square: bool, text: &[u8], unit: Unit) -> Result<RealAperture, Aperture
     let rest = after_byte(text, b'X');
     last_behind(rest, b'X')?;
     let x = size(before_byte(text, b'X'), unit)?;
-    let sizes = sizes(rest, unit)?;
+    frame_behind(square, x, rest, unit)
+}
+
+// A rectangle or an obround by its first size, and what stands behind that.
+#[tactic(auto, unfolding(crate::specs::Apertures::frame_behind))]
+fn frame_behind(
+    square: bool,
+    x: u64,
+    text: &[u8],
+    unit: Unit,
+) -> Result<RealAperture, ApertureFault>
+    requires x { IsSize x }
+    ensures value { result ≡ spec.frame_behind square x text.now unit }
+    ensures lawful { IfOk result IsLawful }
+{
+    let sizes = sizes(text, unit)?;
     with_hole(sided(square, x, sizes.x), sizes.y)
 }
 
