@@ -1,3 +1,4 @@
+pub mod Edges
 pub mod Near
 pub mod Numbers
 pub mod Straight

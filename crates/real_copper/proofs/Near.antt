@@ -14,7 +14,7 @@ use Rattle.fine_figures.specs.Taken.{doubled}
 use Rattle.step_repeat.specs.Shifting.{shape_few}
 use Rattle.real_copper.specs.Figures.{exact, is_half_placed, is_real_placed, real_edges}
 
-placed_is : (p : Spot) → IsPlaced p → is_placed p ≡ true
+pub placed_is : (p : Spot) → IsPlaced p → is_placed p ≡ true
 placed_is p h = grind (arith, nat_tests, ints)
 
 all_is : (ps : List Spot) → All IsPlaced ps → list_all is_placed ps ≡ true

@@ -70,12 +70,19 @@ idle text =
     else (if is_word text (codes "G01") || is_word text (codes "G1") then curves Line
     else nothing))
 
--- a word that is this command where there are no arcs
+-- a word that is refused as an arc where there are none
+abbrev pub is_bent : Command → Bool
+is_bent (refused kind.Arc) = true
+is_bent other = false
+
+-- a word that is this command also where there are no arcs
+unfoldable pub unbent : Command → List ℕ → Command
+unbent nothing text = idle text
+unbent (operates x y code b) text = operates x y code (bending (curve_in text) [])
+unbent other text = other
+
 unfoldable pub bent : Command → List ℕ → Command
-bent nothing text = idle text
-bent (operates x y code b) text = operates x y code (bending (curve_in text) [])
-bent (refused kind.Arc) text = coded text
-bent other text = other
+bent c text = if is_bent c then coded text else unbent c text
 
 -- the command that a word is
 abbrev pub real_command : Entry → Command

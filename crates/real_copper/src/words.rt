@@ -144,17 +144,38 @@ fn idle(text: &[u8]) -> Command<'_>
     }
 }
 
-// A word that is this command where there are no arcs.
-#[tactic(auto, unfolding(crate::specs::Words::bent))]
-fn bent<'a>(command: Command<'a>, text: &'a [u8]) -> Command<'a>
-    ensures value { view result ≡ spec.bent (view command.entry) text.now }
+// Whether a word is refused as an arc where there are none.
+fn is_bent(command: &Command) -> bool
+    ensures { result ≡ spec.is_bent (view command.now) }
+{
+    matches!(command, Command::Refused(GerberKind::Arc))
+}
+
+// A word that is this command also where there are no arcs.
+#[tactic(auto, unfolding(crate::specs::Words::unbent))]
+fn unbent<'a>(command: Command<'a>, text: &'a [u8]) -> Command<'a>
+    requires { IsLawfulCommand (view command) }
+    ensures value { view result ≡ spec.unbent (view command.entry) text.now }
     ensures lawful { IsLawfulCommand (view result) }
 {
     match command {
         Command::Nothing => idle(text),
         Command::Operate(x, y, code, _) => Command::Operate(x, y, code, bending(curve_in(text), b"")),
-        Command::Refused(GerberKind::Arc) => coded(text),
         other => other,
+    }
+}
+
+// A word that is this command where there are no arcs.
+#[tactic(auto, unfolding(crate::specs::Words::bent))]
+fn bent<'a>(command: Command<'a>, text: &'a [u8]) -> Command<'a>
+    requires { IsLawfulCommand (view command) }
+    ensures value { view result ≡ spec.bent (view command.entry) text.now }
+    ensures lawful { IsLawfulCommand (view result) }
+{
+    if is_bent(&command) {
+        coded(text)
+    } else {
+        unbent(command, text)
     }
 }
 
