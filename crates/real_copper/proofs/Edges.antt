@@ -38,19 +38,13 @@ ends_as p (e ∷ es) = ends_as e.to es
 pub closed_points : (first : Spot) (es : List Edge) (points : List Spot) → points ≡ first ∷ map end_of_edge es → same_spot (end_of first es) first ≡ true → IsClosed points
 closed_points first es points e h = rw e (ends_as first es ∙ spot_is (end_of first es) first h)
 
-all_ends : (ls : List (Seen (Option Bend))) → All (λ (l : Seen (Option Bend)). IsPlaced l.to) ls → All IsPlaced (map end_of_edge (map leg_of ls))
-all_ends [] h = λ k d below. absurd (omega arith)
-all_ends (l ∷ ls) h = λ k. by k
-  where
-    more : All IsPlaced (map end_of_edge (map leg_of ls))
-    more = all_ends ls (λ i d below. h (suc i) d (omega arith))
-    by : (k : ℕ) (d : Spot) → k < length (l.to ∷ map end_of_edge (map leg_of ls)) → IsPlaced (slice_index_or (l.to ∷ map end_of_edge (map leg_of ls)) k d)
-    by zero d below = h 0 l (omega arith)
-    by (suc k) d below = more k d (omega arith)
-
 all_first : (p : Spot) (ps : List Spot) → IsPlaced p → All IsPlaced ps → (k : ℕ) (d : Spot) → k < length (p ∷ ps) → IsPlaced (slice_index_or (p ∷ ps) k d)
 all_first p ps h more zero d below = h
 all_first p ps h more (suc k) d below = more k d (omega arith)
+
+all_ends : (ls : List (Seen (Option Bend))) → All (λ (l : Seen (Option Bend)). IsPlaced l.to) ls → All IsPlaced (map end_of_edge (map leg_of ls))
+all_ends [] h = λ k d below. absurd (omega arith)
+all_ends (l ∷ ls) h = all_first l.to (map end_of_edge (map leg_of ls)) (h 0 l (omega arith)) (all_ends ls (λ i d below. h (suc i) d (omega arith)))
 
 pub placed_points : (first : Spot) (ls : List (Seen (Option Bend))) (points : List Spot) → points ≡ first ∷ map end_of_edge (map leg_of ls) → IsPlaced first → All (λ (l : Seen (Option Bend)). IsPlaced l.to) ls → All IsPlaced points
 placed_points first ls points e h k = rw e (all_first first (map end_of_edge (map leg_of ls)) h (all_ends ls k))

@@ -8,6 +8,7 @@ invariant_of-result c =
     let edges = c.args.contour.now.legs.items in
     let first = placed_is c.args.contour.now.first c.args.contour.now.begun in
     let more = parts_near edges c.args.contour.now.placed c.requires.bends in
-    let many = as_many edges c.in_ok-parts.parts.items c.in_ok-parts.ensures in
+    let are = rw c.deref.ensures.value at c.in_ok-parts.ensures in
+    let many = as_many edges c.in_ok-parts.parts.items are in
     let few = c.args.contour.now.few in
-    record { near = rw (c.in_ok-parts.ensures, first, more) refl; few = omega (arith, many, few) }
+    record { near = rw (are, first, more) refl; few = omega (arith, many, few) }
