@@ -23,7 +23,10 @@ use Rattle.gerber_reading.specs.declared.kind.GerberKind.TheVariants as kind
 use Rattle.gerber_reading.specs.declared.command.Code.{Code}
 use Rattle.gerber_reading.specs.declared.command.Code.TheVariants.{Draw, Move, Flash}
 use Rattle.gerber_reading.specs.CommandEffects as reading
-pub use Rattle.gerber_reading.specs.CommandEffects.{◌>>=◌, unless, needed, Place, Meaning, Outline, stays, makes, begins_macro, fills_macro, performs, extends, closes, opens, leaves, steps, concludes, kind_of_aperture, kind_of_word, other_format, read, define_as, define_by, code_of, is_drawing, gridded, coordinate, target, lookup, selected, room_for, room_or, edges_in, listed, kind_of_repeat, as_repeat, next_block, kind_of_copy, as_copies, layer_text, is_of_layer, is_finish}
+pub use Rattle.gerber_reading.specs.CommandEffects.{Meaning, stays, makes, begins_macro, fills_macro, performs, extends, closes, opens, leaves, steps, concludes, kind_of_aperture, kind_of_word, other_format, read, define_as, define_by, code_of, is_drawing, gridded, coordinate, target, lookup, selected, room_for, room_or, edges_in, listed, kind_of_repeat, as_repeat, next_block, kind_of_copy, as_copies, layer_text, is_of_layer, is_finish}
+pub use Rattle.file_reading.specs.Conditions.{◌>>=◌, unless, needed}
+pub use Rattle.gerber_reading.specs.declared.place.Place.{Place}
+pub use Rattle.regions.specs.Contours.{Outline}
 use Rattle.gerber_layer.specs.Tools.{Tool, standard, composed, macro_named, pen_with}
 
 -- what is known before a command, and what it does, where pieces are figures of shapes, an edge keeps nothing beside its end, and apertures

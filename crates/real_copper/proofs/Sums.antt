@@ -15,10 +15,10 @@ wrapped z = to_z w64 (of_z w64 z)
 
 -- ---- twice a coordinate, and a length
 
-pub twice_less : (a b : ℤ) (n : ℕ) → IsReached a → b ≡ pos n → n ≤ 4 * METRE → wrapped (wrapped (wrapped a +ℤ wrapped a) -ℤ wrapped b) ≡ (a +ℤ a -ℤ pos n)
+pub twice_less : (a b : ℤ) (n : ℕ) → IsWithin (4 * METRE) a → b ≡ pos n → n ≤ 4 * METRE → wrapped (wrapped (wrapped a +ℤ wrapped a) -ℤ wrapped b) ≡ (a +ℤ a -ℤ pos n)
 twice_less a b n h is most = rw is (omega (arith, ints, h, most))
 
-pub twice_more : (a b : ℤ) (n : ℕ) → IsReached a → b ≡ pos n → n ≤ 4 * METRE → wrapped (wrapped (wrapped a +ℤ wrapped a) +ℤ wrapped b) ≡ (a +ℤ a +ℤ pos n)
+pub twice_more : (a b : ℤ) (n : ℕ) → IsWithin (4 * METRE) a → b ≡ pos n → n ≤ 4 * METRE → wrapped (wrapped (wrapped a +ℤ wrapped a) +ℤ wrapped b) ≡ (a +ℤ a +ℤ pos n)
 twice_more a b n h is most = rw is (omega (arith, ints, h, most))
 
 -- ---- a coordinate in half u, and twice a way

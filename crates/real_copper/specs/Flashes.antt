@@ -1,6 +1,8 @@
 -- What an aperture of real copper flashes at a spot (Gerber Layer Format Specification, 4.4).
-use Rattle.std.specs.Prelude.{ℕ, ◌+◌, ◌-◌, ◌/◌, Bool, false, nat_lt, if◌then◌else◌, List, [], ◌∷◌, ℤ, pos, ◌+ℤ◌, ◌-ℤ◌, Option, Some, None, option_map, Result, Ok, Err}
+use Rattle.std.specs.Prelude.{ℕ, ◌+◌, ◌-◌, ◌*◌, ◌/◌, Bool, false, nat_lt, if◌then◌else◌, List, [], ◌∷◌, ℤ, pos, ◌+ℤ◌, ◌-ℤ◌, Option, Some, None, option_map, Result, Ok, Err}
+use Rattle.planar.specs.Plane.{IsWithin}
 use Rattle.planar.specs.declared.Spot.{Spot}
+use Rattle.planar.specs.declared.TheConstants.{METRE}
 use Rattle.contact.specs.declared.Bounds.{Bounds}
 use Rattle.apertures.specs.Flash.{NoFlash, flash_of, leaves}
 use Rattle.board_shapes.specs.Figures.{Figure}
@@ -15,6 +17,10 @@ use Rattle.real_copper.specs.declared.aperture.OddForm.{OddForm}
 use Rattle.real_copper.specs.declared.aperture.OddForm.TheVariants as form
 use Rattle.real_copper.specs.declared.aperture.RealAperture.{RealAperture}
 use Rattle.real_copper.specs.declared.aperture.RealAperture.TheVariants.{Exact, Ring, Frame, Odd, Pierced}
+
+-- a spot at most 4 m from 0: a middle, wherever it is set down
+abbrev pub IsAbout : Spot → Type 0
+IsAbout p = IsWithin (4 * METRE) p.x × IsWithin (4 * METRE) p.y
 
 -- in half u, the spots so far to the left of and below a spot, and to the right of and above it
 abbrev pub half_below : Spot → ℕ → ℕ → Spot

@@ -79,16 +79,17 @@ sides_turned Quarter m w h = sides_about m h w
 sides_turned Half m w h = sides_about m w h
 sides_turned ThreeQuarters m w h = sides_about m h w
 
--- a disc (code 1), a rectangle (code 21), and a line (code 20)
+-- a disc (code 1), a rectangle (code 21), and a line (code 20), whose first spot comes to lie at p
+abbrev pub width_of : FineSketch → ℕ
+width_of f = unsigned_abs (f.end.x -ℤ f.start.x)
+
+abbrev pub odd_kind : FineKind → Rotation → Spot → Spot → FineSketch → RealFigure
+odd_kind fine.Disc rotation at p f = odd (odd_figure.Round (stroke_about p (width_of f) (width_of f)))
+odd_kind fine.Rectangle rotation at p f = odd (odd_figure.Rectangle (sides_turned rotation p (width_of f) (unsigned_abs (f.side.y -ℤ f.start.y))))
+odd_kind fine.Line rotation at p f = line (record { start = p; end = set_down rotation at f.end; width = unsigned_abs (f.side.x -ℤ f.start.x) })
+
 abbrev pub odd_sketch_at : Rotation → Spot → FineSketch → RealFigure
-odd_sketch_at rotation at f = by f.kind
-  where
-    wide : ℕ
-    wide = unsigned_abs (f.end.x -ℤ f.start.x)
-    by : FineKind → RealFigure
-    by fine.Disc = odd (odd_figure.Round (stroke_about (set_down rotation at f.start) wide wide))
-    by fine.Rectangle = odd (odd_figure.Rectangle (sides_turned rotation (set_down rotation at f.start) wide (unsigned_abs (f.side.y -ℤ f.start.y))))
-    by fine.Line = line (record { start = set_down rotation at f.start; end = set_down rotation at f.end; width = unsigned_abs (f.side.x -ℤ f.start.x) })
+odd_sketch_at rotation at f = odd_kind f.kind rotation at (set_down rotation at f.start) f
 
 -- ---- A primitive
 

@@ -5,7 +5,6 @@ use Rattle.planar.specs.Plane.{same_spot}
 use Rattle.planar.specs.declared.Spot.{Spot}
 use Rattle.apertures.specs.Flash.{NoFlash}
 use Rattle.aperture_macros.specs.BodyWord.{PlainPrimitive}
-use Rattle.aperture_macros.specs.BodyWord as lengths
 use Rattle.aperture_macros.specs.declared.fault.MacroFault.{MacroFault}
 use Rattle.area_contact.specs.declared.TheConstants.{MOST_CONTOUR_EDGES}
 use Rattle.board_shapes.specs.Pieces.{PieceOf}
@@ -81,7 +80,7 @@ flash_in_room k flash = as_real (room_for k flash) >>= λ piece. as_real (edges_
 unfoldable pub figures_of : List PlainPrimitive → List Fraction → Measure → Spot → Result (List RealFigure) MacroFault
 figures_of [] parameters unit to = Ok []
 figures_of (p ∷ body) parameters unit to =
-    primitive_figure p parameters unit to lengths.>>= λ figure. figures_of body parameters unit to lengths.>>= λ more. Ok (listed figure ++ more)
+    primitive_figure p parameters unit to >>= λ figure. figures_of body parameters unit to >>= λ more. Ok (listed figure ++ more)
 
 -- and nothing where there is no macro
 abbrev pub macro_figures : Option (List PlainPrimitive) → List Fraction → Measure → Spot → Result (List RealFigure) MacroFault

@@ -7,7 +7,6 @@ use Rattle.apertures.specs.Definition.{name_of, name_text, number_digits}
 use Rattle.apertures.specs.declared.fault.ApertureFault.{ApertureFault}
 use Rattle.apertures.specs.declared.fault.ApertureFault.TheVariants as aperture
 use Rattle.aperture_macros.specs.BodyWord.{PlainPrimitive, primitive_at}
-use Rattle.aperture_macros.specs.BodyWord as lengths
 use Rattle.aperture_macros.specs.Flashes.{judged}
 use Rattle.aperture_macros.specs.declared.fault.MacroFault.{MacroFault}
 use Rattle.aperture_macros.specs.declared.primitive.Copper.TheVariants.{Real}
@@ -63,7 +62,7 @@ fill_macro k text = fill_by (has_room k.macros.latest) (primitive_at Real text)
 -- the first fault of the primitives with these parameters, if one has a fault
 unfoldable pub all_judged : List PlainPrimitive → List Fraction → Measure → Result (Unit {0}) MacroFault
 all_judged [] parameters unit = Ok tt
-all_judged (p ∷ body) parameters unit = judged Real p parameters unit lengths.>>= λ done. all_judged body parameters unit
+all_judged (p ∷ body) parameters unit = judged Real p parameters unit >>= λ done. all_judged body parameters unit
 
 -- an aperture n of the macro of this name and body with these parameters
 unfoldable pub compose_as : RealKnown → ℕ → List ℕ → List PlainPrimitive → List Fraction → Measure → Result RealEffect RealKind

@@ -7,7 +7,7 @@ ghost use Rattle.real_copper.specs.Arcs.{as_real};
 ghost use Rattle.real_copper.specs.RealReader.{Carried, Seen, known};
 ghost use Rattle.real_copper.specs.Table as spec;
 ghost use Rattle.real_copper.specs.Table.{AreBlank, fits};
-ghost use Rattle.std.specs.Prelude.{IfErr, IfOk, Ok, OnOk, Some, tt, ◌≡◌};
+ghost use Rattle.std.specs.Prelude.{IfErr, IfOk, Ok, OnOk, ◌≡◌};
 
 use crate::aperture::RealAperture;
 use crate::definitions::read_real_aperture;

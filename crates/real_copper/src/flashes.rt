@@ -7,6 +7,7 @@ ghost use Rattle.real_copper.specs.Apertures.{AreSizes, IsLawful};
 ghost use Rattle.real_copper.specs.Figures.{exact, real_edges};
 ghost use Rattle.real_copper.specs.Flashed.{Flashes};
 ghost use Rattle.real_copper.specs.Flashes as spec;
+ghost use Rattle.real_copper.specs.Flashes.{IsAbout};
 ghost use Rattle.real_copper.specs.Shapes.{real_figure};
 ghost use Rattle.std.specs.Prelude.{IfOk, IfErr, pos, ◌≡◌, ◌≤◌, ◌<◌, ◌^◌, ◌*◌};
 
@@ -41,7 +42,7 @@ fn way(n: u64) -> i64
 
 // In half u, the spots so far to the left of and below a spot, and to the right of and above it.
 fn around(middle: Spot, w: u64, h: u64) -> (Spot, Spot)
-    requires placed { IsPlaced middle }
+    requires about { IsAbout middle }
     requires w { w ≤ 4 * METRE }
     requires h { h ≤ 4 * METRE }
     ensures low { result.0 ≡ spec.half_below middle w h }
@@ -62,7 +63,7 @@ fn around(middle: Spot, w: u64, h: u64) -> (Spot, Spot)
 
 /// A rectangle about its middle.
 pub fn sides_about(middle: Spot, w: u64, h: u64) -> Bounds
-    requires placed { IsPlaced middle }
+    requires about { IsAbout middle }
     requires w { w ≤ 4 * METRE }
     requires h { h ≤ 4 * METRE }
     ensures { result ≡ spec.sides_about middle w h }
@@ -78,7 +79,7 @@ pub fn sides_about(middle: Spot, w: u64, h: u64) -> Bounds
 
 /// An obround, or with equal sizes a circle.
 pub fn stroke_about(middle: Spot, w: u64, h: u64) -> FineStroke
-    requires placed { IsPlaced middle }
+    requires about { IsAbout middle }
     requires w { w ≤ 4 * METRE }
     requires h { h ≤ 4 * METRE }
     ensures { result ≡ spec.stroke_about middle w h }

@@ -13,6 +13,7 @@ ghost use Rattle.planar.specs.Plane.{IsPlaced, IsReachable, IsWithin};
 ghost use Rattle.planar.specs.declared.TheConstants.{METRE, TWO_METRES};
 ghost use Rattle.real_copper.specs.Figures.{exact, real_edges};
 ghost use Rattle.real_copper.specs.Flashed.{Makes};
+ghost use Rattle.real_copper.specs.Flashes.{IsAbout};
 ghost use Rattle.real_copper.specs.Primitives as spec;
 ghost use Rattle.real_copper.specs.Shapes.{real_figure};
 ghost use Rattle.std.specs.Prelude.{Some, length, map, unsigned_abs, ◌≡◌, ◌<◌, ◌≤◌, ◌*◌, ◌^◌, ◌-ℤ◌};
@@ -191,7 +192,7 @@ fn sketched(alloc: Global, turn: Turn, at: Spot, sketch: Sketch) -> Result<Optio
 
 // The sides of a rectangle, which change places at a quarter turn.
 fn sides_turned(rotation: Rotation, m: Spot, w: u64, h: u64) -> Bounds
-    requires placed { IsPlaced m }
+    requires about { IsAbout m }
     requires w { w ≤ 4 * METRE }
     requires h { h ≤ 4 * METRE }
     ensures { result ≡ spec.sides_turned rotation m w h }
@@ -214,17 +215,20 @@ fn apart(n: i64, m: i64) -> u64
     m.abs_diff(n)
 }
 
-// A figure of an odd size whose first spot comes to lie here.
-fn odd_shape(by: Placing, p: Spot, fine: FineSketch) -> RealShape
+// A figure of an odd size whose first spot comes to lie at `p`.
+fn odd_shape(kind: FineKind, by: Placing, p: Spot, fine: FineSketch) -> RealShape
     requires near { IsNearFine (Some fine) }
-    requires placed { IsPlaced p }
-    requires here { p ≡ set_down by.rotation by.at fine.start }
-    ensures { real_figure result ≡ spec.odd_sketch_at by.rotation by.at fine }
+    requires about { IsAbout p }
+    ensures value { real_figure result ≡ spec.odd_kind kind by.rotation by.at p fine }
+    ensures few { real_edges (real_figure result) ≤ 4 }
 {
-    let wide = apart(fine.start.x, fine.end.x);
-    match fine.kind {
-        FineKind::Disc => RealShape::Fine(FineFigure::Round(stroke_about(p, wide, wide))),
+    match kind {
+        FineKind::Disc => {
+            let wide = apart(fine.start.x, fine.end.x);
+            RealShape::Fine(FineFigure::Round(stroke_about(p, wide, wide)))
+        },
         FineKind::Rectangle => {
+            let wide = apart(fine.start.x, fine.end.x);
             let high = apart(fine.start.y, fine.side.y);
             RealShape::Fine(FineFigure::Rectangle(sides_turned(by.rotation, p, wide, high)))
         },
@@ -244,11 +248,7 @@ fn odd_sketched(rotation: Rotation, at: Spot, fine: FineSketch) -> Result<Option
 {
     let by = Placing { rotation, at };
     let p = by.moved(fine.start);
-    if is_placed(p) {
-        within(odd_shape(by, p, fine))
-    } else {
-        Err(FigureFault::Macro(MacroFault::OutOfRange))
-    }
+    within(odd_shape(fine.kind, by, p, fine))
 }
 
 // One of an odd size, if it has an image.
