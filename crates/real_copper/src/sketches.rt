@@ -9,8 +9,8 @@ ghost use Rattle.area_contact.specs.declared.TheConstants.{MOST_CONTOUR_POINTS};
 ghost use Rattle.board_shapes.specs.Figures.{filled};
 ghost use Rattle.board_shapes.specs.Rectangles.{rectangle as rectangle_of};
 ghost use Rattle.contact.specs.declared.TheConstants.{MOST_DIAMETER};
-ghost use Rattle.planar.specs.Plane.{IsPlaced, IsReachable, IsWithin};
-ghost use Rattle.planar.specs.declared.TheConstants.{METRE, TWO_METRES};
+ghost use Rattle.planar.specs.Plane.{IsPlaced, IsReachable};
+ghost use Rattle.planar.specs.declared.TheConstants.{METRE};
 ghost use Rattle.real_copper.specs.Figures.{exact, real_edges};
 ghost use Rattle.real_copper.specs.Flashed.{Makes};
 ghost use Rattle.real_copper.specs.Flashes.{IsAbout};
@@ -205,14 +205,23 @@ fn sides_turned(rotation: Rotation, m: Spot, w: u64, h: u64) -> Bounds
     }
 }
 
-// How far two spots are apart, across or up.
-fn apart(n: i64, m: i64) -> u64
-    requires n { IsWithin TWO_METRES n }
-    requires m { IsWithin TWO_METRES m }
-    ensures value { result ≡ unsigned_abs (m -ℤ n) }
+// How far a spot is from another across, and how far up.
+fn across(p: Spot, q: Spot) -> u64
+    requires p { IsReachable p }
+    requires q { IsReachable q }
+    ensures value { result ≡ unsigned_abs (q.x -ℤ p.x) }
     ensures short { result ≤ 4 * METRE }
 {
-    m.abs_diff(n)
+    q.x.abs_diff(p.x)
+}
+
+fn up(p: Spot, q: Spot) -> u64
+    requires p { IsReachable p }
+    requires q { IsReachable q }
+    ensures value { result ≡ unsigned_abs (q.y -ℤ p.y) }
+    ensures short { result ≤ 4 * METRE }
+{
+    q.y.abs_diff(p.y)
 }
 
 // A figure of an odd size whose first spot comes to lie at `p`.
@@ -224,18 +233,18 @@ fn odd_shape(kind: FineKind, by: Placing, p: Spot, fine: FineSketch) -> RealShap
 {
     match kind {
         FineKind::Disc => {
-            let wide = apart(fine.start.x, fine.end.x);
+            let wide = across(fine.start, fine.end);
             RealShape::Fine(FineFigure::Round(stroke_about(p, wide, wide)))
         },
         FineKind::Rectangle => {
-            let wide = apart(fine.start.x, fine.end.x);
-            let high = apart(fine.start.y, fine.side.y);
+            let wide = across(fine.start, fine.end);
+            let high = up(fine.start, fine.side);
             RealShape::Fine(FineFigure::Rectangle(sides_turned(by.rotation, p, wide, high)))
         },
         FineKind::Line => RealShape::Slanted(Slant {
             start: p,
             end: by.moved(fine.end),
-            width: apart(fine.start.x, fine.side.x),
+            width: across(fine.start, fine.side),
         }),
     }
 }
