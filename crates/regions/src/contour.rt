@@ -1,7 +1,7 @@
 //! A contour that grows edge by edge.
 ghost use Rattle.area_contact.specs.declared.TheConstants.{MOST_CONTOUR_EDGES};
 ghost use Rattle.planar.specs.Plane.{IsPlaced};
-ghost use Rattle.std.specs.Prelude.{All, IfOk, [], length, ◌≡◌, ◌≤◌};
+ghost use Rattle.std.specs.Prelude.{All, IfSome, [], length, ◌≡◌, ◌≤◌};
 
 use area_contact::{Area, AreaFault, MOST_CONTOUR_EDGES};
 use planar::Spot;
@@ -86,22 +86,23 @@ impl<E: Copy + Drop> Contour<E> {
         self.legs.len() as u32
     }
 
-    // The points, where there is an edge or none.
-    fn points(&self, alloc: Global) -> Result<Vec<Spot>, CloseFault>
-        ensures { IfOk result (λ points. points.items ≡ points_of (outline_of self.now)) }
+    // The points, unless memory is wanted.
+    fn points(&self, alloc: Global) -> Option<Vec<Spot>>
+        ensures value { IfSome result (λ points. points.items ≡ points_of (outline_of self.now)) }
+        ensures placed { IfSome result (λ points. All IsPlaced points.items) }
     {
         let Ok(mut points) = Vec::with_capacity(alloc, self.legs.len() + 1) else {
-            return Err(CloseFault::NoMemory);
+            return None;
         };
         let Ok(()) = points.push(self.first) else {
-            return Err(CloseFault::NoMemory);
+            return None;
         };
         for leg in &self.legs {
             let Ok(()) = points.push(leg.to) else {
-                return Err(CloseFault::NoMemory);
+                return None;
             };
         }
-        Ok(points)
+        Some(points)
     }
 
     /// The area through the spots of the contour, whatever is kept of its edges besides, or `None` where it has no edge.
@@ -115,7 +116,9 @@ impl<E: Copy + Drop> Contour<E> {
         if self.legs.is_empty() {
             return Ok(None);
         }
-        let points = self.points(alloc)?;
+        let Some(points) = self.points(alloc) else {
+            return Err(CloseFault::NoMemory);
+        };
         match Area::new(alloc, points) {
             Ok(area) => Ok(Some(area)),
             Err(AreaFault::Open) => Err(CloseFault::Open),
