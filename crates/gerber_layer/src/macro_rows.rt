@@ -98,7 +98,6 @@ fn is_function(command: &Command) -> bool
     matches!(command, Command::Function(_, _))
 }
 
-
 // `AM`.
 #[tactic(auto, unfolding(crate::specs::MacroTable::name_macro))]
 fn name_macro<'a>(reader: &PlainReader<'a>, name: &'a [u8]) -> Result<Effect<'a>, FlattenKind>
@@ -116,7 +115,11 @@ fn name_macro<'a>(reader: &PlainReader<'a>, name: &'a [u8]) -> Result<Effect<'a>
 
 // A word of a macro's body.
 #[tactic(auto, unfolding(crate::specs::MacroTable::fill_macro))]
-fn fill_macro<'a>(reader: &PlainReader<'a>, copper: Copper, text: &'a [u8]) -> Result<Effect<'a>, FlattenKind>
+fn fill_macro<'a>(
+    reader: &PlainReader<'a>,
+    copper: Copper,
+    text: &'a [u8],
+) -> Result<Effect<'a>, FlattenKind>
     ensures value { showing_any (known_of reader.now) result ≡ spec.fill_macro (known_of reader.now) copper text.now }
     ensures fit { IfOk result (IsFit reader.now.dictionary) }
 {
@@ -138,7 +141,13 @@ fn fill_macro<'a>(reader: &PlainReader<'a>, copper: Copper, text: &'a [u8]) -> R
 
 // An aperture of a macro.
 #[tactic(auto, unfolding(crate::specs::MacroTable::compose))]
-fn compose<'a>(reader: &PlainReader<'a>, alloc: Global, copper: Copper, text: &'a [u8], unit: Unit) -> MacroRow<'a>
+fn compose<'a>(
+    reader: &PlainReader<'a>,
+    alloc: Global,
+    copper: Copper,
+    text: &'a [u8],
+    unit: Unit,
+) -> MacroRow<'a>
     requires { spec.is_of_macro (aperture_at text.now unit) ≡ true }
     ensures ok { IfOk result (λ e. gerber (shown (known_of reader.now) e) ≡ spec.compose copper (known_of reader.now) text.now unit) }
     ensures fit { IfOk result (IsFit reader.now.dictionary) }
@@ -155,7 +164,16 @@ fn compose<'a>(reader: &PlainReader<'a>, alloc: Global, copper: Copper, text: &'
     let Some(parameters) = parameters else {
         return Err(Halt::Fault(FlattenKind::BadMacro));
     };
-    compose_as(reader, alloc, copper, number(text), name, body, parameters, unit)
+    compose_as(
+        reader,
+        alloc,
+        copper,
+        number(text),
+        name,
+        body,
+        parameters,
+        unit,
+    )
 }
 
 // An aperture of the macro of this name and body.
@@ -184,7 +202,11 @@ fn compose_as<'a>(
 
 // A standard aperture, which in real copper may have a hole or odd sizes.
 #[tactic(auto, unfolding(crate::specs::MacroTable::define_real))]
-fn define_real<'a>(reader: &PlainReader<'a>, text: &[u8], unit: Unit) -> Result<Effect<'a>, GerberKind>
+fn define_real<'a>(
+    reader: &PlainReader<'a>,
+    text: &[u8],
+    unit: Unit,
+) -> Result<Effect<'a>, GerberKind>
     ensures value { showing (known_of reader.now) result ≡ spec.define_real (known_of reader.now) text.now unit }
     ensures fit { IfOk result (IsFit reader.now.dictionary) }
 {
@@ -192,7 +214,12 @@ fn define_real<'a>(reader: &PlainReader<'a>, text: &[u8], unit: Unit) -> Result<
     define_as(reader, n, aperture)
 }
 
-fn define_in<'a>(reader: &PlainReader<'a>, copper: Copper, text: &[u8], unit: Unit) -> Result<Effect<'a>, GerberKind>
+fn define_in<'a>(
+    reader: &PlainReader<'a>,
+    copper: Copper,
+    text: &[u8],
+    unit: Unit,
+) -> Result<Effect<'a>, GerberKind>
     ensures value { showing (known_of reader.now) result ≡ spec.define_in copper (known_of reader.now) text.now unit }
     ensures fit { IfOk result (IsFit reader.now.dictionary) }
 {
@@ -204,7 +231,12 @@ fn define_in<'a>(reader: &PlainReader<'a>, copper: Copper, text: &[u8], unit: Un
 
 // `AD`.
 #[tactic(auto, unfolding(crate::specs::MacroTable::define_any))]
-fn define_any<'a>(reader: &PlainReader<'a>, alloc: Global, copper: Copper, text: &'a [u8]) -> MacroRow<'a>
+fn define_any<'a>(
+    reader: &PlainReader<'a>,
+    alloc: Global,
+    copper: Copper,
+    text: &'a [u8],
+) -> MacroRow<'a>
     ensures ok { IfOk result (λ e. gerber (shown (known_of reader.now) e) ≡ spec.define_any copper (known_of reader.now) text.now) }
     ensures fit { IfOk result (IsFit reader.now.dictionary) }
     ensures halt { IfErr result (Stops (spec.define_any copper (known_of reader.now) text.now)) }
@@ -215,8 +247,7 @@ fn define_any<'a>(reader: &PlainReader<'a>, alloc: Global, copper: Copper, text:
     if is_of_macro(text, unit) {
         return compose(reader, alloc, copper, text, unit);
     }
-    define_in(reader, copper, text, unit)
-        .map_err(|kind| Halt::Fault(FlattenKind::Gerber(kind)))
+    define_in(reader, copper, text, unit).map_err(|kind| Halt::Fault(FlattenKind::Gerber(kind)))
 }
 
 // A row that is the same without macros.
@@ -229,13 +260,17 @@ fn standard_row<'a>(reader: &PlainReader<'a>, command: &Command<'a>) -> MacroRow
     ensures fit { IfOk result (IsFit reader.now.dictionary) }
     ensures halt { IfErr result (Stops (gerber (row (known_of reader.now) (view command.now)))) }
 {
-    effect(reader, command)
-        .map_err(|kind| Halt::Fault(FlattenKind::Gerber(kind)))
+    effect(reader, command).map_err(|kind| Halt::Fault(FlattenKind::Gerber(kind)))
 }
 
 // The row of a command where the file may have macros.
 #[tactic(auto, unfolding(crate::specs::MacroTable::macro_row))]
-fn macro_row<'a>(reader: &PlainReader<'a>, alloc: Global, copper: Copper, command: &Command<'a>) -> MacroRow<'a>
+fn macro_row<'a>(
+    reader: &PlainReader<'a>,
+    alloc: Global,
+    copper: Copper,
+    command: &Command<'a>,
+) -> MacroRow<'a>
     requires lawful { IsLawfulReader reader.now }
     requires command { IsLawfulCommand (view command.now) }
     requires before_end { reader.now.settings.ended ≡ false }
@@ -253,7 +288,11 @@ fn macro_row<'a>(reader: &PlainReader<'a>, alloc: Global, copper: Copper, comman
 
 /// What a command does where the file may have macros and is flattened, or its fault.
 #[tactic(auto, unfolding(crate::specs::MacroTable::effect_with_macros, crate::specs::MacroTable::row_with_macros))]
-pub fn effect_with_macros<'a>(reader: &PlainReader<'a>, alloc: Global, command: &Command<'a>) -> MacroRow<'a>
+pub fn effect_with_macros<'a>(
+    reader: &PlainReader<'a>,
+    alloc: Global,
+    command: &Command<'a>,
+) -> MacroRow<'a>
     requires lawful { IsLawfulReader reader.now }
     requires command { IsLawfulCommand (view command.now) }
     ensures ok { IfOk result (λ e. spec.with_few_radii (gerber (shown (known_of reader.now) e)) ≡ spec.effect_with_macros (known_of reader.now) (view command.now)) }
@@ -271,7 +310,11 @@ pub fn effect_with_macros<'a>(reader: &PlainReader<'a>, alloc: Global, command: 
 
 /// What a command does in a file of real copper, or its fault.
 #[tactic(auto, unfolding(crate::specs::MacroTable::effect_loosely))]
-pub fn effect_loosely<'a>(reader: &PlainReader<'a>, alloc: Global, command: &Command<'a>) -> MacroRow<'a>
+pub fn effect_loosely<'a>(
+    reader: &PlainReader<'a>,
+    alloc: Global,
+    command: &Command<'a>,
+) -> MacroRow<'a>
     requires lawful { IsLawfulReader reader.now }
     requires command { IsLawfulCommand (view command.now) }
     ensures ok { IfOk result (λ e. gerber (shown (known_of reader.now) e) ≡ spec.effect_loosely (known_of reader.now) (view command.now)) }

@@ -15,7 +15,6 @@ use gerber_reading::{Bending, Code, Command, GerberKind, code_of, target};
 use planar::Spot;
 use std::alloc::Global;
 
-
 // Draws to a spot.
 fn draw_at_once<'a>(reader: &mut PlainReader<'a>, to: Spot) -> Result<(), Halt<GerberKind>>
     requires few { reader.old.commands + 1 < 2 ^ 32 }
@@ -114,7 +113,11 @@ fn select<'a>(reader: &mut PlainReader<'a>, n: u32) -> Result<(), Halt<GerberKin
 /// Obeys a command in a file without macros. An `Err` leaves a reader that is of no more use.
 #[inline(always)]
 #[tactic(auto, unfolding(crate::specs::CommandEffects::effect, crate::specs::CommandEffects::row))]
-pub fn obey<'a>(reader: &mut PlainReader<'a>, alloc: Global, command: &Command<'a>) -> Result<(), Halt<GerberKind>>
+pub fn obey<'a>(
+    reader: &mut PlainReader<'a>,
+    alloc: Global,
+    command: &Command<'a>,
+) -> Result<(), Halt<GerberKind>>
     requires lawful { IsLawfulReader reader.old }
     requires command { IsLawfulCommand (view command.now) }
     requires few { reader.old.commands + 1 < 2 ^ 32 }
@@ -133,7 +136,9 @@ pub fn obey<'a>(reader: &mut PlainReader<'a>, alloc: Global, command: &Command<'
     }
     match *command {
         Command::Select(n) => select(reader, n),
-        Command::Operate(x, y, code, bending) => operate_at_once(reader, alloc, x, y, code, bending),
+        Command::Operate(x, y, code, bending) => operate_at_once(
+            reader, alloc, x, y, code, bending,
+        ),
         _ => {
             let copy = *command;
             obey_by_effect(reader, alloc, &copy)

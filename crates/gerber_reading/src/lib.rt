@@ -22,8 +22,8 @@ mod tool;
 pub use blank::Blank;
 pub use command::{Bending, Code, Command, Format};
 pub use command_effects::{
-    Here, code_of, coordinate, go_behind, halt_of_copy, halt_of_flash, is_drawing, is_finish, is_of_layer,
-    next_block, other_format, target,
+    Here, code_of, coordinate, go_behind, halt_of_copy, halt_of_flash, is_drawing, is_finish,
+    is_of_layer, next_block, other_format, target,
 };
 pub use dialect::Dialect;
 pub use dictionary::Dictionary;
