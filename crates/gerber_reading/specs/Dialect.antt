@@ -12,7 +12,7 @@ use Rattle.gerber_reading.specs.Image.{effect_by, pieces_by}
 use Rattle.gerber_reading.specs.CommandEffects.{Place, Profile}
 
 -- A dialect: what a word says, and what a command does, or why it is refused.
-pub record Dialect (G E W : Type 0) : Type 0 where
+pub record Dialect (G E A W : Type 0) : Type 0 where
   pub command : Entry → Command
   pub table : Profile G E A W
 
