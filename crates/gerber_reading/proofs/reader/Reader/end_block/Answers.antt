@@ -10,8 +10,8 @@ use Rattle.gerber_reading.proofs.reader.Reader.end_block.Goals as goal
 pub overflow_add-edges : goal.overflow_add-edges
 overflow_add-edges g c =
     let split = edges_split g.F.Figure.handling (pieces_by g.F.Figure.plain c.args.self.now.pieces.items) c.args.self.now.start in
-    let all = edges_few g.F.Figure.plain g.F.Figure.handling g.F.Figure.few c.args.self.now.pieces.items in
-    let new = edges_few g.F.Figure.plain g.F.Figure.handling g.F.Figure.few c.in_ok-copies.copies.items in
+    let all = edges_few g.F.Figure.plain g.F.Figure.handling g.met.F.Figure.few c.args.self.now.pieces.items in
+    let new = edges_few g.F.Figure.plain g.F.Figure.handling g.met.F.Figure.few c.in_ok-copies.copies.items in
     let before = c.edges_before-before.ensures in
     let counted = rw c.deref.ensures.value at c.edges_of.ensures in
     let few = c.in_ok-copies.ensures.few in
