@@ -3,13 +3,13 @@ use Rattle.std.proofs.Common.{◌≡◌, ℕ, ◌+◌, ◌*◌, ℤ, pos, ◌*�
 use Rattle.std.specs.List.{flat_map, range_with_len}
 use Rattle.std.proofs.lemmas.List.{length-map, get_or-map}
 use Rattle.std.proofs.lemmas.List.Elements.{All-append, All-cons, All-nil, All-take, All-drop, All-map, All-weaker}
-use Rattle.board_shapes.specs.Moved.{moved_piece}
 use Rattle.board_shapes.specs.Figures.{Figure}
 use Rattle.board_shapes.specs.Pieces.{PlainPiece, plain_piece, plain_pieces}
 use Rattle.board_shapes.specs.declared.placed.Placed.{Placed}
 use Rattle.board_shapes.specs.declared.placed.Room.{Room}
 use Rattle.board_shapes.specs.declared.shape.Shape.{Shape}
-use Rattle.step_repeat.specs.Copies.{Refusal, out_of_range, copies_at, copies_of, placed_copies, are_placed, room_fault, column_of, block_at}
+use Rattle.step_repeat.specs.Copies.{Refusal, out_of_range, copies_at, copies_by, copies_of, moved_block, placed_copies, are_placed, room_fault, column_of, block_at, shifted_piece}
+use Rattle.step_repeat.specs.Figures.{shape_handling}
 use Rattle.step_repeat.specs.declared.repeat.Repeat.{Repeat}
 use Rattle.file_reading.specs.Reading.{said}
 use Rattle.gerber_layer.specs.Command.{Command, defines, functions, repeats, opens_region, closes_region, operates, ends, names_macro, body_word}
@@ -36,28 +36,28 @@ All-flat_map : {X A : Type 0} (P : A → Type 0) (f : X → List A) → ((x : X)
 All-flat_map P f h [] = All-nil P
 All-flat_map P f h (x ∷ xs) = All-append P (f x) (flat_map f xs) (h x) (All-flat_map P f h xs)
 
-moved_on : (p : Place) (dx dy : ℤ) (copy : ℕ) (block : List PlainPiece) → All (OnLayer p) block → All (OnLayer p) (map (moved_piece dx dy copy) block)
-moved_on p dx dy copy block h = All-map (OnLayer p) (moved_piece dx dy copy) block (All-weaker (OnLayer p) (λ q. OnLayer p (moved_piece dx dy copy q)) (λ q on. on) block h)
+moved_on : (p : Place) (dx dy : ℤ) (copy : ℕ) (block : List PlainPiece) → All (OnLayer p) block → All (OnLayer p) (moved_block shape_handling dx dy copy block)
+moved_on p dx dy copy block h = All-map (OnLayer p) (shifted_piece shape_handling dx dy copy) block (All-weaker (OnLayer p) (λ q. OnLayer p (shifted_piece shape_handling dx dy copy q)) (λ q on. on) block h)
 
-copies_on : (p : Place) (r : Repeat) (block : List PlainPiece) → All (OnLayer p) block → All (OnLayer p) (copies_of r block)
+copies_on : (p : Place) (r : Repeat) (block : List PlainPiece) → All (OnLayer p) block → All (OnLayer p) (copies_of shape_handling r block)
 unfolding copies_of
 copies_on p r block h =
-    All-flat_map (OnLayer p) (column_of r block)
-    (λ column. All-flat_map (OnLayer p) (block_at r block column)
+    All-flat_map (OnLayer p) (column_of shape_handling r block)
+    (λ column. All-flat_map (OnLayer p) (block_at shape_handling r block column)
     (λ row. moved_on p (pos column *ℤ r.dx) (pos row *ℤ r.dy) (column * r.up + row) block h) (range_with_len 0 r.up))
     (range_with_len 0 r.across)
 
-placed_on : (p : Place) (copies : List PlainPiece) (fault : Option Refusal) (all : List PlainPiece) → All (OnLayer p) copies → placed_copies copies fault ≡ Ok all → All (OnLayer p) all
+placed_on : (p : Place) (copies : List PlainPiece) (fault : Option Refusal) (all : List PlainPiece) → All (OnLayer p) copies → placed_copies shape_handling copies fault ≡ Ok all → All (OnLayer p) all
 placed_on p copies (Some fault) all h e = absurd (cc)
-placed_on p copies None all h e = by (are_placed copies) e
+placed_on p copies None all h e = by (are_placed shape_handling copies) e
   where
     by : (b : Bool) → cond b (Ok copies) (Err out_of_range) ≡ Ok all → All (OnLayer p) all
     by true e = let same : copies ≡ all = cc in subst (λ xs. All (OnLayer p) xs) same h
     by false e = absurd (cc)
 
 copied_on : (p : Place) (r : Repeat) (room : Room) (block all : List PlainPiece) → All (OnLayer p) block → copies_at r room block ≡ Ok all → All (OnLayer p) all
-unfolding copies_at
-copied_on p r room block all h e = placed_on p (copies_of r block) (room_fault r room block) all (copies_on p r block h) e
+unfolding copies_by
+copied_on p r room block all h e = placed_on p (copies_of shape_handling r block) (room_fault shape_handling r room block) all (copies_on p r block h) e
 
 joined_on : (p : Place) (before : List PlainPiece) (copies : Result (List PlainPiece) Refusal) (all : List PlainPiece) → All (OnLayer p) before → ((some : List PlainPiece) → copies ≡ Ok some → All (OnLayer p) some) → as_copies before copies ≡ Ok all → All (OnLayer p) all
 joined_on p before (Ok some) all h k e = let same : before ++ some ≡ all = cc in subst (λ xs. All (OnLayer p) xs) same (All-append (OnLayer p) before some h (k some refl))
