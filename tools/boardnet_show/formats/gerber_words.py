@@ -14,6 +14,8 @@ PLAIN_WORDS = re.compile(r"(?:[\t\n\r ]*(?:X[+-]?[0-9]{1,13}Y[+-]?[0-9]{1,13}D0?
 PLAIN = re.compile(r"(?:X([+-]?[0-9]+)Y([+-]?[0-9]+)D0?([123])|D([0-9]+))\*")
 MOST_DIGITS = 13        # of a coordinate
 FEW = 40                # bytes that are taken word by word
+# Modes of interpolation by their numbers.
+STRAIGHT, ANTICLOCKWISE = 1, 3
 MODES = ("G01", "G1", "G02", "G2", "G03", "G3")
 MOST_OBJECTS = 400_000
 

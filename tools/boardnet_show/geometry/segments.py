@@ -107,3 +107,13 @@ class Bands:
             if (ay > py) != (by > py) and (((bx - ax) * (py - ay) - (by - ay) * (px - ax)) > 0) == (by > ay):
                 odd = not odd
         return odd
+
+
+def place_beside(chain, outwards):
+    """A place half a u beside the middle of the longest edge of the chain, times 2^21: where its sliver lies."""
+    p, q = max(zip(chain, chain[1:]), key=lambda e: dot(e[0], e[1], e[1]))
+    normal = (q[1] - p[1], p[0] - q[0])                 # away from the centre, since the chain runs counterclockwise
+    if not outwards:
+        normal = (-normal[0], -normal[1])
+    most = max(abs(normal[0]), abs(normal[1]))
+    return tuple((p[k] + q[k] << 20) + (normal[k] << 20) // most for k in (0, 1))

@@ -6,13 +6,13 @@ clear polarity, or with contours that are too long, is walked twice: once for it
 import re
 
 from boardnet_show.bounds.polarity import dark_and_clear, negative
-from boardnet_show.formats.gerber_words import MODES, MOST_OBJECTS, MOVE, OPERATION, words_of
+from boardnet_show.formats.gerber_words import MODES, MOST_OBJECTS, MOVE, OPERATION, STRAIGHT, words_of
 from boardnet_show.formats.units import SCALES
 from boardnet_show.geometry.exact import Refused
 
 from .bound_writer import Side
 from .definitions import Definitions
-from .operations import STRAIGHT, Operations
+from .operations import Operations
 from .regions import Regions
 from .settings import Settings
 

@@ -3,13 +3,11 @@ from functools import lru_cache
 
 from boardnet_show.bounds.apertures import apertures
 from boardnet_show.bounds.polarity.dark_and_clear import moved
-from boardnet_show.formats.gerber_words import DRAW, FLASH, MOVE
+from boardnet_show.formats.gerber_words import ANTICLOCKWISE, DRAW, FLASH, MOVE, STRAIGHT
 from boardnet_show.geometry.arcs import chain_bounds, draw_bounds
 from boardnet_show.geometry.capsule_polygons import ring
 from boardnet_show.geometry.exact import Refused
 from boardnet_show.geometry.segments import cross, dot
-
-STRAIGHT, ANTICLOCKWISE = 1, 3
 
 
 @lru_cache(1000)

@@ -10,6 +10,7 @@ from boardnet_show.bounds.polarity.dark_and_clear import Object, box
 from boardnet_show.bounds.polarity.negative import around
 from boardnet_show.bounds.primitives.rounded_contours import Walked, rounded_contour
 from boardnet_show.formats import gerber_attributes
+from boardnet_show.formats.gerber_words import ANTICLOCKWISE
 from boardnet_show.geometry.exact import Refused
 from boardnet_show.geometry.segments import Segments, edges, odd_inside, segments_within
 from boardnet_show.intake.file_names import MOST_BYTES
@@ -17,7 +18,6 @@ from boardnet_show.intake.file_names import MOST_BYTES
 from .bounded_file import Copper
 
 HEAD = 4096         # bytes of a file in which its function is looked for
-ANTICLOCKWISE = 3
 
 
 class Outline(NamedTuple):

@@ -3,13 +3,10 @@ own rule; here is only told where it is, with straight contours of some thousand
 from collections import Counter
 
 from boardnet_show.base.wording import millimetres
-from boardnet_show.bounds.primitives.arc_contours import sample
-from boardnet_show.formats.gerber_words import MODES, MOVE, OPERATION, line_numbers, words_of
+from boardnet_show.formats.gerber_words import MODES, MOVE, OPERATION, STRAIGHT, line_numbers, words_of
 from boardnet_show.formats.units import SCALES
 from boardnet_show.geometry.exact import Refused
-from boardnet_show.geometry.segments import Bands, dot, edges, point_within
-
-from .operations import STRAIGHT
+from boardnet_show.geometry.segments import Bands, dot, edges, place_beside, point_within
 
 MOST_EDGES = 10_000     # of a contour that is looked at
 FEW_EDGES = 200         # of one whose edges are parted where corners lie on them
@@ -83,7 +80,7 @@ def hair(corners):
     doubled = [edge for edge, times in often.items() if times % 2 == 0]
     bands = Bands(corners) if doubled else None
     for a, b in doubled:
-        if not any(bands.odd(*sample([a, b], is_left)) for is_left in (False, True)):
+        if not any(bands.odd(*place_beside([a, b], is_left)) for is_left in (False, True)):
             return (a[0] + b[0]) / 2, (a[1] + b[1]) / 2
     return None
 

@@ -1,6 +1,6 @@
 """A contour with arcs, and contours of whole corners that lie in it or hold it."""
 from boardnet_show.geometry.arcs import Arc
-from boardnet_show.geometry.segments import Bands, Segments, dot, edges, segments_within
+from boardnet_show.geometry.segments import Bands, Segments, edges, place_beside, segments_within
 
 
 def contour_bound(parts, upper):
@@ -12,7 +12,7 @@ def contour_bound(parts, upper):
         return None
     corners, spans = assembled(parts, set())
     bands = Bands(corners)
-    flipped = {k for k, arc in enumerate(arcs) if bands.odd(*sample(arc.inner, True)) != upper}
+    flipped = {k for k, arc in enumerate(arcs) if bands.odd(*place_beside(arc.inner, True)) != upper}
     corners, spans = assembled(parts, flipped)
     segments, bands = edges(corners), Bands(corners)
     grid = Segments(segments)
@@ -20,7 +20,7 @@ def contour_bound(parts, upper):
         chain = arc.outer if k in flipped else arc.inner
         if not (arc.lies_outside() if k in flipped else arc.lies_inside()):
             return None
-        if meets_sliver(arc, chain, spans[k], segments, grid) or bands.odd(*sample(chain, k not in flipped)) != upper:
+        if meets_sliver(arc, chain, spans[k], segments, grid) or bands.odd(*place_beside(chain, k not in flipped)) != upper:
             return None
     return corners
 
@@ -55,16 +55,6 @@ def enters(arc, chain, far, at_first):
     if det(u, v) < 0:
         u, v = v, u
     return det(u, g) > 0 and det(g, v) > 0
-
-
-def sample(chain, outwards):
-    """A place half a u beside the middle of the longest edge of the chain, times 2^21: where its sliver lies."""
-    p, q = max(zip(chain, chain[1:]), key=lambda e: dot(e[0], e[1], e[1]))
-    normal = (q[1] - p[1], p[0] - q[0])                 # away from the centre, since the chain runs counterclockwise
-    if not outwards:
-        normal = (-normal[0], -normal[1])
-    most = max(abs(normal[0]), abs(normal[1]))
-    return tuple((p[k] + q[k] << 20) + (normal[k] << 20) // most for k in (0, 1))
 
 
 def assembled(parts, flipped):
