@@ -1,57 +1,78 @@
 """Access codes of a netlist's records that cannot be meant as they stand, and the layers that may be meant."""
+from typing import Callable, Dict, Iterator, List, Optional, Set, Tuple
+
 from boardnet_show.base.wording import counted
+from boardnet_show.formats import ipc356
+from boardnet_show.formats.ipc356 import Place
+from boardnet_show.intake.package import Package
 
 from .layer_order import is_near, near_cells
-from .placement import Record, hits, is_record, text_of, unit_of
+from .placement import hits, text_of
+
+# The layer that is meant by a record, or None where its code stands.
+LayerOf = Callable[[Place], Optional[int]]
 
 
 class Spans:
     """The layers that holes reach at a place."""
 
-    def __init__(self, package):
-        self.holes = [(first, last, near_cells(hits(text_of(package, name)))) for name, first, last in package.manifest.drills]
+    def __init__(self, package: Package) -> None:
+        self.holes: List[Tuple[int, int, Set[Tuple[int, int]]]] = [
+            (first, last, near_cells(hits(text_of(package, name)))) for name, first, last in package.manifest.drills]
 
-    def at(self, x, y):
-        return sorted({layer for first, last, cells in self.holes if is_near(cells, x, y) for layer in range(first, last + 1)})
+    def at(self, x: int, y: int) -> List[int]:
+        reached = (range(first, last + 1) for first, last, cells in self.holes if is_near(cells, x, y))
+        return sorted({layer for layers in reached for layer in layers})
 
 
-def via_layers(package, unit):
-    """For a through record the first layer of the holes at its place, where they do not reach the layers of its code."""
+def via_layers(package: Package, unit: int) -> Optional[LayerOf]:
+    """For a through record the first layer of the holes at its place, where they do not reach those of its code."""
     spans, last = Spans(package), package.manifest.layers
 
-    def layer(record):
-        found = spans.at(record.x * unit, record.y * unit) if record.is_through else []
-        wanted = {record.access} if record.access else {1, last}
+    def layer(place: Place) -> Optional[int]:
+        found = spans.at(place.x * unit, place.y * unit) if place.is_through else []
+        wanted = {place.access} if place.access else {1, last}
         return found[0] if found and not wanted <= set(found) else None
     return layer
 
 
-def bottom_layers(package, _):
+def bottom_layers(package: Package, _: int) -> Optional[LayerOf]:
     """For a surface record of layer 2 the last layer: pads of parts are on no inner layer."""
-    last = package.manifest.layers
-    return (lambda record: last if not record.is_through and record.access == 2 else None) if last > 2 else None
+    last: int = package.manifest.layers
+    return (lambda place: last if not place.is_through and place.access == 2 else None) if last > 2 else None
 
 
-RULES = (
-    (via_layers, "the first layer of the hole at their place (through records, 317, whose hole does not reach the layer of their code; KiCad writes "
-                 "such codes for buried vias)"),
-    (bottom_layers, "the bottom, {last:02d} (surface records, 327, of layer 02, and no part's pad is on an inner layer; pcb-rnd writes 02 for every bottom)"),
+Rule = Callable[[Package, int], Optional[LayerOf]]
+RULES: Tuple[Tuple[Rule, str], ...] = (
+    (via_layers, "the first layer of the hole at their place (through records, 317, whose hole does not reach the "
+                 "layer of their code; KiCad writes such codes for buried vias)"),
+    (bottom_layers, "the bottom, {last:02d} (surface records, 327, of layer 02, and no part's pad is on an inner "
+                    "layer; pcb-rnd writes 02 for every bottom)"),
 )
 
 
-def recoded(package, rule, words):
+def changed_codes(data: bytes, layer_of: LayerOf) -> Tuple[bytes, int]:
+    """The netlist with the layers that are meant in place of codes, and how many."""
+    count = 0
+
+    def change(line: bytes) -> bytes:
+        nonlocal count
+        layer = layer_of(ipc356.place_of(line))
+        count += layer is not None
+        return line if layer is None else ipc356.with_access(line, layer)
+    return ipc356.changed(data, change), count
+
+
+def recoded(package: Package, rule: Rule, words: str) -> Iterator[Tuple[str, Dict[str, bytes]]]:
     """(words, changed files) for the records whose code a rule reads otherwise, or nothing."""
     name = package.manifest.netlist
-    text, changed, out = text_of(package, name), 0, []
-    unit = unit_of(text)
+    data = package.read(name)
+    unit = ipc356.unit_of(data)
+    layer_of = rule(package, unit) if unit else None
     try:
-        layer_of = rule(package, unit) if unit else None
-        for line in text.splitlines(keepends=True) if layer_of else ():
-            layer = layer_of(Record(line)) if is_record(line) else None
-            changed += layer is not None
-            out.append(line if layer is None else f"{line[:39]}{layer:02d}{line[41:]}")
+        out, changed = changed_codes(data, layer_of) if layer_of else (data, 0)
     except ValueError:
         return
     if changed:
-        told = f"with the access code{'s' if changed > 1 else ''} of {counted(changed, 'record')} read as {words.format(last=package.manifest.layers)}"
-        yield told, {name: "".join(out).encode("latin-1")}
+        codes = f"access code{'s' if changed > 1 else ''} of {counted(changed, 'record')}"
+        yield f"with the {codes} read as {words.format(last=package.manifest.layers)}", {name: out}

@@ -7,6 +7,7 @@ from collections import namedtuple
 from functools import partial
 
 from boardnet_show.base.statuses import Stop
+from boardnet_show.intake.cad_tools import setting
 from boardnet_show.intake.package import beside
 from boardnet_show.judging import judged
 from boardnet_show.judging.net_ties import Ties
@@ -14,7 +15,6 @@ from boardnet_show.judging.net_ties import Ties
 from . import access_codes, drill_placement
 from .layer_order import as_labelled, layerings
 from .placement import placements
-from .tool_settings import setting
 
 TRIED = 4           # placements that are checked, at most
 

@@ -1,7 +1,8 @@
 """Which copper file is the top and which the bottom, by surface points that lie on centres of pads of one file."""
+from boardnet_show.formats import ipc356
 from boardnet_show.intake import declarations
 
-from .placement import flashes, records, text_of, unit_of
+from .placement import flashes
 
 NEAR = 50_000       # 5 micrometres: two roundings of a netlist's place
 
@@ -29,9 +30,9 @@ def reordered(manifest, order):
 
 def layerings(package):
     """(words, manifest) with the outer files where the surface points are, or none where that is as it is. Inner files keep their order."""
-    text, layers = text_of(package, package.manifest.netlist), package.manifest.layers
-    unit = unit_of(text)
-    surface = [r for r in records(text) if not r.is_through]
+    data, layers = package.read(package.manifest.netlist), package.manifest.layers
+    unit = ipc356.unit_of(data)
+    surface = [r for r in ipc356.places(data) if not r.is_through]
     if layers < 2 or unit is None or not surface:
         return
     top, bottom = scores(package, surface, unit)

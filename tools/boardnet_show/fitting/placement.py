@@ -6,6 +6,7 @@ import re
 from collections import Counter
 from fractions import Fraction as Q
 from functools import lru_cache
+from typing import Callable, List, Optional, Sequence, Tuple
 
 from boardnet_show.base.wording import millimetres
 from boardnet_show.formats import ipc356
@@ -16,11 +17,11 @@ from boardnet_show.geometry.exact import Refused
 SAMPLE = 40             # records that vote
 FEW, MANY = 8, 20_000   # centres
 ENOUGH = Q(3, 4)        # of the votes: no other centres are asked
-MOST = 999_999          # six digits
 PLACE = re.compile(r"([XY])([+-]?)(\d+\.?\d*|\.\d+)")
 # Operations of a copper file, and its format.
 OPERATION = re.compile(r"(?:G0?[123])?(?=[XYD])(?:X([+-]?\d+))?(?:Y([+-]?\d+))?(?:I[+-]?\d+)?(?:J[+-]?\d+)?(?:D0?([123]))?")
 FORMAT = re.compile(r"FSLAX\d(\d)Y\d\d")
+Form = Callable[[int, int], Tuple[int, int]]
 FORMS = [("", lambda x, y: (x, y)), ("mirrored left to right", lambda x, y: (-x, y)), ("mirrored upside down", lambda x, y: (x, -y)),
          ("turned by half", lambda x, y: (-x, -y)), ("turned by a quarter", lambda x, y: (-y, x)), ("turned by three quarters", lambda x, y: (y, -x)),
          ("mirrored and turned by a quarter", lambda x, y: (y, x)), ("mirrored and turned by three quarters", lambda x, y: (-y, -x))]
@@ -32,46 +33,31 @@ def text_of(package, name):
     return package.read(name).decode("latin-1")
 
 
-class Record:
-    """The columns of a test record that say where; x and y in the netlist's unit."""
-
-    def __init__(self, line):
-        self.is_through, self.access = line[:3] == "317", int(line[39:41].strip() or 0)
-        self.x, self.y = (int(line[a:a + 7].replace(" ", "")) for a in (42, 50))
+def records(text: str) -> List[ipc356.Place]:
+    """Where the test records of a netlist are, or none where one is broken."""
+    return ipc356.places(text.encode("latin-1"))
 
 
-def is_record(line):
-    return line[:3] in ("317", "327") and len(line) >= 57
-
-
-def records(text):
-    """The test records, or none where one is broken."""
-    try:
-        return [Record(line) for line in text.splitlines() if is_record(line)]
-    except ValueError:
-        return []
-
-
-def unit_of(text):
+def unit_of(text: str) -> Optional[int]:
     return ipc356.unit_of(text.encode("latin-1"))
 
 
-def moved(text, form, by):
+class Outside(Exception):
+    """A place that six digits do not hold."""
+
+
+def moved(text: str, form: Form, by: Sequence[int]) -> Optional[str]:
     """The netlist with all places through a form and moved by whole units; None where six digits do not hold them."""
-    out = []
-    for line in text.splitlines(keepends=True):
-        if is_record(line):
-            record = Record(line)
-            x, y = (v + d for v, d in zip(form(record.x, record.y), by))
-            if max(abs(x), abs(y)) > MOST:
-                return None
-            line = f"{line[:41]}X{x:+07d}Y{y:+07d}{line[57:]}"
-        out.append(line)
-    return "".join(out)
-
-
-def other_unit(text):
-    return re.sub(r"^(P[ \t]*UNITS[ \t]+CUST[ \t]+)([01])", lambda m: m[1] + ("1" if m[2] == "0" else "0"), text, count=1, flags=re.M)
+    def change(line: bytes) -> bytes:
+        place = ipc356.place_of(line)
+        x, y = (v + d for v, d in zip(form(place.x, place.y), by))
+        if max(abs(x), abs(y)) > ipc356.MOST:
+            raise Outside
+        return ipc356.with_place(line, x, y)
+    try:
+        return ipc356.changed(text.encode("latin-1"), change).decode("latin-1")
+    except Outside:
+        return None
 
 
 # ---- centres
@@ -235,4 +221,5 @@ def placements(package, without):
         seen.add((other, turn, by))
         if changed is not None:
             unit = sum(UNIT_WORDS) - declared if other else declared
-            yield spoken(other, turn, by, unit), {name: (other_unit(changed) if other else changed).encode("latin-1")}
+            data = changed.encode("latin-1")
+            yield spoken(other, turn, by, unit), {name: ipc356.in_other_unit(data) if other else data}

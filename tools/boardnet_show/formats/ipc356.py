@@ -1,69 +1,177 @@
-"""The test records of an IPC-D-356A netlist: line, component, pin and place. What they mean was judged by `check`."""
-import re
-from collections import namedtuple
-from functools import lru_cache
+"""IPC-D-356A netlists: lines, columns, parameters and test records, read and written. `check` judges what they mean.
 
-from .units import CUSTOM
+The columns are those of the crate `ipc356_records`. A place of a line is what Python counts, from 0: column 4 is 3.
+"""
+import re
+from functools import lru_cache
+from typing import Callable, Dict, Iterable, Iterator, List, NamedTuple, Optional, Sequence, Tuple
+
+from .units import CODES, CUSTOM
+
+# ---- columns
+
+CODE, NAME, COMPONENT, PIN, PLATING = slice(0, 3), slice(3, 17), slice(20, 26), slice(27, 31), slice(37, 38)
+ACCESS, X, Y = slice(39, 41), slice(41, 49), slice(49, 57)
+NAME_WIDTH, COMPONENT_WIDTH, PIN_WIDTH = 14, 6, 4
+MOST = 999_999      # what the six digits of a place hold
+MOST_SIZE = 9_999   # what the four digits of a size hold
+FULL = 72           # columns of a parameter's line whose name may be cut
+
+THROUGH, SURFACE, END = b"317", b"327", b"999"
+TEST_RECORDS = (THROUGH, SURFACE)
+# Where records, their unit and their end stand, in bytes that may be a netlist.
+ANY_RECORD = re.compile(rb"^(?:317|327)", re.M)
+ANY_UNITS = re.compile(rb"^P[ \t]*UNITS", re.M)
+ANY_END = re.compile(rb"^999", re.M)
+ANY_NAME = re.compile(rb"^3[12]7(.{14})", re.M)
+
+# ---- parameters
 
 PARAMETER = re.compile(rb"^P([^\r\n]{0,56})", re.M)
+CUSTOM_UNITS = re.compile(rb"^(P[ \t]*UNITS[ \t]+CUST[ \t]+)([01])", re.M)
+ALIAS_LINE = re.compile(rb"^P[ \t]*(NNAME[0-9]+)[ \t]+([^\r\n]*)", re.M)
+ALIAS = re.compile(rb"NNAME[0-9]+")
+# A name that stands in its columns for itself.
+PLAIN_NAME = re.compile(r"(?!NNAME)[!-~]{1,14}")
 # Pins that are too long for their columns, as comments that we write before a record.
-PIN = b"C PIN,"
+PIN_COMMENT = "C PIN,"
 NO_NET = "N/C"
 UNPRINTABLE = re.compile("[^ -~]")
-ALIAS_LINE = re.compile(rb"^P[ \t]*(NNAME[0-9]+)[ \t]+([^\r\n]*)", re.M)
 
 
-class Record(namedtuple("Record", "line through name component pin x y")):
+class Record(NamedTuple):
     """A 317 or 327 record; x and y in u, None where its columns have no number."""
 
-    __slots__ = ()
+    line: int
+    through: bool
+    name: str
+    component: str
+    pin: str
+    x: Optional[int]
+    y: Optional[int]
 
 
-def printable(field):
+class Place(NamedTuple):
+    """Where a test record is, in the netlist's unit; the access is 0 where its columns are blank."""
+
+    is_through: bool
+    access: int
+    x: int
+    y: int
+
+
+class AliasLine(NamedTuple):
+    """A parameter that says what a name stands for; `is_full` where it fills its line, so that the name may be cut."""
+
+    alias: bytes
+    name: bytes
+    is_full: bool
+
+
+# ---- reading
+
+def is_netlist(data: bytes) -> bool:
+    """Whether bytes look like a netlist: two of a record, a unit and an end."""
+    if ANY_RECORD.search(data):
+        return bool(ANY_UNITS.search(data) or ANY_END.search(data))
+    return bool(ANY_UNITS.search(data) and ANY_END.search(data))
+
+
+def is_test(line: bytes) -> bool:
+    return line[CODE] in TEST_RECORDS
+
+
+def printable(field: bytes) -> str:
     return "" if field.isspace() else UNPRINTABLE.sub("?", field.decode("latin-1").strip())
 
 
-def length(sign, digits, unit):
-    """A coordinate of six digits in u, or None."""
-    text = digits.lstrip()
-    if not text.isdigit() or unit is None:
+def length(field: bytes, unit: Optional[int]) -> Optional[int]:
+    """The coordinate of a letter, a sign and six digits in u, or None."""
+    digits = field[2:].lstrip()
+    if not digits.isdigit() or unit is None:
         return None
-    return int(text) * unit * (-1 if sign == b"-" else 1)
+    return int(digits) * unit * (-1 if field[1:2] == b"-" else 1)
 
 
-def unit_of(data):
+def parameters(data: bytes) -> Iterator[List[bytes]]:
+    """The words of each parameter, as far as they count."""
+    return (match[1].split() for match in PARAMETER.finditer(data))
+
+
+def unit_of(data: bytes) -> Optional[int]:
     """The unit in u, or None where none is said."""
-    found = (match[1].split() for match in PARAMETER.finditer(data))
-    units = next((words[1:] for words in found if words[:1] == [b"UNITS"]), ())
-    return {(b"CUST", b"0"): CUSTOM[0], (b"CUST", b"1"): CUSTOM[1]}.get(tuple(units))
+    said = (words[1:] for words in parameters(data) if words[:1] == [b"UNITS"])
+    words: List[bytes] = next(said, [])
+    return next((unit for code, unit in CUSTOM.items() if words == [b"CUST", b"%d" % code]), None)
 
 
 @lru_cache(maxsize=2)
-def records(data):
+def records(data: bytes) -> Tuple[Record, ...]:
     """The records in order, kept for the netlists that were read last; the k-th is record k + 1 of a report."""
     unit, found, before = unit_of(data), [], b""
     for number, line in enumerate(data.split(b"\n"), 1):
-        if line[:3] == b"999":
+        if line[CODE] == END:
             break
-        if line[:3] in (b"317", b"327"):
-            place = length(line[42:43], line[43:49], unit), length(line[50:51], line[51:57], unit)
-            found.append(Record(number, line[:3] == b"317", printable(line[3:17]) or NO_NET, *pin_of(line, before), *place))
+        if is_test(line):
+            component, pin = pin_of(line, before)
+            name, x, y = printable(line[NAME]) or NO_NET, length(line[X], unit), length(line[Y], unit)
+            found.append(Record(number, line[CODE] == THROUGH, name, component, pin, x, y))
         before = line
     return tuple(found)
 
 
-def pin_of(line, before):
+def pin_of(line: bytes, before: bytes) -> Tuple[str, str]:
     """Component and pin of a record, by its columns or whole by a comment before it."""
-    fields = before[len(PIN):].decode("utf-8", "replace").rstrip("\r").split(",") if before.startswith(PIN) else []
-    return fields if len(fields) == 2 else (printable(line[20:26]), printable(line[27:31]))
+    if before.startswith(PIN_COMMENT.encode()):
+        fields = before[len(PIN_COMMENT):].decode("utf-8", "replace").rstrip("\r").split(",")
+        if len(fields) == 2:
+            return fields[0], fields[1]
+    return printable(line[COMPONENT]), printable(line[PIN])
 
 
-def aliases(data):
+def has_place(line: bytes) -> bool:
+    """Whether a line is a test record that has all its columns."""
+    return is_test(line) and len(line) >= Y.stop
+
+
+def place_of(line: bytes) -> Place:
+    """Where a test record is; ValueError where its columns have no numbers."""
+    x, y = (int(line[its][1:].replace(b" ", b"")) for its in (X, Y))
+    return Place(line[CODE] == THROUGH, int(line[ACCESS].strip() or b"0"), x, y)
+
+
+def places(data: bytes) -> List[Place]:
+    """Where the test records are, or none where one is broken."""
+    try:
+        return [place_of(line) for line in data.splitlines() if has_place(line)]
+    except ValueError:
+        return []
+
+
+# ---- names
+
+def name_of(line: bytes) -> bytes:
+    """The name in the columns of a test record; nothing where they are blank or end within them."""
+    return line[NAME].strip() if is_test(line) and len(line) >= NAME.stop else b""
+
+
+def names(data: bytes) -> List[bytes]:
+    """The names of all test records, each once, in their order."""
+    found = dict.fromkeys(ANY_NAME.findall(data))
+    return [name for name in dict.fromkeys(field.strip() for field in found) if name]
+
+
+def alias_lines(data: bytes) -> Iterator[AliasLine]:
+    for found in ALIAS_LINE.finditer(data):
+        yield AliasLine(found[1], found[2].strip(), found.end() - found.start() >= FULL)
+
+
+def aliases(data: bytes) -> Dict[str, str]:
     """The whole names that a netlist's names stand for."""
-    return {alias.decode(): name.decode("utf-8", "replace").strip() for alias, name in ALIAS_LINE.findall(data)}
+    return {it.alias.decode(): it.name.decode("utf-8", "replace").strip() for it in alias_lines(data)}
 
 
-def spoken(names, data):
+def spoken(names: Sequence[str], data: bytes) -> List[str]:
     """The names of a report, aliases of the netlist as what they stand for, as long as all are distinct."""
     whole = aliases(data)
     taken, told = set(names), []
@@ -72,3 +180,84 @@ def spoken(names, data):
         told.append(name if said in taken else said)
         taken.add(told[-1])
     return told
+
+
+# ---- changed copies
+
+def changed(data: bytes, change: Callable[[bytes], bytes]) -> bytes:
+    """The netlist with each test record that has all its columns as it is changed."""
+    return b"".join(change(line) if has_place(line) else line for line in data.splitlines(keepends=True))
+
+
+def with_name(line: bytes, name: bytes) -> bytes:
+    return line[:NAME.start] + name.ljust(NAME_WIDTH) + line[NAME.stop:]
+
+
+def with_access(line: bytes, layer: int) -> bytes:
+    return line[:ACCESS.start] + b"%02d" % layer + line[ACCESS.stop:]
+
+
+def with_place(line: bytes, x: int, y: int) -> bytes:
+    return line[:X.start] + place_columns(x, y).encode() + line[Y.stop:]
+
+
+def in_other_unit(data: bytes) -> bytes:
+    """The netlist with the other of the two units that it may say."""
+    return CUSTOM_UNITS.sub(lambda found: found[1] + (b"1" if found[2] == b"0" else b"0"), data, count=1)
+
+
+# ---- writing
+
+class Size(NamedTuple):
+    """A pad's sizes along the axes, in the netlist's unit; a height of 0 is that of a round one."""
+
+    wide: int
+    high: int
+
+
+class Written(NamedTuple):
+    """A test record as it is written, lengths in the netlist's unit, the diameter that of a plated hole. The fields fit
+    their columns, but for a component and a pin, which are cut."""
+
+    is_through: bool
+    name: str
+    component: str
+    pin: str
+    access: int
+    x: int
+    y: int
+    is_midpoint: bool = False
+    diameter: Optional[int] = None
+    size: Optional[Size] = None
+
+
+def place_columns(x: int, y: int) -> str:
+    return f"X{x:+07d}Y{y:+07d}"
+
+
+def record_line(record: Written) -> str:
+    """A test record in its columns, without an end of line; without a size it ends behind its place."""
+    code = (THROUGH if record.is_through else SURFACE).decode()
+    component, pin = record.component[:COMPONENT_WIDTH], record.pin[:PIN_WIDTH]
+    named = f"{component:<{COMPONENT_WIDTH}}{'-' if pin else ' '}{pin:<{PIN_WIDTH}}{'M' if record.is_midpoint else ' '}"
+    hole = f"{'':6}" if record.diameter is None else f"D{record.diameter:04d}P"
+    size = f"X{record.size.wide:04d}Y{record.size.high:04d}R000" if record.size else ""
+    return f"{code}{record.name:<{NAME_WIDTH}}   {named}{hole}A{record.access:02d}{place_columns(record.x, record.y)}{size}"
+
+
+def pin_comment(component: str, pin: str) -> str:
+    """What has a pin whole before its record."""
+    return f"{PIN_COMMENT}{component},{pin}"
+
+
+def units_line(unit: int) -> str:
+    return f"P  UNITS CUST {CODES[unit]}"
+
+
+def alias_line(alias: str, name: str) -> str:
+    return f"P  {alias}  {name}"
+
+
+def file_text(lines: Iterable[str]) -> str:
+    """A netlist of these lines, with its end."""
+    return "\n".join([*lines, END.decode(), ""])

@@ -1,12 +1,11 @@
 """Which kind of file some bytes are, by what they say and never by a name."""
 import re
 
+from boardnet_show.formats import ipc356
+
 MARKS = ((b"\xef\xbb\xbf", "a byte order mark"), (b"\xff\xfe", "a byte order mark of UTF-16"), (b"\xfe\xff", "a byte order mark of UTF-16"))
 GERBER = re.compile(rb"%(?:FS|MO|AD|TF|LN|IN|AM|LP)|^G04|^G0?1\*", re.M)
 DRILL = re.compile(rb"\A(?:[ \t\r]*(?:;[^\n]*|%[ \t\r]*)?\n)*[ \t]*M48")
-RECORD = re.compile(rb"^(?:317|327)", re.M)
-UNITS = re.compile(rb"^P[ \t]*UNITS", re.M)
-END = re.compile(rb"^999", re.M)
 OTHERS = (
     (b"PK\x03\x04", "it is a zip archive; give the archive itself in place of the folder"),
     (b"\x1f\x8b", "it is a gzip archive, which is not opened"),
@@ -54,7 +53,7 @@ def look(data):
 def kind_of(text):
     if DRILL.search(text):
         return "drill"
-    if RECORD.search(text) and (UNITS.search(text) or END.search(text)) or UNITS.search(text) and END.search(text):
+    if ipc356.is_netlist(text):
         return "netlist"
     if GERBER.search(text.lstrip()[:65536]) and b"*" in text:
         return "gerber"

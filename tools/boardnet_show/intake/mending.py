@@ -30,8 +30,8 @@ def need_functions(package):
         kind, line = unread_function(data, first, last) or ("", 0)
         if kind:
             place = sum(len(it) + 1 for it in data.split(b"\n")[:line - 1])
-            from . import export_advice     # as below
-            way = export_advice.way(kind.split()[-1], export_advice.tool_of(data))
+            from . import cad_tools         # as below
+            way = cad_tools.way(kind.split()[-1], cad_tools.tool_of(data))
             raise Stop(REFUSED, f"{name}: {kind} at line {line}, byte {place}, by a form of the file function that `check` passes over"
                        + (f"; to export: {way}" if way else ""))
 
@@ -42,9 +42,9 @@ def need_plated(package, drills):
         data = bytes_of(package, name)
         line = unplated_hole(data)
         if line:
-            from . import export_advice     # few boards are refused
+            from . import cad_tools         # few boards are refused
             raise Stop(REFUSED, f"{name}: line {line} makes a hole that the file itself calls unplated, and what it says of the others does not fit or is "
-                                f"missing, so that hole would join layers; to export: {export_advice.way('MixedPlating', export_advice.tool_of(data))}")
+                                f"missing, so that hole would join layers; to export: {cad_tools.way('MixedPlating', cad_tools.tool_of(data))}")
 
 
 def need_names(package, name):

@@ -14,7 +14,6 @@ from boardnet_show.bounds.files import bounded_file
 from boardnet_show.bounds.polarity import dark_and_clear
 from boardnet_show.formats import gerber_attributes, gerber_words, ipc356
 from boardnet_show.formats.gerber_words import words_of
-from boardnet_show.formats.units import CODES
 from boardnet_show.geometry.box_tree import Tree
 from boardnet_show.geometry.exact import Refused
 from boardnet_show.judging import net_ties
@@ -278,27 +277,26 @@ def all_points(package):
 
 def named(names):
     """What stands for each name in 14 columns: itself, or an alias."""
-    plain = re.compile(r"(?!NNAME)[!-~]{1,14}")
-    return {name: name if plain.fullmatch(name) else f"NNAME{number}" for number, name in enumerate(names, 1)}
+    return {name: name if ipc356.PLAIN_NAME.fullmatch(name) else f"NNAME{number}" for number, name in enumerate(names, 1)}
 
 
 def lines_of(point, place, name):
     component, pin = point.label.component, point.label.pin
     if not re.fullmatch("[!-~]{0,6}", component) or not re.fullmatch("[!-~]{0,4}", pin):
-        yield f"C PIN,{component},{pin}"
+        yield ipc356.pin_comment(component, pin)
         component, pin = (re.sub("[^!-~]", "?", word) for word in (component, pin))
-    yield f"327{name:<14}   {component[:6]:<6}{'-' if pin else ' '}{pin[:4]:<4}{'':7}A{point.layer:02d}X{place.x:+07d}Y{place.y:+07d}"
+    yield ipc356.record_line(ipc356.Written(False, name, component, pin, point.layer, place.x, place.y))
 
 
 def text_of(found, unit, places):
     """The netlist as a text."""
     names = named(list(dict.fromkeys(name for it in found for name in it.label.names)))
-    lines = [MADE, f"P  UNITS CUST {CODES[unit]}"]
-    lines += [f"P  {alias}  {with_ends(name)}" for name, alias in names.items() if alias != name]
+    lines = [MADE, ipc356.units_line(unit)]
+    lines += [ipc356.alias_line(alias, with_ends(name)) for name, alias in names.items() if alias != name]
     for point, place in zip(found, places):
         for name in point.label.names or (ipc356.NO_NET,) if place else ():
             lines += lines_of(point, place, names.get(name, ipc356.NO_NET))
-    return "\n".join([*lines, "999", ""]).encode()
+    return ipc356.file_text(lines).encode()
 
 
 def notes_of(package, found, lost, unit, places):

@@ -9,16 +9,15 @@ from functools import lru_cache
 from itertools import count
 
 from boardnet_show.base.wording import at_most, counted, millimetres, spoken, with_ends
+from boardnet_show.formats import ipc356
 from boardnet_show.formats.ipc356 import NO_NET
-from boardnet_show.formats.units import CODES, UNIT_WORDS
+from boardnet_show.formats.units import UNIT_WORDS
 from boardnet_show.geometry.exact import ceil_root
 
 from . import pad_places
 from .pad_list import VIA, front
 
-NAME = re.compile(r"(?!NNAME)[!-~]{1,14}")
 FEW = 6             # nets and pads that are named in a line
-MOST = 9_999        # what the four digits of a size hold
 
 
 # ---- names
@@ -62,7 +61,7 @@ class Names:
     def field(self, net):
         """What stands in a record's columns."""
         name = self.of[net]
-        if NAME.fullmatch(name):
+        if ipc356.PLAIN_NAME.fullmatch(name):
             return name
         if name not in self.alias:
             self.alias[name] = next(self.aliases)
@@ -87,10 +86,15 @@ def plain(text, width):
     return UNPLAIN.sub("?", text)[:width]
 
 
+def named(part, pin):
+    """A component and a pin as their columns have them."""
+    return plain(part, ipc356.COMPONENT_WIDTH), plain(pin, ipc356.PIN_WIDTH)
+
+
 @lru_cache(maxsize=1_000)
 def whole(length, unit):
     """A size in four digits: rounded, at least 1 (a height of 0 stands for a round pad), and at most what they hold."""
-    return min(MOST, max(1, (2 * length + unit) // (2 * unit)))
+    return min(ipc356.MOST_SIZE, max(1, (2 * length + unit) // (2 * unit)))
 
 
 class Row:
@@ -106,13 +110,12 @@ class Row:
         return self.place.hole is not None, self.access, self.at[:2], self.place.part, self.place.pin
 
     def line(self, unit, name, drill):
-        it = self.place
+        it, has_hole = self.place, self.place.hole is not None
         part, pin = (it.part, it.pin) if it.part else (VIA, "") if it.is_via else ("", "")
-        named = f"{plain(part, 6):<6}{'-' if pin else ' '}{plain(pin, 4):<4}{'M' if it.is_via and not it.part else ' '}" if part else " " * 12
-        head = f"{'317' if it.hole is not None else '327'}{name:<14}   {named}"
-        hole = f"D{whole(drill, unit):04d}P" if it.hole is not None else " " * 6
         wide, high = (whole(length, unit) for length in it.size)
-        return f"{head}{hole}A{self.access:02d}X{self.at.x:+07d}Y{self.at.y:+07d}X{wide:04d}Y{0 if it.is_round else high:04d}R000"
+        return ipc356.record_line(ipc356.Written(
+            has_hole, name, *named(part, pin), self.access, self.at.x, self.at.y, it.is_via and not it.part,
+            whole(drill, unit) if has_hole else None, ipc356.Size(wide, 0 if it.is_round else high)))
 
     def off(self, unit):
         """How far it is from the middle of the pad, squared, in u."""
@@ -129,7 +132,7 @@ class Row:
 
     def is_over(self, unit, drill):
         """Whether a size is more than its columns hold."""
-        return max(*self.place.size, drill) > MOST * unit
+        return max(*self.place.size, drill) > ipc356.MOST_SIZE * unit
 
     def pad_words(self):
         it = self.place
@@ -177,15 +180,16 @@ class Netlist:
         lines = []
         for row in self.rows:
             it = row.place
-            if it.part and (len(it.part) > 6 or len(it.pin) > 4 or plain(it.part, 6) != it.part or plain(it.pin, 4) != it.pin):
-                lines.append(f"C PIN,{plain(it.part, 60)},{plain(it.pin, 60)}")
+            if it.part and named(it.part, it.pin) != (it.part, it.pin):
+                lines.append(ipc356.pin_comment(plain(it.part, 60), plain(it.pin, 60)))
             if row.is_moved(self.unit):
                 lines.append(f"C the next record is {at_most(row.away(self.unit))} mm from the middle of its pad")
             lines.append(row.line(self.unit, self.names.field(it.net), self.drill(it)))
-        head = [f"C boardnet show: the nets of the copper of {plain(self.title.replace(' ', '_'), 40)}", "P  VER IPC-D-356A", f"P  UNITS CUST {CODES[self.unit]}"]
-        aliases = [f"P  {alias}  {with_ends(in_ascii(name))}" for name, alias in self.names.alias.items()]
+        head = [f"C boardnet show: the nets of the copper of {plain(self.title.replace(' ', '_'), 40)}", "P  VER IPC-D-356A",
+                ipc356.units_line(self.unit)]
+        aliases = [ipc356.alias_line(alias, with_ends(in_ascii(name))) for name, alias in self.names.alias.items()]
         none = [f"C net without a record: {self.net_word(net)}" for net in self.without()]
-        return "\n".join([*head, *aliases, *lines, *none, "999", ""])
+        return ipc356.file_text([*head, *aliases, *lines, *none])
 
     # ---- what is told
 
@@ -222,7 +226,7 @@ class Netlist:
                 (f"{row.pad_words()} by {at_most(row.away(self.unit))} mm" for row in moved), FEW)
         over = [row for row in self.rows if row.is_over(self.unit, self.drill(row.place))]
         if over:
-            yield f"{counted(len(over), 'record')} with a size of {MOST}, the most that its columns hold: {spoken((row.pad_words() for row in over), FEW)}"
+            yield f"{counted(len(over), 'record')} with a size of {ipc356.MOST_SIZE}, the most that its columns hold: {spoken((row.pad_words() for row in over), FEW)}"
         yield from self.wanting()
 
     def wanting(self):

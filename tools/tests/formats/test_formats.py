@@ -8,7 +8,7 @@ from boardnet_show.formats.report import BadReport, Report
 from boardnet_show.geometry.shapes import Shapes
 from boardnet_show.intake.package import Package, room
 from boardnet_show.judging import board_copper
-from tests.fixtures import made
+from tests.fixtures import common, made
 
 REPORT = """boardnet 2
 pieces 2
@@ -101,6 +101,53 @@ class Netlists(unittest.TestCase):
         self.assertEqual(second[:5], (5, True, "GND", "VIA", ""))
         inches = ipc356.records(made.netlist(made.record("A", "U1.1", 0.01, 0)).replace("CUST 1", "CUST 0").encode())
         self.assertEqual(inches[0].x, 254_000)
+
+
+    def test_written(self):
+        """What is written is read back: a pad, a hole with all its columns, a pin that is too long for them."""
+        rows = [ipc356.Written(False, "GND", "J1", "1", 1, -5, 999_999),
+                ipc356.Written(True, "a", "", "", 0, 0, -1, True, 300, ipc356.Size(600, 0)),
+                ipc356.Written(False, "NNAME1", "A_LONG_PART", "12345", 2, 7, 8)]
+        lines = list(map(ipc356.record_line, rows))
+        self.assertEqual(lines[1], f"317{'a':<14}{'':14}MD0300PA00X+000000Y-000001X0600Y0000R000")
+        data = ipc356.file_text([ipc356.units_line(10_000), ipc356.alias_line("NNAME1", "a whole name"), *lines[:2],
+                                 ipc356.pin_comment(*rows[2][2:4]), lines[2]]).encode()
+        self.assertEqual(ipc356.places(data), [ipc356.Place(it.is_through, it.access, it.x, it.y) for it in rows])
+        self.assertEqual([it[1:5] for it in ipc356.records(data)], [it[:4] for it in rows])
+        self.assertEqual((ipc356.names(data), ipc356.aliases(data)), ([b"GND", b"a", b"NNAME1"], {"NNAME1": "a whole name"}))
+        changed = ipc356.changed(data, lambda line: ipc356.with_name(ipc356.with_access(ipc356.with_place(line, 1, 2), 3), b"B"))
+        self.assertEqual({(it.access, it.x, it.y) for it in ipc356.places(changed)}, {(3, 1, 2)})
+        self.assertEqual(ipc356.names(changed), [b"B"])
+        self.assertEqual(ipc356.unit_of(ipc356.in_other_unit(data)), 25_400)
+
+    def test_what_looks_like_a_netlist(self):
+        for lines, answer in ((["317A", "999"], True), (["P UNITS CUST 1", "327A"], True), (["PUNITS", "999"], True), (["999", "C"], False),
+                              (["317A", "327A"], False), (["P  UNITS", "P UNITS"], False), (["G04 a*", " 317", " 999"], False)):
+            self.assertEqual(ipc356.is_netlist("\n".join(lines).encode()), answer, lines)
+
+
+class Conformance(made.Case):
+    """The reader says the same as the program of what that takes."""
+
+    def test_records(self):
+        rows = [made.record("GND", "J1.1", -1, 2.5), "C note", "", "317 A             VIA        MD0118PA00X+    5Y-000010", "\t",
+                "327              R1    -2          A 1X 000000Y 00001200000", "327NNAME1         U1    -1          A01X-1     Y+000002",
+                "367A", "079", "P  NNAME1  whole", "327a\tb           U1    -1          A01X-000001Y+000002", "327B\r", "999",
+                made.record("C", "J1.1", 0, 0)]
+        pads, taken = made.gerber(*made.flash(10, (0, 0))), 0
+        for rows in ([rows[k]] if k < len(rows) else rows[:6] + rows[7:10] for k in range(len(rows) + 1)):
+            for head in ("P  UNITS CUST 1", "PUNITS\tCUST 0"):
+                data = "\n".join([head, *rows, *(() if "999" in rows else ("999", "")), ""]).encode()
+                self.board({"m.json": made.manifest(), "top.gbr": pads, "n.ipc": data})
+                status, out, notes = self.run_words([common.program(), "check", "m.json"], self.path("board"))
+                self.assertIn(status, (0, 1, 3), notes)
+                taken += status != 3
+                if status != 3:
+                    told, found = Report(out.encode()), ipc356.records(data)
+                    named = [(found[row[0] - 1].name, found[row[0] - 1].x, found[row[0] - 1].y) for row in told.points]
+                    said = [(told.names[row[2]], *spot) for row, spot in zip(told.points, told.spots)]
+                    self.assertEqual(said, named, data)
+        self.assertEqual(taken, 30)
 
 
 class Packages(made.Case):

@@ -6,7 +6,7 @@ import time
 import unittest
 
 from boardnet_show.formats import drill_plating
-from boardnet_show.intake import export_advice
+from boardnet_show.intake import cad_tools, export_advice
 from boardnet_show.intake.mends import chords, copper_mends, drill_mends, mended_files, netlist_mends, table
 from tests.fixtures import common
 
@@ -321,13 +321,13 @@ class Words(common.Case):
             (b"G04 made by hand*", "", "Incremental", "absolute coordinates"),
         ]
         for data, tool, kind, words in rows:
-            self.assertEqual(export_advice.tool_of(data), tool, data)
-            self.assertTrue(export_advice.way(kind, tool).startswith(words), (data, export_advice.way(kind, tool)))
+            self.assertEqual(cad_tools.tool_of(data), tool, data)
+            self.assertTrue(cad_tools.way(kind, tool).startswith(words), (data, cad_tools.way(kind, tool)))
 
     def test_tools_with_words_of_their_own(self):
         """Each tool that has words of its own is one that files can name."""
-        known = {name for name, _ in export_advice.TOOLS} | {""}
-        self.assertEqual([tool for rows in export_advice.WAYS.values() for tool in rows if tool not in known], [])
+        known = {tool.name for tool in cad_tools.TOOLS} | {""}
+        self.assertEqual([tool for rows in (*cad_tools.WAYS.values(), *cad_tools.SETTINGS.values()) for tool in rows if tool not in known], [])
 
 
 def is_in(contour, x, y):
