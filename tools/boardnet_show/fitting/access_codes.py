@@ -3,11 +3,11 @@ from typing import Callable, Dict, Iterator, List, Optional, Set, Tuple
 
 from boardnet_show.base.wording import counted
 from boardnet_show.formats import ipc356
+from boardnet_show.formats.drills.drill_places import places
 from boardnet_show.formats.ipc356 import Place
 from boardnet_show.intake.package import Package
 
 from .layer_order import is_near, near_cells
-from .placement import hits, text_of
 
 # The layer that is meant by a record, or None where its code stands.
 LayerOf = Callable[[Place], Optional[int]]
@@ -18,7 +18,7 @@ class Spans:
 
     def __init__(self, package: Package) -> None:
         self.holes: List[Tuple[int, int, Set[Tuple[int, int]]]] = [
-            (first, last, near_cells(hits(text_of(package, name)))) for name, first, last in package.manifest.drills]
+            (first, last, near_cells(places(package.read(name)))) for name, first, last in package.manifest.drills]
 
     def at(self, x: int, y: int) -> List[int]:
         reached = (range(first, last + 1) for first, last, cells in self.holes if is_near(cells, x, y))

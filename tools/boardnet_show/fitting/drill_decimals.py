@@ -1,19 +1,20 @@
 """How many decimals a drill file without points may mean, by holes that lie on through points of the netlist."""
-import re
-from typing import NamedTuple
+from typing import List, NamedTuple
 
 from boardnet_show.base.wording import spoken
+from boardnet_show.formats.drills.drill_lines import BODY, HEADER, Unit, lines, with_numbers
+from boardnet_show.formats.drills.drill_places import numbers, places
 
 from .layer_order import is_near, near_cells
-from .placement import PLACE, body_lines, hits, records, text_of, unit_of
+from .placement import records, text_of, unit_of
 
-BARE = re.compile(r"[XY][+-]?\d+(?![\d.])")
 DECIMALS = range(2, 6)
 MOST = 8            # readings that are tried
 
 
 class Reading(NamedTuple):
-    """Numbers get a point before their last `decimals` digits, filled up with zeros behind to `width` digits where there is one."""
+    """Numbers get a point before their last `decimals` digits, filled up with zeros behind to `width` digits, where
+    it is not 0."""
 
     decimals: int
     width: int
@@ -21,26 +22,42 @@ class Reading(NamedTuple):
     zeros: str
 
 
-def readings(text):
-    """All that may be meant: with leading zeros left out, or with trailing ones where the numbers are not equally long."""
+def bare_numbers(data: bytes) -> List[bytes]:
+    """The numbers of the body without a point, as they are written."""
+    its = (number for line in lines(data) if line.part == BODY for number in numbers(line.record()))
+    return [number for number in its if b"." not in number]
+
+
+def readings(data: bytes) -> List[Reading]:
+    """All that may be meant: with leading zeros left out, or with trailing ones where the numbers are not equally
+    long."""
     found = [Reading(d, 0, f"{d} implied decimals", "leading zeros left out or none") for d in DECIMALS]
-    lengths = {len(digits) for line, body in body_lines(text) if body for _, _, digits in PLACE.findall(line) if "." not in digits}
+    lengths = {len(number.lstrip(b"+-")) for number in bare_numbers(data)}
     if len(lengths) > 1:
         width = max(lengths)
-        found += [Reading(width - n, width, f"{n} digits before the point", "trailing zeros left out") for n in range(1, width - 1)]
+        found += [Reading(width - n, width, f"{n} digits before the point", "trailing zeros left out")
+                  for n in range(1, width - 1)]
     return found
 
 
-def with_point(text, reading):
+def with_point(data: bytes, reading: Reading) -> bytes:
     """The file with points, and its unit line without a word on zeros."""
-    def number(match):
-        axis, sign, digits = match.groups()
-        if "." in digits:
-            return match[0]
-        digits = digits.ljust(reading.width, "0") if reading.width else digits.rjust(reading.decimals + 1, "0")
-        return f"{axis}{sign}{digits[:-reading.decimals]}.{digits[-reading.decimals:]}"
+    def pointed(number: bytes) -> bytes:
+        if b"." in number:
+            return number
+        digits = number.lstrip(b"+-")
+        sign = number[:len(number) - len(digits)]
+        digits = digits.ljust(reading.width, b"0") if reading.width else digits.rjust(reading.decimals + 1, b"0")
+        return sign + digits[:-reading.decimals] + b"." + digits[-reading.decimals:]
 
-    return "".join(PLACE.sub(number, line) if body else re.sub(r"^(\s*(?:METRIC|INCH))[^\r\n]*", r"\1", line) for line, body in body_lines(text))
+    raw = data.split(b"\n")
+    for line in lines(data):
+        record = line.record()
+        if line.part == BODY and numbers(record):
+            raw[line.number - 1] = with_numbers(record, pointed)
+        elif line.part == HEADER and isinstance(record, Unit):
+            raw[line.number - 1] = record.name
+    return b"\n".join(raw)
 
 
 class Fit(NamedTuple):
@@ -48,17 +65,18 @@ class Fit(NamedTuple):
 
     name: str
     reading: Reading
-    text: str
+    data: bytes
     on: int
     holes: int
 
 
-def fits(name, text, cells):
-    """The readings of a file that bring most holes onto through points, and all that bring more than half; all where none brings one."""
+def fits(name, data, cells):
+    """The readings of a file that bring most holes onto through points, and all that bring more than half; all where
+    none brings one."""
     found = []
-    for reading in readings(text):
-        changed = with_point(text, reading)
-        holes = list(hits(changed))
+    for reading in readings(data):
+        changed = with_point(data, reading)
+        holes = list(places(changed))
         found.append(Fit(name, reading, changed, sum(is_near(cells, x, y) for x, y in holes), len(holes)))
     most = max(fit.on for fit in found)
     return [fit for fit in found if fit.on == most or 2 * fit.on > fit.holes]
@@ -72,10 +90,12 @@ def combined(by_file):
 
 
 def likeliest(by_file):
-    """The first of all combinations as they would be sorted: what begins one of these is among the first of all beginnings."""
+    """The first of all combinations as they would be sorted: what begins one of these is among the first of all
+    beginnings."""
     best = [(0, (), ())]
     for its in by_file:
-        longer = [(off - fit.on, (*places, place), (*chosen, fit)) for off, places, chosen in best for place, fit in enumerate(its)]
+        longer = [(off - fit.on, (*before, place), (*chosen, fit))
+                  for off, before, chosen in best for place, fit in enumerate(its)]
         best = sorted(longer, key=lambda row: row[:2])[:MOST]
     return [chosen for _, _, chosen in best]
 
@@ -85,8 +105,8 @@ def decimals_words(fit_all):
     named = {}
     for fit in fit_all:
         named.setdefault((fit.reading.words, fit.reading.zeros), []).append(fit)
-    parts = [f"{words} in {spoken(fit.name for fit in group)} ({zeros}; {sum(fit.on for fit in group)} of {sum(fit.holes for fit in group)} holes on a through point)"
-             for (words, zeros), group in named.items()]
+    parts = [f"{words} in {spoken(fit.name for fit in group)} ({zeros}; {sum(fit.on for fit in group)} of "
+             f"{sum(fit.holes for fit in group)} holes on a through point)" for (words, zeros), group in named.items()]
     return "with " + " and ".join(parts)
 
 
@@ -94,10 +114,10 @@ def implied(package):
     """(words, changed files, holes on through points) for all readings that fit."""
     netlist = text_of(package, package.manifest.netlist)
     unit = unit_of(netlist)
-    files = {name: text_of(package, name) for name, _, _ in package.manifest.drills}
-    bare = {name: text for name, text in files.items() if any(BARE.search(line) for line, body in body_lines(text) if body)}
+    files = {name: package.read(name) for name, _, _ in package.manifest.drills}
+    bare = {name: data for name, data in files.items() if bare_numbers(data)}
     if not bare or unit is None:
         return
     cells = near_cells((r.x * unit, r.y * unit) for r in records(netlist) if r.access == 0)
-    for fit_all in combined([fits(name, text, cells) for name, text in bare.items()]):
-        yield decimals_words(fit_all), {fit.name: fit.text.encode("latin-1") for fit in fit_all}, sum(fit.on for fit in fit_all)
+    for fit_all in combined([fits(name, data, cells) for name, data in bare.items()]):
+        yield decimals_words(fit_all), {fit.name: fit.data for fit in fit_all}, sum(fit.on for fit in fit_all)

@@ -2,49 +2,59 @@
 
 As with netlists, a vote decides what is tried, and what is told is what `check` says of the changed copy.
 """
-import re
 from fractions import Fraction as Q
+from typing import Callable, List, Optional, Tuple
 
 from boardnet_show.base.wording import spoken
+from boardnet_show.formats.drills.drill_lines import BODY, HEADER, Place, Tool, Unit, lines, places_of
+from boardnet_show.formats.drills.drill_lines import text_of as line_of
+from boardnet_show.formats.drills.drill_places import places
+from boardnet_show.formats.drills.drill_places import unit_of as drill_unit
 from boardnet_show.formats.units import decimal_millimetres
 
 from .layer_order import is_near, near_cells
-from .placement import (
-    ENOUGH, FORMS, MANY, PLACE, SAMPLE, all_flashes, body_lines, change, drill_unit, hits, moved, records, text_of,
-    unit_of, vote
-)
+from .placement import ENOUGH, FORMS, MANY, SAMPLE, all_flashes, change, moved, records, text_of, unit_of, vote
 
 STEP = 10_000           # a micrometre: what shifts of holes are rounded to
 TRIED = 4               # shifts of one file
-TOOL = re.compile(r"^(\s*T\d+)C(\d+\.?\d*|\.\d+)\s*$")
 # The form that takes a form back, by its number.
 BACK = (0, 1, 2, 3, 5, 4, 6, 7)
+
+Form = Callable[[Q, Q], Tuple[Q, Q]]
 
 
 # ---- a drill file, moved
 
-def drill_moved(text, form, by):
-    """The file in millimetres with all places through a form and moved by whole u, each coordinate written out; None without a unit."""
-    unit, at, out = drill_unit(text), [Q(0), Q(0)], []
-    if unit is None:
-        return None
+class Moved:
+    """A drill file in millimetres with all places through a form and moved by whole u, each coordinate written out."""
 
-    def moved_place(part):
-        for axis, sign, digits in PLACE.findall(part):
-            at["XY".index(axis)] = Q(sign + digits) * unit
-        x, y = (round(v) + d for v, d in zip(form(*at), by))
-        return PLACE.sub("", part).rstrip() + f"X{decimal_millimetres(x)}Y{decimal_millimetres(y)}"
+    def __init__(self, data: bytes, unit: int, form: Form, by: Tuple[int, int]) -> None:
+        self.unit, self.form, self.by = unit, form, by
+        self.at: List[Q] = [Q(0), Q(0)]
+        raw = data.split(b"\n")
+        for line in lines(data):
+            record = line.record()
+            if line.part == BODY and places_of(record):
+                raw[line.number - 1] = line_of(record, [self.place(place) for place in places_of(record)])
+            elif line.part == HEADER and isinstance(record, Tool) and set(dict(record.parameters)) == {b"C"}:
+                size = round(Q(record.sizes()[0].decode()) * unit)
+                raw[line.number - 1] = record.name + b"C" + decimal_millimetres(size).encode()
+            elif line.part == HEADER and isinstance(record, Unit):
+                raw[line.number - 1] = b"METRIC" + line.text[len(record.name):]
+        self.data = b"\n".join(raw)
 
-    for line, body in body_lines(text):
-        tool = TOOL.match(line)
-        if body and PLACE.search(line) and not line.lstrip().startswith("T"):
-            line = "G85".join(moved_place(part) for part in line.strip().split("G85")) + "\n"
-        elif tool and not body:
-            line = f"{tool[1]}C{decimal_millimetres(round(Q(tool[2]) * unit))}\n"
-        elif not body:
-            line = re.sub(r"^(\s*)(?:INCH|METRIC)\b", r"\1METRIC", line)
-        out.append(line)
-    return "".join(out)
+    def place(self, place: Place) -> Place:
+        for axis, number in enumerate(place):
+            if number is not None:
+                self.at[axis] = Q(number.decode()) * self.unit
+        x, y = (decimal_millimetres(round(v) + d).encode() for v, d in zip(self.form(*self.at), self.by))
+        return Place(x, y)
+
+
+def drill_moved(data: bytes, form: Form, by: Tuple[int, int]) -> Optional[bytes]:
+    """The file moved; None without a unit."""
+    unit = drill_unit(data)
+    return None if unit is None else Moved(data, unit, form, by).data
 
 
 # ---- how holes lie on pads
@@ -54,30 +64,33 @@ class Holes:
 
     def __init__(self, package):
         self.package, self.pads = package, all_flashes(package)
-        self.of = {name: sorted(set(hits(text_of(package, name)))) for name, _, _ in package.manifest.drills}
+        self.of = {name: sorted(set(places(package.read(name)))) for name, _, _ in package.manifest.drills}
         cells = near_cells(self.pads)
         # Files of which at most half of the holes lie on the middle of a pad.
-        self.off = [name for name, holes in self.of.items() if holes and self.pads and 2 * sum(is_near(cells, *hole) for hole in holes) <= len(holes)]
+        self.off = [name for name, holes in self.of.items()
+                    if holes and self.pads and 2 * sum(is_near(cells, *hole) for hole in holes) <= len(holes)]
 
     def candidates(self, names):
         """(form, shift in u) that bring most holes of these files onto pads, the likeliest first."""
         holes = sorted({hole for name in names for hole in self.of[name]})
         sample, centres, found = holes[::max(1, len(holes) // SAMPLE)][:SAMPLE], sorted(self.pads), []
         for turn, (_, form) in enumerate(FORMS if len(centres) <= MANY else FORMS[:1]):
-            found += [(-Q(n, len(sample)), turn > 0, turn, tuple(v * STEP for v in by)) for n, by in vote(sample, centres, form, STEP)]
+            found += [(-Q(n, len(sample)), turn > 0, turn, tuple(v * STEP for v in by))
+                      for n, by in vote(sample, centres, form, STEP)]
             if -min(found)[0] > ENOUGH:
                 break
         return [(turn, by) for _, _, turn, by in sorted(found) if (turn, by) != (0, (0, 0))][:TRIED]
 
     def files(self, names, turn, by):
         """These drill files moved, or None."""
-        texts = {name: drill_moved(text_of(self.package, name), FORMS[turn][1], by) for name in names}
-        return None if None in texts.values() else {name: text.encode("latin-1") for name, text in texts.items()}
+        found = {name: drill_moved(self.package.read(name), FORMS[turn][1], by) for name in names}
+        return None if None in found.values() else found
 
 
 def moved_drills(holes, names):
     """(words, changed files) for drill files that do not lie on the copper's pads."""
-    who = "the drills" if len(names) == len(holes.of) else f"the drill file{'s' if len(names) > 1 else ''} {spoken(names)}"
+    files = f"the drill file{'s' if len(names) > 1 else ''} {spoken(names)}"
+    who = "the drills" if len(names) == len(holes.of) else files
     for turn, by in holes.candidates(names):
         files = holes.files(names, turn, by)
         if files:

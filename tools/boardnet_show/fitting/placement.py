@@ -5,19 +5,18 @@ A vote decides what is tried, and nothing else: what is told is what `check` say
 import re
 from collections import Counter
 from fractions import Fraction as Q
-from functools import lru_cache
 from typing import Callable, List, Optional, Sequence, Tuple
 
 from boardnet_show.base.wording import millimetres
 from boardnet_show.formats import ipc356
+from boardnet_show.formats.drills.drill_places import places
 from boardnet_show.formats.gerber_words import words_of
-from boardnet_show.formats.units import INCH, MM, SCALES, UNIT_WORDS
+from boardnet_show.formats.units import SCALES, UNIT_WORDS
 from boardnet_show.geometry.exact import Refused
 
 SAMPLE = 40             # records that vote
 FEW, MANY = 8, 20_000   # centres
 ENOUGH = Q(3, 4)        # of the votes: no other centres are asked
-PLACE = re.compile(r"([XY])([+-]?)(\d+\.?\d*|\.\d+)")
 # Operations of a copper file, and its format.
 OPERATION = re.compile(r"(?:G0?[123])?(?=[XYD])(?:X([+-]?\d+))?(?:Y([+-]?\d+))?(?:I[+-]?\d+)?(?:J[+-]?\d+)?(?:D0?([123]))?")
 FORMAT = re.compile(r"FSLAX\d(\d)Y\d\d")
@@ -105,44 +104,11 @@ def all_flashes(package):
     return set().union(*(flashes(package, index) for index in range(package.manifest.layers)))
 
 
-def drill_unit(text):
-    found = re.search(r"^\s*(METRIC|INCH)", text, re.M)
-    return {"METRIC": MM, "INCH": INCH}[found[1]] if found else None
-
-
-def body_lines(text):
-    """Each line of a drill file, and whether it stands in the body and is no comment."""
-    body = False
-    for line in text.splitlines(keepends=True):
-        yield line, body and not line.lstrip().startswith(";")
-        body = body or line.strip() == "%"
-
-
-@lru_cache(maxsize=MANY)
-def length(digits, unit):
-    """A number with a point in u, rounded as fractions are: a half to the even one."""
-    whole, _, part = digits.partition(".")
-    over = 10 ** len(part)
-    u, rest = divmod(int(whole + part) * unit, over)
-    return u + (2 * rest > over or 2 * rest == over and u % 2)
-
-
-def hits(text):
-    """Places of a drill file whose numbers have points, in u."""
-    unit, at = drill_unit(text), [0, 0]
-    for line, body in body_lines(text) if unit else ():
-        if body and "." in line and PLACE.search(line):
-            for part in line.split("G85"):
-                for axis, sign, digits in PLACE.findall(part):
-                    at["XY".index(axis)] = length(sign + digits, unit)
-                yield tuple(at)
-
-
 def voters(package, text, without):
     """Places of records with centres that they may lie on: through points and holes, else all points and all centres. The holes
     of some drill files have no vote."""
     told = records(text)
-    holes = sorted({spot for name, _, _ in package.manifest.drills if name not in without for spot in hits(text_of(package, name))})
+    holes = sorted({spot for name, _, _ in package.manifest.drills if name not in without for spot in places(package.read(name))})
     through = sorted({(r.x, r.y) for r in told if r.is_through})
     enough = min(len(through), len(holes)) >= FEW
     if enough:

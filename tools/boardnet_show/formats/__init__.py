@@ -1,1 +1,1 @@
-"""Bytes to typed records and back: Gerber, Excellon/XNC, IPC-D-356A, the report, the manifest; it judges nothing."""
+"""Bytes to typed records and back: Gerber, IPC-D-356A, the report, the manifest; it judges nothing."""

@@ -1,5 +1,6 @@
 """Shapes in columns: capsules and areas, their places and boxes."""
 from array import array
+from typing import Iterable, Tuple
 
 AREA = -1
 
@@ -15,7 +16,7 @@ class Shapes:
     def __len__(self):
         return len(self.radius)
 
-    def add(self, radius, places):
+    def add(self, radius: int, places: Iterable[Tuple[int, int]]) -> None:
         self.radius.append(radius)
         for x, y in places:
             self.x.append(x)

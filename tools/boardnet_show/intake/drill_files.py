@@ -1,7 +1,7 @@
 """Drill files: plated or not, and the layers that their holes span."""
 import re
 
-from boardnet_show.formats.drill_plating import Plating, unplated_hole
+from boardnet_show.formats.drills.drill_plating import Plating, unplated_hole
 
 from .file_names import Refused, shown
 

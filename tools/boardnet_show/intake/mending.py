@@ -3,7 +3,7 @@ import os
 
 from boardnet_show.base.statuses import REFUSED, UNJUDGED, Stop
 from boardnet_show.base.wording import counted
-from boardnet_show.formats.drill_plating import unplated_hole, unread_function
+from boardnet_show.formats.drills.drill_plating import unplated_hole, unread_function
 from boardnet_show.intake.mends import mended_files as mends, netlist_mends
 
 

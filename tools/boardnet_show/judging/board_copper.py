@@ -1,6 +1,6 @@
 """The shapes of a board's pieces: copper from `flatten`'s normal form, holes from the drill lines that the report names."""
 from boardnet_show.base.statuses import BadCopper
-from boardnet_show.formats.drilled_holes import add_drilled
+from boardnet_show.formats.drills.drilled_holes import add_drilled
 from boardnet_show.formats.normal_form import add_flat
 from boardnet_show.geometry.shapes import Shapes
 

@@ -163,13 +163,13 @@ class Decimals(Case):
             self.assertEqual(self.told(short, program)[:2], (3, []))
 
     def test_points_are_kept(self):
-        text = "M48\nMETRIC,TZ\nT1C0.4\n%\nT1\nX1.5Y-25\n;X5\nM30\n"
-        self.assertEqual(drill_decimals.with_point(text, drill_decimals.Reading(3, 0, "", "")), "M48\nMETRIC\nT1C0.4\n%\nT1\nX1.5Y-0.025\n;X5\nM30\n")
+        text = b"M48\nMETRIC,TZ\nT1C0.4\n%\nT1\nX1.5Y-25\n;X5\nM30\n"
+        self.assertEqual(drill_decimals.with_point(text, drill_decimals.Reading(3, 0, "", "")), b"M48\nMETRIC\nT1C0.4\n%\nT1\nX1.5Y-0.025\n;X5\nM30\n")
 
     def test_combined(self):
         """One form for all files where that fits, else the likeliest of all combinations, in their order; of many files at once."""
         chance, how = random.Random(5), [drill_decimals.Reading(d, width, "", "") for width in (0, 6) for d in range(2, 5)]
-        fits = lambda name, least: [drill_decimals.Fit(name, it, "", chance.randrange(4), 4) for it in chance.sample(how, chance.randrange(least, 5))]
+        fits = lambda name, least: [drill_decimals.Fit(name, it, b"", chance.randrange(4), 4) for it in chance.sample(how, chance.randrange(least, 5))]
         for files in (1, 2, 3, 4) * 40:
             by_file = [fits(str(k), 1) for k in range(files)]
             every = list(product(*by_file))

@@ -14,7 +14,7 @@ KICAD = "; DRILL file {KiCad 9.0.2} date 2026-01-01T00:00:00\n"
 
 def with_drills(files, turn, by, names=("p.drl",)):
     """The package with drill files through a form and moved by u."""
-    return {**files, **{name: drill_placement.drill_moved(files[name], FORMS[turn], by) for name in names}}
+    return {**files, **{name: drill_placement.drill_moved(files[name].encode(), FORMS[turn], by).decode() for name in names}}
 
 
 def two_drill_files(pads=15):
@@ -105,10 +105,10 @@ class Drills(Case):
             self.assertEqual(bool(gaps), not is_hinted)
 
     def test_a_slot_and_inches(self):
-        text = "M48\nINCH\nT1C0.0100\n%\nT1\nX1.0Y0.5\nY0.25\nG00X0.0Y0.0\nM15\nG01X0.1\nM16\nX0.1Y0.2G85X0.3\nM30\n"
+        text = b"M48\nINCH\nT1C0.0100\n%\nT1\nX1.0Y0.5\nY0.25\nG00X0.0Y0.0\nM15\nG01X0.1\nM16\nX0.1Y0.2G85X0.3\nM30\n"
         self.assertEqual(drill_placement.drill_moved(text, FORMS[0], (10_000_000, 0)),
-                         "M48\nMETRIC\nT1C0.2540000\n%\nT1\nX26.4000000Y12.7000000\nX26.4000000Y6.3500000\nG00X1.0000000Y0.0000000\nM15\n"
-                         "G01X3.5400000Y0.0000000\nM16\nX3.5400000Y5.0800000G85X8.6200000Y5.0800000\nM30\n")
+                         b"M48\nMETRIC\nT1C0.2540000\n%\nT1\nX26.4000000Y12.7000000\nX26.4000000Y6.3500000\nG00X1.0000000Y0.0000000\nM15\n"
+                         b"G01X3.5400000Y0.0000000\nM16\nX3.5400000Y5.0800000G85X8.6200000Y5.0800000\nM30\n")
 
 
 def buried(code="07"):

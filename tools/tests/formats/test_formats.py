@@ -3,7 +3,8 @@ import os
 import unittest
 
 from boardnet_show.base import statuses
-from boardnet_show.formats import drilled_holes, ipc356, manifest, normal_form, units
+from boardnet_show.formats import ipc356, manifest, normal_form, units
+from boardnet_show.formats.drills import drilled_holes
 from boardnet_show.formats.report import BadReport, Report
 from boardnet_show.geometry.shapes import Shapes
 from boardnet_show.intake.package import Package, room

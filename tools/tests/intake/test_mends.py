@@ -5,7 +5,7 @@ import random
 import time
 import unittest
 
-from boardnet_show.formats import drill_plating
+from boardnet_show.formats.drills import drill_plating
 from boardnet_show.intake import cad_tools, export_advice
 from boardnet_show.intake.mends import chords, copper_mends, drill_mends, mended_files, netlist_mends, table
 from tests.fixtures import common
