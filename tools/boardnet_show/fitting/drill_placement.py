@@ -35,7 +35,7 @@ class Moved:
         for line in lines(data):
             record = line.record()
             if line.part == BODY and places_of(record):
-                raw[line.number - 1] = line_of(record, [self.place(place) for place in places_of(record)])
+                raw[line.number - 1] = line_of(record, [self.moved(place) for place in places_of(record)])
             elif line.part == HEADER and isinstance(record, Tool) and set(dict(record.parameters)) == {b"C"}:
                 size = round(Q(record.sizes()[0].decode()) * unit)
                 raw[line.number - 1] = record.name + b"C" + decimal_millimetres(size).encode()
@@ -43,7 +43,7 @@ class Moved:
                 raw[line.number - 1] = b"METRIC" + line.text[len(record.name):]
         self.data = b"\n".join(raw)
 
-    def place(self, place: Place) -> Place:
+    def moved(self, place: Place) -> Place:
         for axis, number in enumerate(place):
             if number is not None:
                 self.at[axis] = Q(number.decode()) * self.unit
