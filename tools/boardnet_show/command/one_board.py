@@ -1,78 +1,13 @@
-"""One board, from its files to its findings."""
-import os
-from typing import NamedTuple
-
-from boardnet_show.base.statuses import FAULT, UNDECIDED, UNJUDGED, BadCopper, fault_of
+"""One board, from its files to its findings: each step gives a value to the next."""
+from boardnet_show.base.statuses import FAULT, UNDECIDED, BadCopper, fault_of
 from boardnet_show.extras import requested
 from boardnet_show.findings.board import Board
+from boardnet_show.findings.explained import Explained, title_of
 from boardnet_show.formats import gerber_attributes, ipc356, report
 from boardnet_show.intake import mending, package
-from boardnet_show.judging import judged, net_ties, nothing_judged
+from boardnet_show.judging import answers, judged, net_ties, nothing_judged
 from boardnet_show.netlists import own_names
-
-COUNTED = ("opens", "shorts", "missing", "open_ties")
-
-
-class Shown:
-    """What is told of one PATH. `status` and `line` say how it ended; `board` is None where nothing was judged.
-
-    `notes` are sentences on what was taken and what is not known, `hints` answers of `check` on changed copies, `bounds` the
-    answer on a board that lies between two, `ties` the net ties that are declared.
-    """
-
-    def __init__(self, path):
-        self.path, self.status, self.line, self.audit = path, 0, "", ""
-        self.title = os.path.basename(os.path.normpath(path)) or path
-        self.board, self.findings, self.hints, self.bounds = None, [], [], None
-        # The report, twice, or those of a lower and an upper board.
-        self.reports = ()
-        self.notes, self.flood, self.report, self.ties, self.mends = [], "", b"", net_ties.Ties(), []
-        # What an upper board has beyond a lower one, as (layer, corners).
-        self.wider = []
-        # What was asked for beside: the netlist for a tester, the comparison with another board, the record.
-        self.tester = self.like = self.record = self.gap_count = None
-        # Status and line of the netlist alone, and what became of all that was asked for besides.
-        self.verdict, self.besides = None, []
-
-    def counts(self):
-        """What the line counts: lines of the report, but for shorts that are declared ties, and apart the ties that no copper makes.
-        Between two bounds these are of the board that makes them certain: shorts of the lower one, all else of the upper one."""
-        low, high = self.reports
-        above = self.ties.counts(high)
-        return dict(zip(COUNTED, (above[0], self.ties.counts(low)[1], *above[2:])))
-
-    def found_counts(self):
-        """How many findings are certain, with ties of names that no test point has, and how many are undecided."""
-        sure = [it.sure is not False for it in self.findings if it.kind != "gap"]
-        return {"certain": sum(sure) + len(net_ties.lost(self.ties, self.board.report)), "undecided": len(sure) - sum(sure)}
-
-    def lacks(self, what, why, details=()):
-        """Something that was asked for is not known."""
-        self.line = f"{self.line}; {why}"
-        self.status = self.status or UNJUDGED
-        self.besides.append(Beside(what, UNJUDGED, why, details))
-
-    def found(self, what, certain, possible, words, details=()):
-        """Something that was looked for beside the netlist, and how much of it there is."""
-        self.line = f"{self.line}; {words}"
-        status = 1 if certain else UNDECIDED if possible else 0
-        if self.status in (0, UNDECIDED):
-            self.status = status if certain or possible else self.status
-        self.besides.append(Beside(what, status, words, details))
-
-
-class Beside(NamedTuple):
-    """What was asked for beside the netlist: its name in lists of cases, its own status, what became of it, and (name, words, places) of
-    each thing that was found."""
-
-    what: str
-    status: int
-    words: str
-    details: tuple
-
-    def causes(self):
-        """Why its status is not 0, or nothing."""
-        return [*self.details] or [(self.what, self.words, ())] if self.status else []
+from boardnet_show.output.shown import Shown
 
 
 def shapes_of(program, told):
@@ -113,25 +48,6 @@ def package_notes(files):
     return notes
 
 
-def look(program, told, shown, wants_picture):
-    """Fills in the findings of a judged board."""
-    records = ipc356.records(told.package.read(told.package.manifest.netlist))
-    shapes, why, named = None, "", None
-    if shown.status == 1 or wants_picture:
-        shapes, why = shapes_of(program, told)
-    if shown.ties.shorts(told.report):
-        named = labels_of(program, told)
-    program.progress.begin("looking for the places")
-    shown.board, shown.reports = Board(told.package, told.report, records, shapes, named, shown.ties), (told.report, told.report)
-    if shown.status or not told.report.agrees:
-        from boardnet_show.findings import findings
-        shown.findings, shown.flood = findings.all_findings(shown.board), findings.flood(told.report)
-    shown.notes += [*nothing_judged.unnamed_notes(shown.board), *net_ties.lost(shown.ties, told.report), *([why] if why else [])]
-    nothing = nothing_judged.why_nothing(told.report)
-    if nothing and shown.status == 0:
-        shown.status, shown.line = UNJUDGED, nothing
-
-
 def by_own_names(files, asked):
     """Has the board judged by the copper's own names where there is no netlist or where it is asked; answers the notes."""
     if not files.manifest:
@@ -146,84 +62,127 @@ def by_own_names(files, asked):
     return told + (pin_names.differences(files) if files.theirs else [])
 
 
-def show(path, asked, program, scratch):
-    """What is told of one PATH, whatever becomes of it."""
-    shown = Shown(path)
-    try:
-        files = package.opened(path, asked, scratch)
-        package.need_netlist(files, asked)
-        own = by_own_names(files, asked)
-        shown.ties = net_ties.declared(asked.tie, files)
-        mending.mend(files, program.progress)
-        told = judged.judge(program, files)
-        (shown.status, shown.line), shown.audit, shown.report = shown.ties.answer(told), told.audit, told.text or b""
-        shown.notes = own + package_notes(files)
-        if told.report:
-            look(program, told, shown, asked.page or asked.svg or requested.wants_copper(asked))
-        outside(program, told, shown, asked)
-        if shown.board and shown.status in (0, 1, UNDECIDED):
-            from boardnet_show.bounds.files import (        # most boards stop here, and loading takes longer than a small board
-                widthless_contours
-            )
-            shown.notes += widthless_contours.notes(files)
-        mending.say(files, shown)
-        if files.own and shown.status in own_names.ANSWERS:
-            shown.line = own_names.FIRST + shown.line
-        requested.add(program, told, shown, asked, scratch)
-        if asked.keep:
-            if shown.ties.ties:
-                files.put(package.TIES, shown.ties.file_text().encode())
-            package.keep(files, shown.report, asked.keep)
-    except BrokenPipeError:
-        raise
-    except Exception as fault:
-        stop = fault_of(path, fault)
-        shown = Shown(path) if stop.status == FAULT else shown
-        shown.status, shown.line = stop.status, str(stop)
-    return shown
+# ---- what is found on a judged board
+
+def looked_at(program, told, seen, wants_picture):
+    """The findings of a judged board."""
+    records = ipc356.records(told.package.read(told.package.manifest.netlist))
+    shapes, why = shapes_of(program, told) if seen.answer.status == 1 or wants_picture else (None, "")
+    named = labels_of(program, told) if seen.ties.shorts(told.report) else None
+    program.progress.begin("looking for the places")
+    board = Board(told.package, told.report, records, shapes, named, seen.ties)
+    seen = seen._replace(board=board, reports=(told.report, told.report))
+    if seen.answer.status or not told.report.agrees:
+        from boardnet_show.findings import findings
+        seen = seen._replace(findings=findings.all_findings(board), flood=findings.flood(told.report))
+    nothing = nothing_judged.why_nothing(told.report) if seen.answer.status == 0 else ""
+    if nothing:
+        seen = seen._replace(answer=answers.nothing(nothing))
+    return seen.noted(*nothing_judged.unnamed_notes(board), *net_ties.lost(seen.ties, told.report), *([why] if why else []))
 
 
-def outside(program, told, shown, asked):
-    """What copies of the files say: bounds of copper outside the profile, and hints."""
-    if told.status != 3 and shown.status != 1:
-        return
-    from boardnet_show.fitting import (        # most boards want neither, and loading takes longer than a small board
-        hints
-    )
-    if told.status == 3:
-        from boardnet_show.judging import two_bounds
-        shown.bounds = two_bounds.bounded(program, told, shown.ties)
-        if shown.bounds:
-            from boardnet_show.judging import between_command
-            shown.bounds = between_command.answer_of_between(program, told, shown.bounds, shown.ties, requested.wants_copper(asked))
-            shown.status, shown.line = shown.bounds.status, shown.bounds.line
-            shown.notes += shown.bounds.notes
-            if shown.bounds.sides:
-                look_between(program, told.package, shown, asked)
-        if told.package.between:
-            shown.notes += net_ties.lost(shown.ties, told.package.between[1].report)
-    if told.status == 3 or shown.status == 1:
-        shown.hints = hints.hints(program, told, shown.ties)
-        if hints.explain(shown.hints):
-            for finding in shown.findings:
-                finding.without_suggestion()
+def bounded(program, told, seen, asked):
+    """What bounds say of a board that is refused."""
+    from boardnet_show.judging import two_bounds
+    bounds = two_bounds.bounded(program, told, seen.ties)
+    if bounds:
+        from boardnet_show.judging import between_command
+        bounds = between_command.answer_of_between(program, told, bounds, seen.ties, requested.wants_copper(asked))
+        seen = seen._replace(bounds=bounds, answer=bounds.answer).noted(*bounds.notes)
+        if bounds.sides:
+            seen = looked_at_between(program, told.package, seen, asked)
+    if told.package.between:
+        seen = seen.noted(*net_ties.lost(seen.ties, told.package.between[1].report))
+    return seen
 
 
-def look_between(program, files, shown, asked):
-    """Fills in the findings of a board between bounds, over the lower one."""
+def looked_at_between(program, files, seen, asked):
+    """The findings of a board between bounds, over the lower one."""
     from boardnet_show.findings import between_bounds, findings
     answer, low, high = files.between
     wants_picture = asked.page or asked.svg or asked.rdb
     shapes, why = shapes_of(program, low) if answer.findings or wants_picture or requested.wants_copper(asked) else (None, "")
-    named = labels_of(program, low) if shown.ties.shorts(low.report) else None
+    named = labels_of(program, low) if seen.ties.shorts(low.report) else None
     program.progress.begin("looking for the places")
-    shown.audit, shown.reports = low.audit, (low.report, high.report)
-    shown.board = between_bounds.board_of(low, answer.sides[0], shapes, named, shown.ties)
-    shown.findings, shown.flood = between_bounds.Findings(shown.board).of(answer), findings.flood(high.report)
-    shown.notes += [*nothing_judged.unnamed_notes(shown.board), *([why] if why else [])]
+    board = between_bounds.board_of(low, answer.sides[0], shapes, named, seen.ties)
+    seen = seen._replace(audit=low.audit, reports=(low.report, high.report), board=board, findings=between_bounds.Findings(board).of(answer),
+                         flood=findings.flood(high.report))
     if wants_picture and shapes is not None:
-        from boardnet_show.judging import upper_copper
-        try:
-            shown.wider = between_bounds.wider(shown.board, *upper_copper.above(program, high, files.sides))
-        except BadCopper:
-            pass        # then nothing is outlined
+        seen = seen._replace(wider=wider(program, files, board, high))
+    return seen.noted(*nothing_judged.unnamed_notes(board), *([why] if why else []))
+
+
+def wider(program, files, board, high):
+    """Where the upper of two bounds is wider; nothing where its pieces are not known."""
+    from boardnet_show.findings import between_bounds
+    from boardnet_show.judging import upper_copper
+    try:
+        return between_bounds.wider(board, *upper_copper.above(program, high, files.sides))
+    except BadCopper:
+        return ()
+
+
+def hinted(program, told, seen):
+    """What changed copies say, where a board is refused or differs."""
+    from boardnet_show.fitting import (        # most boards want none, and loading takes longer than a small board
+        hints
+    )
+    found = hints.hints(program, told, seen.ties)
+    findings = [it.without_suggestion() for it in seen.findings] if hints.explain(found) else seen.findings
+    return seen._replace(hints=found, findings=findings)
+
+
+def explained(program, told, seen, asked):
+    """All that is known of a judged board."""
+    if told.report:
+        seen = looked_at(program, told, seen, asked.page or asked.svg or requested.wants_copper(asked))
+    if told.status == 3:
+        seen = bounded(program, told, seen, asked)
+    if told.status == 3 or seen.answer.status == 1:
+        seen = hinted(program, told, seen)
+    if seen.board and seen.answer.status in (0, 1, UNDECIDED):
+        from boardnet_show.bounds.files import (        # most boards stop here, and loading takes longer than a small board
+            widthless_contours
+        )
+        seen = seen.noted(*widthless_contours.notes(told.package))
+    return of_files(told.package, seen)
+
+
+def of_files(files, seen):
+    """The same with what was made of the files first: mends, and a netlist of the copper's own names."""
+    answer = seen.answer._replace(mends=len(files.mends), advice=mending.way_out(files, seen.answer.refusal),
+                                  is_by_own_names=bool(files.own) and seen.answer.status in own_names.ANSWERS)
+    return seen._replace(answer=answer, mends=files.mends, notes=[*(f"mended: {it.words}" for it in files.mends), *seen.notes])
+
+
+# ---- one board
+
+def keep(files, seen, folder):
+    if seen.ties.ties:
+        files.put(package.TIES, seen.ties.file_text().encode())
+    package.keep(files, seen.report, folder)
+
+
+def show(path, asked, program, scratch):
+    """What is told of one PATH, whatever becomes of it."""
+    shown = blank = Shown(path, Explained(title_of(path), answers.Answer(0, answers.EXACT, "")))
+    try:
+        files = package.opened(path, asked, scratch)
+        package.need_netlist(files, asked)
+        own = by_own_names(files, asked)
+        shown = shown._replace(seen=shown.seen._replace(ties=net_ties.declared(asked.tie, files)))
+        mending.mend(files, program.progress)
+        told = judged.judge(program, files)
+        shown = shown._replace(seen=shown.seen._replace(answer=shown.seen.ties.answer(told), audit=told.audit, report=told.text or b"",
+                                                        notes=own + package_notes(files)))
+        shown = shown._replace(seen=explained(program, told, shown.seen, asked))
+        shown = shown._replace(requested=requested.made(program, told, shown.seen, asked, scratch))
+        if asked.keep:
+            keep(files, shown.seen, asked.keep)
+    except BrokenPipeError:
+        raise
+    except Exception as fault:
+        stop = fault_of(path, fault)
+        shown = blank if stop.status == FAULT else shown
+        shown = shown._replace(seen=shown.seen._replace(answer=answers.stopped(stop)), requested=shown.requested._replace(besides=()))
+    return shown

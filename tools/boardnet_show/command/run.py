@@ -87,10 +87,10 @@ def forms(asked, all_shown):
         from boardnet_show.output import rdb
         yield asked.rdb, rdb.marker_database(first)
     if asked.ipc:
-        yield asked.ipc, first.tester and first.tester.text
+        yield asked.ipc, first.requested.tester and first.requested.tester.text
     if asked.record:
         from boardnet_show.extras import record
-        yield asked.record, first.record and record.record_text(first.record)
+        yield asked.record, first.requested.record and record.record_text(first.requested.record)
     if asked.page or asked.svg:
         yield from pictures(asked, first)
 
@@ -99,7 +99,7 @@ def pictures(asked, shown):
     if not shown.board or shown.board.shapes is None:
         if asked.page:
             from boardnet_show.output import record_page
-            yield asked.page, shown.record and record_page.page(shown)
+            yield asked.page, shown.requested.record and record_page.page(shown)
         if asked.svg:
             yield asked.svg, None
         print(f"boardnet: no picture is drawn, since the copper of {printable(shown.path)} is not known", file=sys.stderr)

@@ -6,11 +6,11 @@ hints, and what is told is what `check` says of the moved netlist.
 import os
 from typing import NamedTuple
 
-from boardnet_show.base.statuses import UNDECIDED, UNJUDGED, BadCopper, Stop
+from boardnet_show.base.statuses import UNJUDGED, BadCopper, Stop
 from boardnet_show.base.wording import counted, millimetres
 from boardnet_show.findings import between_bounds, findings
 from boardnet_show.findings.nearest_copper import gap_of_lines
-from boardnet_show.fitting.hints import Trials, best_placement
+from boardnet_show.fitting.hints import Trial, Trials, best_placement
 from boardnet_show.fitting.placement import FORMS
 from boardnet_show.formats import ipc356
 from boardnet_show.geometry.box_tree import apart
@@ -19,7 +19,9 @@ from boardnet_show.geometry.segments import box_of_line
 from boardnet_show.intake import mending, package
 from boardnet_show.judging import board_copper, judged, two_bounds
 from boardnet_show.netlists import pad_names, tester
+from boardnet_show.output.sentences import changes, hints
 
+from .requested import Requested, lacking, outcome
 from .spacing import STEP, Lines, least
 
 KINDS = {"open": "parted", "short": "joined", "missing": "missing"}
@@ -150,16 +152,17 @@ def differences(program, shapes, answer, made, other_text):
 
 
 def checked(program, told, text, ties):
-    """(answer, words of the placement) of this board with the other one's netlist, moved where that makes it fit."""
+    """(trial, words of the placement) of this board with the other one's netlist, moved where that makes it fit."""
     trials = Trials(program, ties)
-    answer = trials.of(told.package, {told.package.manifest.netlist: text})
-    if answer.report is None:
-        raise Stop(answer.status, answer.words)
-    if answer.is_misplaced():
-        best = best_placement(trials, answer)
-        if best and best[1].rank() < answer.rank():
-            return best[1], best[0].words.split(", `check` says")[0].replace("with the netlist", "the other board")
-    return answer, ""
+    base = Trial(told.package, ties.answer(told))
+    trial = trials.of(base, None, {told.package.manifest.netlist: text})
+    if trial.report is None:
+        raise Stop(trial.status, hints.answer_words(trial.answer))
+    if trial.is_misplaced():
+        best = best_placement(trials, trial)
+        if best and best[1].rank() < trial.rank():
+            return best[1], f"the other board {changes.netlist_placed(best[0].change)}{best[0].setting}"
+    return trial, ""
 
 
 def reference(program, path, asked, scratch, board):
@@ -179,22 +182,26 @@ def reference(program, path, asked, scratch, board):
     return made, made.text.encode("latin-1")
 
 
-def add(program, told, shown, asked, scratch):
-    """Compares a board with another one."""
+def counts_words(its):
+    """How many differences there are of each kind, those that there are."""
+    counts = [(sum(it.kind == kind for it in its), word) for kind, word in (("parted", "parted net"), ("joined", "joined net"), ("missing", "missing pad"))]
+    return ", ".join(counted(count, word) for count, word in counts if count)
+
+
+def requested(program, told, seen, asked, scratch):
+    """A judged board compared with another one."""
     try:
-        made, text = reference(program, asked.like, asked, scratch, shown.board)
-        answer, placed = checked(program, told, text, shown.ties.allowed())
-        its = differences(program, shown.board and shown.board.shapes, answer, made.netlist, text)
+        made, text = reference(program, asked.like, asked, scratch, seen.board)
+        trial, placed = checked(program, told, text, seen.ties.allowed())
+        its = differences(program, seen.board and seen.board.shapes, trial, made.netlist, text)
         if len(made.netlist.rows) < 2 and not its:
             raise Stop(UNJUDGED, "it has one pad alone that can be compared")
     except (Stop, BadCopper) as why:
-        shown.lacks(f"like {asked.like}", f"not compared with {asked.like}: {why}")
-        return
+        return Requested([lacking(f"like {asked.like}", f"not compared with {asked.like}: {why}")])
     sure = sum(it.sure for it in its)
-    counts = [counted(sum(it.kind == kind for it in its), word) for kind, word in (("parted", "parted net"), ("joined", "joined net"), ("missing", "missing pad"))]
     doubt = len(its) - sure + (not made.is_whole)
-    line = f"joins what {'it' if made.is_whole else 'its lower bound'} joins" if not its else ", ".join(word for word in counts if not word.startswith("0 "))
     untouched = made.netlist.untouched()
+    line = counts_words(its) if its else f"joins what {'it' if made.is_whole else 'its lower bound'} joins"
     line += f"; not compared: {untouched}" if untouched else ""
-    shown.like = Likeness(asked.like, 1 if sure else UNDECIDED if doubt else 0, line, placed, its, untouched)
-    shown.found(f"like {asked.like}", sure, doubt, f"like {asked.like}: {line}", tuple((it.name(), it.sentence(), it.places) for it in its))
+    beside = outcome(f"like {asked.like}", sure, doubt, f"like {asked.like}: {line}", tuple((it.name(), it.sentence(), it.places) for it in its))
+    return Requested([beside], like=Likeness(asked.like, beside.status, line, placed, its, untouched))

@@ -4,13 +4,13 @@ from collections import defaultdict
 
 from boardnet_show.base.statuses import BadCopper, Stop
 from boardnet_show.base.wording import counted, millimetres, spoken
-from boardnet_show.findings.findings import Finding, doubt
+from boardnet_show.findings.finding import GAP, Finding, doubt
 from boardnet_show.findings.nearest_copper import Gap
 from boardnet_show.formats.ipc356 import NO_NET
 from boardnet_show.netlists.tester import copper_of, with_copper
 
 from . import gaps_between_bounds
-from .requested import GAPS
+from .requested import GAPS, Requested, lacking, outcome
 from .spacing import STEP, spacings
 
 FEW_NAMES = 2
@@ -62,9 +62,9 @@ def finding(nets, number, spacing, distance="", sure=None, others=()):
     near = f"; near {spoken(map(board.pin, pins))}" if pins else ""
     told = f"{whats} {distance or f'are {spacing.at_least()} mm apart'} on {board.copper_place(spacing.place, spacing.layer)}: {spoken(sources)}{near}."
     names = [name for net in known for name in nets.numbers(net)]
-    one = Finding("gap", number, whats, told, pins, nets=known, names=names, gap=Gap(spacing.distance // STEP * STEP, spacing.place, spacing.layer))
-    one.pieces, one.sure = [piece for piece in spacing.pieces if piece is not None], sure
-    return one
+    gap = Gap(spacing.distance // STEP * STEP, spacing.place, spacing.layer)
+    pieces = [piece for piece in spacing.pieces if piece is not None]
+    return Finding(GAP, number, whats, told, pins, nets=known, names=names, gap=gap, pieces=pieces, sure=sure)
 
 
 def rule(u):
@@ -92,19 +92,15 @@ def of_bounds(program, told, board, u):
     return [finding(nets, number, it, words, sure, others) for number, (sure, it, words, others) in enumerate(found)], rule(u)
 
 
-def add(program, told, shown, u):
-    """Adds the gaps to what is told of a board, and to its answer."""
+def requested(program, judged, board, u):
+    """The gaps of a judged board, whose copper may be known already."""
     try:
-        board = copper_of(program, told, shown.board)
-        found, words = of_bounds(program, told, board, u) if told.package.between else of_board(program, board, u)
+        board = copper_of(program, judged, board)
+        its, words = of_bounds(program, judged, board, u) if judged.package.between else of_board(program, board, u)
     except (Stop, BadCopper) as why:
-        shown.lacks(GAPS, f"gaps are not known: {why}")
-        return
-    shown.findings += found
-    shown.notes.append(words)
-    if shown.bounds:
-        shown.bounds.findings.extend((it.kind, it.sure, it.words[:-1], [(*it.gap.place, it.gap.layer)]) for it in found)
-    possible = sum(it.sure is False for it in found)
-    shown.gap_count = len(found) - possible
-    words = f"{counted(shown.gap_count, 'gap') if shown.gap_count else 'no gap'} under {millimetres(u)} mm" + (f" and {counted(possible, 'possible one')}" if possible else "")
-    shown.found(GAPS, shown.gap_count, possible, words, tuple((doubt(it) + it.id, it.sentence(), ()) for it in found))
+        return Requested([lacking(GAPS, f"gaps are not known: {why}")])
+    possible = sum(it.sure is False for it in its)
+    count = len(its) - possible
+    told = f"{counted(count, 'gap') if count else 'no gap'} under {millimetres(u)} mm" + (f" and {counted(possible, 'possible one')}" if possible else "")
+    beside = outcome(GAPS, count, possible, told, tuple((doubt(it) + it.id, it.sentence(), ()) for it in its))
+    return Requested([beside], its, [words], count)

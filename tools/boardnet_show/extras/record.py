@@ -14,6 +14,9 @@ from boardnet_show.base.statuses import REFUSED, UNREADABLE, Stop
 from boardnet_show.base.wording import counted, spoken
 from boardnet_show.formats import indented_json
 from boardnet_show.judging.program import TOOLS
+from boardnet_show.output.sentences import answers, hints
+
+from .requested import Requested, lacking, outcome
 
 FORM = 1
 RECORD = "record"
@@ -83,14 +86,15 @@ def files_of(told):
                **{word: sum_of_path(its.path(name)) for word, its in between}}
 
 
-def of(program, told, shown):
-    """The record of a board, whatever became of it."""
+def of(program, told, seen, its):
+    """The record of a board, whatever became of it; `its` is what was asked for besides."""
     reports = [{"of": word, "line": its.line, "audit": its.audit, "sha256": sum_of(its.text), "text": its.text.decode("ascii")} for word, its in packages(told)]
     return {
-        "boardnet_record": FORM, "date": datetime.datetime.now(datetime.timezone.utc).strftime("%Y-%m-%dT%H:%M:%SZ"), "board": shown.title,
-        "program": of_program(program), "status": shown.verdict[0], "line": shown.verdict[1], "beside": shown.line, "files": list(files_of(told)),
-        "mends": [it.words for it in told.package.mends], "ties": shown.ties.file_text().splitlines(),
-        "hints": [hint.words for hint in shown.hints], "notes": list(shown.notes), "reports": reports,
+        "boardnet_record": FORM, "date": datetime.datetime.now(datetime.timezone.utc).strftime("%Y-%m-%dT%H:%M:%SZ"), "board": seen.title,
+        "program": of_program(program), "status": seen.answer.status, "line": answers.line(seen.answer),
+        "beside": answers.whole_line(seen.answer, [it.words for it in its.besides]), "files": list(files_of(told)),
+        "mends": [it.words for it in told.package.mends], "ties": seen.ties.file_text().splitlines(),
+        "hints": [hints.words(hint) for hint in seen.hints], "notes": [*seen.notes, *its.notes], "reports": reports,
     }
 
 
@@ -191,18 +195,18 @@ def judged_as(told):
     return "the copies that were judged" if told.package.mends or told.package.flattened else "them"
 
 
-def verify(program, told, shown, path):
-    """Tells whether a record is of these files."""
+def verify(program, told, seen, its, path):
+    """Whether a record is of these files."""
     try:
-        record, now = read(path), json.loads(record_text(of(program, told, shown)))
-        found = list(differences(program, told, record, now))
+        record, now = read(path), json.loads(record_text(of(program, told, seen, its)))
+        unlike = list(differences(program, told, record, now))
     except Stop as why:
-        shown.lacks(RECORD, f"not verified: {why}")
-        return
+        return Requested([lacking(RECORD, f"not verified: {why}")])
     other = {key: value for key, value in now["program"].items() if not isinstance(record.get("program"), dict) or record["program"].get(key) != value}
-    if other:
-        shown.notes.append(f"the record of {record.get('date')} is by another program: now " + ", ".join(f"{key} {value}" for key, value in other.items()))
-    shown.notes += [f"unlike the record: {words}" for words in found]
+    others = ", ".join(f"{key} {value}" for key, value in other.items())
+    notes = [f"the record of {record.get('date')} is by another program: now {others}"] if other else []
+    notes += [f"unlike the record: {words}" for words in unlike]
     passes = f"its report passes the audit on {judged_as(told)}"
-    sums = f"the record is of these files, and {passes if packages(told) else 'neither it nor today has a report'}"
-    shown.found(RECORD, len(found), 0, sums if not found else f"unlike the record in {counted(len(found), 'point')}", tuple(("record", words, ()) for words in found))
+    same = f"the record is of these files, and {passes if packages(told) else 'neither it nor today has a report'}"
+    words = f"unlike the record in {counted(len(unlike), 'point')}" if unlike else same
+    return Requested([outcome(RECORD, len(unlike), 0, words, tuple(("record", each, ()) for each in unlike))], notes=notes)

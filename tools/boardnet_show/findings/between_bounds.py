@@ -8,7 +8,8 @@ from boardnet_show.geometry.exact import Refused
 from boardnet_show.judging.two_bounds import own_commands
 
 from .board import Board
-from .findings import Finding, Opens, open_hints
+from .finding import MISSING, OPEN, SHORT, Finding
+from .findings import Opens, open_clues
 from .shorts import findings as shorts_of
 
 MICROMETRE = 10_000
@@ -28,7 +29,7 @@ class Findings:
 
     def __init__(self, board):
         self.board, self.opens, self.counts = board, Opens(board), Counter()
-        self.shorts = {it.nets[0]: it for it in shorts_of(board, Finding)}
+        self.shorts = {it.nets[0]: it for it in shorts_of(board)}
         self.points = defaultdict(list)         # by net and name
         for point, (_, _, name, net) in enumerate(board.report.points):
             self.points[net, name].append(point)
@@ -41,24 +42,24 @@ class Findings:
         """One of them; its places are told by its points."""
         number, board = self.counts[kind], self.board
         self.counts[kind] += 1
-        points = [*points[1::-1], *points[2:]] if kind == "open" else points        # the part that stands apart first
+        points = [*points[1::-1], *points[2:]] if kind == OPEN else points        # the part that stands apart first
         nets = list(dict.fromkeys(board.report.points[point][3] for point in points))
         names = list(dict.fromkeys(board.name_of(point) for point in points))
-        known = self.shorts.get(nets[0]) if kind == "short" and sure else None
-        more = self.parted(kind, nets, points) if not known else {"hints": known.hints, "meets": known.meets}
-        it = Finding(kind, number, " and ".join(map(board.name, names[:3])), words + ".", list(points), nets=nets, names=names, **more)
-        it.sure, it.sides = sure, known.sides if known else {}
-        it.is_labelled = bool(known and known.is_labelled)
-        return it
+        found = Finding(kind, number, " and ".join(map(board.name, names[:3])), words + ".", list(points), nets=nets, names=names, sure=sure)
+        known = self.shorts.get(nets[0]) if kind == SHORT and sure else None
+        if known:
+            return found._replace(clues=known.clues, meets=known.meets, sides=known.sides, is_labelled=known.is_labelled)
+        return self.with_gap(found)
 
-    def parted(self, kind, nets, points):
-        """The nearest copper of the first two nets."""
-        if kind == "missing" or len(nets) < 2 or -1 in nets[:2]:
-            return {}
-        names = {self.board.name_of(point) for point in points}
-        parts = [sorted(point for name in names for point in self.points.get((net, name), ())) for net in nets]
-        gap = self.opens.gap(nets[1], nets[0], points[0]) if kind == "open" else self.opens.copper.gap(nets[0], nets[1]) if self.board.shapes else None
-        return {"gap": gap, "hints": open_hints(self.board, gap), "parts": parts if kind == "open" else []}
+    def with_gap(self, finding):
+        """A finding with the nearest copper of its first two nets."""
+        kind, nets = finding.kind, finding.nets
+        if kind == MISSING or len(nets) < 2 or -1 in nets[:2]:
+            return finding
+        parts = [sorted(point for name in finding.names for point in self.points.get((net, name), ())) for net in nets]
+        gap = (self.opens.gap(nets[1], nets[0], finding.points[0]) if kind == OPEN else
+               self.opens.copper.gap(nets[0], nets[1]) if self.board.shapes else None)
+        return finding._replace(gap=gap, clues=open_clues(self.board, gap), parts=parts if kind == OPEN else [])
 
 
 # ---- where the upper board is wider

@@ -3,40 +3,8 @@ from boardnet_show.base import wording
 from boardnet_show.formats.ipc356 import NO_NET
 
 from . import shorts
+from .finding import MISSING, OPEN, SUGGESTED, Clue, Finding
 from .nearest_copper import NearestCopper, NearestPoints, Stacked
-
-SUGGESTION = "Suggestion"
-
-
-class Finding:
-    """kind and number are its name for good; `name` is the net name that it is listed under, `words` what is so, `hints` where to look.
-
-    `points` are the test points that it speaks of, the first one leads; `nets` those of the copper; `parts` the points on both
-    parts of an open and `gap` their nearest copper, `meets` the places where a short's names meet.
-    """
-
-    def __init__(self, kind, number, name, told, points, **more):
-        self.kind, self.number, self.name, self.words, self.points = kind, number, name, told, points
-        self.hints, self.nets = more.get("hints", []), more.get("nets", [])
-        self.gap, self.meets, self.names = more.get("gap"), more.get("meets", []), more.get("names", [])
-        self.parts = more.get("parts", [])
-        # Between two bounds: whether both boards have it.
-        self.sure = None
-
-    @property
-    def id(self):
-        return f"{self.kind}-{self.number}"
-
-    def sentence(self):
-        return " ".join([self.words, *self.hints])
-
-    def without_suggestion(self):
-        """Leaves what is known: not where to look, where something else than the copper is the cause."""
-        self.hints = [hint for hint in self.hints if not hint.startswith(SUGGESTION)]
-        self.gap = None
-        if self.kind == "short" and not self.is_labelled:
-            self.meets, self.sides = [], {}
-
 
 class Opens:
     """Each open: a part of a name that stands apart from the name's home."""
@@ -63,8 +31,7 @@ class Opens:
         told = f"{board.point_words(here)} is not joined to {board.point_words(there)}{away}; {board.spoken_name(name)} is in {self.parts[name]} parts, "
         told += f"here {extent(board, parts[0])}, there {extent(board, parts[1])}."
         gap = self.gap(home, other, here)
-        more = {"gap": gap, "hints": open_hints(board, gap), "names": [name], "parts": parts}
-        return Finding("open", number, board.name(name), told, [here, there], nets=[other, home], **more)
+        return Finding(OPEN, number, board.name(name), told, [here, there], nets=[other, home], names=[name], clues=open_clues(board, gap), parts=parts, gap=gap)
 
     def all(self):
         return [self.finding(number, *it) for number, it in enumerate(self.board.report.opens)]
@@ -88,10 +55,11 @@ class Opens:
         nets = [board.report.points[point][3] for point in (here, there)]
         gap = self.gap(nets[1], nets[0], here) if min(nets) >= 0 else None
         told = f"{one} and {other} are declared to be tied ({tie.source}) and no copper joins them: {board.point_words(here)} and {board.point_words(there)} are nearest."
-        more = {"gap": gap, "hints": open_hints(board, gap) if min(nets) >= 0 else [], "names": [board.name_of(here), board.name_of(there)]}
-        if min(nets) >= 0:
-            more.update(nets=nets, parts=[[point for point in part if board.report.points[point][3] == net] for part, net in zip(parts, nets)])
-        return Finding("open", number, tie.equation(), told, [here, there], **more)
+        its = Finding(OPEN, number, tie.equation(), told, [here, there], names=[board.name_of(here), board.name_of(there)], gap=gap)
+        if min(nets) < 0:
+            return its
+        on_nets = [[point for point in part if board.report.points[point][3] == net] for part, net in zip(parts, nets)]
+        return its._replace(nets=nets, clues=open_clues(board, gap), parts=on_nets)
 
 
 def extent(board, members):
@@ -100,13 +68,13 @@ def extent(board, members):
     return wording.spoken(sorted(pins, key=lambda pin: pin.startswith(("the via", "test record"))), 4)
 
 
-def open_hints(board, gap):
+def open_clues(board, gap):
     if gap is None:
-        return ["Suggestion: the two parts have no copper on one layer; look for a hole that should join them."] if board.shapes else []
+        return [Clue(SUGGESTED, "the two parts have no copper on one layer; look for a hole that should join them.")] if board.shapes else []
     where = board.copper_place(gap.place, gap.layer)
     if gap.below:
-        return [f"Suggestion: a hole is missing where both parts have copper, on {where} and on {board.manifest.layer_word(gap.below)}."]
-    return [f"Suggestion: their copper comes nearest, {wording.at_most(max(gap.distance, 0))} mm, on {where}."]
+        return [Clue(SUGGESTED, f"a hole is missing where both parts have copper, on {where} and on {board.manifest.layer_word(gap.below)}.")]
+    return [Clue(SUGGESTED, f"their copper comes nearest, {wording.at_most(max(gap.distance, 0))} mm, on {where}.")]
 
 
 def missing(board):
@@ -116,12 +84,12 @@ def missing(board):
         of = "of no net" if board.name(name) == NO_NET else f"of {board.name(name)}"
         layer = board.manifest.copper[board.layer(point) - 1]
         told = f"no copper of {layer} lies under {board.point_words(point)}, {of}."
-        yield Finding("missing", number, board.name(name), told, [point], names=[name])
+        yield Finding(MISSING, number, board.name(name), told, [point], names=[name])
 
 
 def all_findings(board):
     opens = Opens(board)
-    return [*opens.all(), *opens.parted(), *shorts.findings(board, Finding), *missing(board)]
+    return [*opens.all(), *opens.parted(), *shorts.findings(board), *missing(board)]
 
 
 def flood(report):
@@ -131,8 +99,3 @@ def flood(report):
         return ""
     return (f"{bare} of {points} test points lie beside the copper. Such a flood has one cause: the netlist and the copper count from other "
             "origins or in other units, layers are in another order, or the netlist is of another board. See to that first.")
-
-
-def doubt(finding):
-    """The word before a finding between two bounds that is not certain."""
-    return "undecided " if finding.sure is False else ""

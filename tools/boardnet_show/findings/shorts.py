@@ -3,13 +3,14 @@ from boardnet_show.base import wording
 from boardnet_show.formats.ipc356 import NO_NET
 
 from . import least_cuts
+from .finding import KNOWN, LABELLED, SHORT, SUGGESTED, Clue, Finding
 from .meeting_places import Net
 
 MOST_TOLD = 3
 
 
-def findings(board, make):
-    """Each short; `make` makes a finding."""
+def findings(board):
+    """Each short."""
     budget = least_cuts.Budget()
     for number, (net, branches) in board.ties.shorts(board.report):
         pins = [f"{board.spoken_name(name)} has {board.point_words(point)}" for name, point, _ in branches]
@@ -19,11 +20,9 @@ def findings(board, make):
         heading = wording.spoken(sides(board, branches, board.name), 3)
         joined = Net(board, net) if board.shapes else None
         meets = joined.meets(budget) if joined else []
-        hints = [*meet_hints(board, joined, meets)] if meets else by_branch(board, branches)
-        finding = make("short", number, heading, told, points, nets=[net], meets=meets, hints=hints, names=numbers)
-        finding.sides = joined.sides if joined else {}
-        finding.is_labelled = bool(joined and joined.is_labelled)
-        yield finding
+        clues = [*meet_clues(board, joined, meets)] if meets else by_branch(board, branches)
+        yield Finding(SHORT, number, heading, told, points, nets=[net], names=numbers, clues=clues, meets=meets, sides=joined.sides if joined else {},
+                      is_labelled=bool(joined and joined.is_labelled))
 
 
 def sides(board, branches, said):
@@ -34,7 +33,7 @@ def sides(board, branches, said):
     return ["=".join(names) for names in found.values()]
 
 
-def tie_hints(board, joined, meets):
+def tie_clues(board, joined, meets):
     """Which tie would declare what meets in one footprint, once for each two names."""
     import shlex            # few shorts have such a place
     told = {}
@@ -46,19 +45,18 @@ def tie_hints(board, joined, meets):
     for names, (component, is_unnamed) in list(told.items())[:MOST_TOLD]:
         if not is_unnamed:
             link = "=" if names.startswith("-") else " "        # so that a name as -12V is taken for no option
-            yield f"Suggestion: both have pins of {component} there; where it is to join them, --tie{link}{shlex.quote(names)} declares it."
+            yield Clue(SUGGESTED, f"both have pins of {component} there; where it is to join them, --tie{link}{shlex.quote(names)} declares it.")
 
 
-def meet_hints(board, joined, meets):
+def meet_clues(board, joined, meets):
     """A sentence for each place, the first few."""
     if not joined.is_labelled and joined.labels:
-        yield (f"All its labelled copper says {joined.labels[0]}: the netlist's names differ from the files' own.")
-    lead = "By the files' labels" if joined.is_labelled else "Suggestion"
-    for meet in meets[:MOST_TOLD]:
-        yield f"{lead}: {meet_words(board, meet)}."
+        yield Clue(KNOWN, f"All its labelled copper says {joined.labels[0]}: the netlist's names differ from the files' own.")
+    why = LABELLED if joined.is_labelled else SUGGESTED
+    yield from (Clue(why, f"{meet_words(board, meet)}.") for meet in meets[:MOST_TOLD])
     if joined.count > MOST_TOLD:
-        yield f"They meet in {wording.counted(joined.count - MOST_TOLD, 'more place')}."
-    yield from tie_hints(board, joined, meets)
+        yield Clue(KNOWN, f"They meet in {wording.counted(joined.count - MOST_TOLD, 'more place')}.")
+    yield from tie_clues(board, joined, meets)
 
 
 def meet_words(board, meet):
@@ -78,10 +76,10 @@ def by_branch(board, branches):
     found = []
     for name, _, pieces in branches[1:1 + MOST_TOLD]:
         if len(pieces) > 1:
-            found.append(f"{board.spoken_name(name)} reaches the others over {wording.spoken([board.source(piece) for piece in pieces], 8)}.")
+            found.append(Clue(KNOWN, f"{board.spoken_name(name)} reaches the others over {wording.spoken([board.source(piece) for piece in pieces], 8)}."))
         step = label_step(board, pieces)
         if step:
-            found.append(f"By the files' labels: {board.source(step[0])} of {board.labels[step[0]]} reaches {board.source(step[1])} of {board.labels[step[1]]}.")
+            found.append(Clue(LABELLED, f"{board.source(step[0])} of {board.labels[step[0]]} reaches {board.source(step[1])} of {board.labels[step[1]]}."))
     return found
 
 

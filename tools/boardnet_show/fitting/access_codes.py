@@ -1,12 +1,12 @@
 """Access codes of a netlist's records that cannot be meant as they stand, and the layers that may be meant."""
 from typing import Callable, Dict, Iterator, List, Optional, Set, Tuple
 
-from boardnet_show.base.wording import counted
 from boardnet_show.formats import ipc356
 from boardnet_show.formats.drills.drill_places import places
 from boardnet_show.formats.ipc356 import Place
 from boardnet_show.intake.package import Package
 
+from .changes import CodesRead
 from .layer_order import is_near, near_cells
 
 # The layer that is meant by a record, or None where its code stands.
@@ -43,12 +43,8 @@ def bottom_layers(package: Package, _: int) -> Optional[LayerOf]:
 
 
 Rule = Callable[[Package, int], Optional[LayerOf]]
-RULES: Tuple[Tuple[Rule, str], ...] = (
-    (via_layers, "the first layer of the hole at their place (through records, 317, whose hole does not reach the "
-                 "layer of their code; KiCad writes such codes for buried vias)"),
-    (bottom_layers, "the bottom, {last:02d} (surface records, 327, of layer 02, and no part's pad is on an inner "
-                    "layer; pcb-rnd writes 02 for every bottom)"),
-)
+HOLES, BOTTOM = "holes", "bottom"
+RULES: Tuple[Tuple[str, Rule], ...] = ((HOLES, via_layers), (BOTTOM, bottom_layers))
 
 
 def changed_codes(data: bytes, layer_of: LayerOf) -> Tuple[bytes, int]:
@@ -63,8 +59,8 @@ def changed_codes(data: bytes, layer_of: LayerOf) -> Tuple[bytes, int]:
     return ipc356.changed(data, change), count
 
 
-def recoded(package: Package, rule: Rule, words: str) -> Iterator[Tuple[str, Dict[str, bytes]]]:
-    """(words, changed files) for the records whose code a rule reads otherwise, or nothing."""
+def recoded(package: Package, name_of_rule: str, rule: Rule) -> Iterator[Tuple[CodesRead, Dict[str, bytes]]]:
+    """(change, changed files) for the records whose code a rule reads otherwise, or nothing."""
     name = package.manifest.netlist
     data = package.read(name)
     unit = ipc356.unit_of(data)
@@ -74,5 +70,4 @@ def recoded(package: Package, rule: Rule, words: str) -> Iterator[Tuple[str, Dic
     except ValueError:
         return
     if changed:
-        codes = f"access code{'s' if changed > 1 else ''} of {counted(changed, 'record')}"
-        yield f"with the {codes} read as {words.format(last=package.manifest.layers)}", {name: out}
+        yield CodesRead(name_of_rule, changed, package.manifest.layers), {name: out}

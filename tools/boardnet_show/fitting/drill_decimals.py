@@ -1,10 +1,10 @@
 """How many decimals a drill file without points may mean, by holes that lie on through points of the netlist."""
 from typing import List, NamedTuple
 
-from boardnet_show.base.wording import spoken
 from boardnet_show.formats.drills.drill_lines import BODY, HEADER, Unit, lines, with_numbers
 from boardnet_show.formats.drills.drill_places import numbers, places
 
+from .changes import DecimalsRead, DigitsRead
 from .layer_order import is_near, near_cells
 from .placement import records, text_of, unit_of
 
@@ -18,8 +18,6 @@ class Reading(NamedTuple):
 
     decimals: int
     width: int
-    words: str
-    zeros: str
 
 
 def bare_numbers(data: bytes) -> List[bytes]:
@@ -31,12 +29,11 @@ def bare_numbers(data: bytes) -> List[bytes]:
 def readings(data: bytes) -> List[Reading]:
     """All that may be meant: with leading zeros left out, or with trailing ones where the numbers are not equally
     long."""
-    found = [Reading(d, 0, f"{d} implied decimals", "leading zeros left out or none") for d in DECIMALS]
+    found = [Reading(d, 0) for d in DECIMALS]
     lengths = {len(number.lstrip(b"+-")) for number in bare_numbers(data)}
     if len(lengths) > 1:
         width = max(lengths)
-        found += [Reading(width - n, width, f"{n} digits before the point", "trailing zeros left out")
-                  for n in range(1, width - 1)]
+        found += [Reading(width - n, width) for n in range(1, width - 1)]
     return found
 
 
@@ -100,18 +97,8 @@ def likeliest(by_file):
     return [chosen for _, _, chosen in best]
 
 
-def decimals_words(fit_all):
-    """With 3 implied decimals in a.drl and b.drl (..)."""
-    named = {}
-    for fit in fit_all:
-        named.setdefault((fit.reading.words, fit.reading.zeros), []).append(fit)
-    parts = [f"{words} in {spoken(fit.name for fit in group)} ({zeros}; {sum(fit.on for fit in group)} of "
-             f"{sum(fit.holes for fit in group)} holes on a through point)" for (words, zeros), group in named.items()]
-    return "with " + " and ".join(parts)
-
-
 def implied(package):
-    """(words, changed files, holes on through points) for all readings that fit."""
+    """(change, changed files, holes on through points) for all readings that fit."""
     netlist = text_of(package, package.manifest.netlist)
     unit = unit_of(netlist)
     files = {name: package.read(name) for name, _, _ in package.manifest.drills}
@@ -120,4 +107,5 @@ def implied(package):
         return
     cells = near_cells((r.x * unit, r.y * unit) for r in records(netlist) if r.access == 0)
     for fit_all in combined([fits(name, data, cells) for name, data in bare.items()]):
-        yield decimals_words(fit_all), {fit.name: fit.data for fit in fit_all}, sum(fit.on for fit in fit_all)
+        its = (DigitsRead(it.name, it.reading.decimals, it.reading.width, it.on, it.holes) for it in fit_all)
+        yield DecimalsRead(tuple(its)), {it.name: it.data for it in fit_all}, sum(it.on for it in fit_all)

@@ -5,15 +5,15 @@ As with netlists, a vote decides what is tried, and what is told is what `check`
 from fractions import Fraction as Q
 from typing import Callable, List, Optional, Tuple
 
-from boardnet_show.base.wording import spoken
 from boardnet_show.formats.drills.drill_lines import BODY, HEADER, Place, Tool, Unit, lines, places_of
 from boardnet_show.formats.drills.drill_lines import text_of as line_of
 from boardnet_show.formats.drills.drill_places import places
 from boardnet_show.formats.drills.drill_places import unit_of as drill_unit
 from boardnet_show.formats.units import decimal_millimetres
 
+from .changes import CopperPlaced, DrillsPlaced
 from .layer_order import is_near, near_cells
-from .placement import ENOUGH, FORMS, MANY, SAMPLE, all_flashes, change, moved, records, text_of, unit_of, vote
+from .placement import ENOUGH, FORMS, MANY, SAMPLE, all_flashes, moved, records, text_of, unit_of, vote
 
 STEP = 10_000           # a micrometre: what shifts of holes are rounded to
 TRIED = 4               # shifts of one file
@@ -88,13 +88,11 @@ class Holes:
 
 
 def moved_drills(holes, names):
-    """(words, changed files) for drill files that do not lie on the copper's pads."""
-    files = f"the drill file{'s' if len(names) > 1 else ''} {spoken(names)}"
-    who = "the drills" if len(names) == len(holes.of) else files
+    """(change, changed files) for drill files that do not lie on the copper's pads."""
     for turn, by in holes.candidates(names):
         files = holes.files(names, turn, by)
         if files:
-            yield f"with {who} {change(turn, by)}", files
+            yield DrillsPlaced(tuple(names), len(names) == len(holes.of), turn, by), files
 
 
 # ---- the copper, moved: where netlist and drills fit each other, both go the other way
@@ -108,7 +106,7 @@ def fit_each_other(package, holes):
 
 
 def moved_copper(package, holes):
-    """(words, changed files) for copper that lies elsewhere than netlist and drills."""
+    """(change, changed files) for copper that lies elsewhere than netlist and drills."""
     name, names = package.manifest.netlist, list(holes.of)
     text = text_of(package, name)
     unit = unit_of(text)
@@ -119,4 +117,4 @@ def moved_copper(package, holes):
         files = holes.files(names, turn, shift)
         if netlist is not None and files:
             back = FORMS[BACK[turn]][1](*(-v for v in shift))
-            yield f"with the copper {change(BACK[turn], back)}", {name: netlist.encode("latin-1"), **files}
+            yield CopperPlaced(BACK[turn], back), {name: netlist.encode("latin-1"), **files}

@@ -3,48 +3,72 @@
 A hint says what was changed and the answer; nothing is told that was not tried, the user's files are not touched, and the board's
 status stays what it is.
 """
-from collections import namedtuple
 from functools import partial
+from typing import NamedTuple, Optional, Tuple, Union
 
+from boardnet_show.base.refusals import IMPLIED_DECIMALS, WRONG_LAYER, Refusal
 from boardnet_show.base.statuses import Stop
+from boardnet_show.formats.report import Report
 from boardnet_show.intake.cad_tools import setting
-from boardnet_show.intake.package import beside
-from boardnet_show.judging import judged
+from boardnet_show.intake.package import Package, beside
+from boardnet_show.judging import answers, judged
 from boardnet_show.judging.net_ties import Ties
 
 from . import access_codes, drill_placement
+from .changes import Change, NowherePlaced
 from .layer_order import as_labelled, layerings
 from .placement import placements
 
 TRIED = 4           # placements that are checked, at most
+NOWHERE = "no placement"
+UPSIDE_DOWN = 2     # the turn of `placement.FORMS` that a tool's setting makes
 
 
-class Hint(namedtuple("Hint", "kind words answer_status answer_line explains", defaults=(False,))):
-    """`words` has the answer; `answer_status` and `answer_line` are the answer alone; `explains` says that it leaves less than half of
-    the findings."""
+class Hint(NamedTuple):
+    """What was changed and what `check` says then. `changes` are all that were made in that copy, in their order, this one the last; `setting` is
+    the tool's that would make it so; `explains` says that it leaves less than half of the findings."""
 
-    __slots__ = ()
+    kind: str
+    change: Union[Change, NowherePlaced]
+    answer: answers.Answer
+    changes: Tuple[Change, ...] = ()
+    setting: str = ""
+    is_besides: bool = False
+    explains: bool = False
 
 
-class Answer(namedtuple("Answer", "package status line words report ties", defaults=(Ties(),))):
-    """What `check` says of a package, or both bounds where only they can be asked; `report` is then the upper one's."""
+class Trial(NamedTuple):
+    """What `check` says of a package, or both bounds where only they can be asked; `report` is then the upper one's. `refusals` are those of
+    the package and of a bound, and `changes` what was changed in it."""
 
-    __slots__ = ()
+    package: Package
+    answer: answers.Answer
+    report: Optional[Report] = None
+    ties: Ties = Ties()
+    refusals: Tuple[Refusal, ...] = ()
+    changes: Tuple[Change, ...] = ()
 
-    def missing(self):
+    @property
+    def status(self) -> int:
+        return self.answer.status
+
+    def missing(self) -> int:
         return len(self.report.bare)
 
-    def rank(self):
+    def rank(self) -> Tuple[int, int]:
         opens, shorts, missing, parted = self.ties.counts(self.report)
         return missing, opens + shorts + parted
 
-    def is_misplaced(self):
+    def is_misplaced(self) -> bool:
         """More than one point of ten has no copper."""
         return self.report is not None and self.missing() * 10 > len(self.report.points)
 
-    def is_wanting(self):
+    def is_wanting(self) -> bool:
         """So much is wrong that something else than the copper may be."""
         return self.report is not None and self.status != 0 and (self.is_misplaced() or self.rank()[1] * 3 > len(self.report.names) + 3)
+
+    def is_refused_for(self, kind: str) -> bool:
+        return any(it.kind == kind for it in self.refusals)
 
 
 class Trials:
@@ -59,82 +83,81 @@ class Trials:
             self.looked[package.folder] = drill_placement.Holes(package)
         return self.looked[package.folder]
 
-    def answer(self, told):
+    def trial(self, told, changes=()):
         """The answer on a judged package, by bounds where it is refused for its copper."""
-        if told.report or told.status != 3:
-            return self.plain(told)
+        if told.report or not told.refusal or not told.refusal.has_bounds():
+            return self.plain(told, changes)
         from boardnet_show.geometry import (        # few boards want them, and loading takes longer than a small board
             exact
         )
         from boardnet_show.judging import (        # few boards want them, and loading takes longer than a small board
             two_bounds
         )
-        if not two_bounds.is_outside(told.line):
-            return self.plain(told)
         try:
             both, _, high = two_bounds.judge(self.program, told.package, self.ties)
         except exact.Refused as why:
-            return Answer(told.package, told.status, told.line, f"`check` says: {told.line}; no bounds: {why}", None)
-        return Answer(told.package, both.status, both.line, f"`check` says of both bounds: {both.line}", high.report, self.ties)
+            answer = answers.without_bounds(told.status, told.line, told.refusal, str(why))
+            also = [why.refusal] if isinstance(why, two_bounds.SideRefused) else []
+            return Trial(told.package, answer, refusals=tuple(filter(None, [told.refusal, *also])), changes=changes)
+        return Trial(told.package, both.answer, high.report, self.ties, (told.refusal,), changes)
 
-    def plain(self, told):
-        status, line = self.ties.answer(told)
-        return Answer(told.package, status, line, f"`check` says: {line}", told.report, self.ties)
+    def plain(self, told, changes):
+        return Trial(told.package, self.ties.answer(told), told.report, self.ties, (told.refusal,) if told.refusal else (), changes)
 
-    def of(self, package, files=None, told=None):
-        """The answer on a copy with other files or another manifest."""
+    def of(self, base, change, files=None, manifest=None):
+        """The answer on a copy of what was tried before, with other files or another manifest."""
         try:
-            copy = package.changed(beside(package, "tried"), files, told)
-            return self.answer(judged.judge(self.program, copy))
+            copy = base.package.changed(beside(base.package, "tried"), files, manifest)
+            return self.trial(judged.judge(self.program, copy), (*base.changes, change) if change else base.changes)
         except Stop as stop:
-            return Answer(package, stop.status, str(stop), f"`check` says: {stop}", None)
+            return Trial(base.package, answers.stopped(stop))
 
 
-def hint(kind, words, answer):
-    return Hint(kind, f"{words}, {answer.words}", answer.status, answer.line)
+def hint(kind, trial, words=""):
+    return Hint(kind, trial.changes[-1], trial.answer, trial.changes, words)
 
 
 def decimals(trials, base):
     """Every reading of numbers without a point that fits, with its answer; where no hole says which fits, those that agree."""
     from .drill_decimals import implied
-    for words, files, on in implied(base.package):
-        answer = trials.of(base.package, files)
+    for change, files, on in implied(base.package):
+        answer = trials.of(base, change, files)
         if answer.report and (on or answer.status == 0):
-            yield hint("decimals", words, answer), answer
+            yield hint("decimals", answer), answer
 
 
 def labelled(trials, base):
     """The order of layers that the files themselves tell, where it is not refused."""
-    for words, told in as_labelled(base.package):
-        answer = trials.of(base.package, told=told)
+    for change, manifest in as_labelled(base.package):
+        answer = trials.of(base, change, manifest=manifest)
         if answer.report:
-            yield hint("layers", words, answer), answer
+            yield hint("layers", answer), answer
 
 
 def layers(trials, base):
     """The order of layers that surface points ask for, where it leaves fewer faults."""
-    for words, told in layerings(base.package):
-        answer = trials.of(base.package, told=told)
+    for change, manifest in layerings(base.package):
+        answer = trials.of(base, change, manifest=manifest)
         if answer.report and answer.rank() < base.rank():
-            yield hint("layers", words, answer), answer
+            yield hint("layers", answer), answer
 
 
 def recoded(rule, trials, base):
     """Access codes read otherwise, where that leaves fewer faults."""
-    for words, files in access_codes.recoded(base.package, *rule):
-        answer = trials.of(base.package, files)
+    for change, files in access_codes.recoded(base.package, *rule):
+        answer = trials.of(base, change, files)
         if answer.report and answer.rank() < base.rank():
-            yield hint("access codes", words, answer), answer
+            yield hint("access codes", answer), answer
 
 
 def best(trials, base, kind, changes, names):
     """The best of some changes, tried until one agrees, where it leaves fewer faults."""
     found = None
-    for (words, files), _ in zip(changes, range(TRIED)):
-        answer = trials.of(base.package, files)
+    for (change, files), _ in zip(changes, range(TRIED)):
+        answer = trials.of(base, change, files)
         if answer.report and answer.rank() < (found[1] if found else base).rank():
-            shown = "mirrored drills" if kind == "drills" and "mirrored upside down" in words else kind
-            found = hint(kind, words + setting(base.package, shown, names), answer), answer
+            wanted = "mirrored drills" if kind == "drills" and change.turn == UPSIDE_DOWN else kind
+            found = hint(kind, answer, setting(base.package, wanted, names)), answer
         if answer.status == 0:
             break
     return [found] if found else []
@@ -172,11 +195,10 @@ def copper(trials, base):
 def best_placement(trials, base):
     """The best of the likeliest placements, tried until one agrees."""
     found, without = None, trials.holes(base.package).off
-    for (words, files), _ in zip(placements(base.package, without), range(TRIED)):
-        answer = trials.of(base.package, files)
+    for (change, files), _ in zip(placements(base.package, without), range(TRIED)):
+        answer = trials.of(base, change, files)
         if answer.report and (found is None or answer.rank() < found[1].rank()):
-            words += setting(base.package, "placement", base.package.manifest.copper[:1])
-            found = hint("placement", words, answer), answer
+            found = hint("placement", answer, setting(base.package, "placement", base.package.manifest.copper[:1])), answer
         if answer.status == 0:
             break
     return found
@@ -184,9 +206,7 @@ def best_placement(trials, base):
 
 def nowhere(base, best):
     """That no placement fits, with the answer on the best that was tried."""
-    words = (f"no placement fits: of the units, mirrors, turns and origins with most votes the best leaves {best.missing()} of "
-             f"{len(base.report.points)} test points without copper; is the netlist of another board? Of the best {best.words}")
-    return Hint("no placement", words, best.status, best.line)
+    return Hint(NOWHERE, NowherePlaced(best.missing(), len(base.report.points)), best.answer, best.changes)
 
 
 def placed(trials, base):
@@ -224,26 +244,22 @@ def fitted(trials, base):
         if last.status == 0 or step is arranged and not last.is_wanting():
             break
         for found, answer in step(trials, last):
-            yield besides(found) if last is not base and found.kind != "no placement" else found, answer
+            yield found._replace(is_besides=last is not base and found.kind != NOWHERE), answer
             last = answer
-
-
-def besides(found):
-    return found._replace(words=f"besides, {found.words}")
 
 
 def all_hints(program, told, ties):
     trials = Trials(program, ties)
-    base = trials.answer(told)
-    for kind, changed in (("WrongLayer", labelled), ("ImpliedDecimals", decimals)):
-        if kind in base.words and not base.report:
+    base = trials.trial(told)
+    for kind, changed in ((WRONG_LAYER, labelled), (IMPLIED_DECIMALS, decimals)):
+        if base.is_refused_for(kind) and not base.report:
             found = list(changed(trials, base))
             yield from (each for each, _ in found)
             if found:
-                base = min((answer for _, answer in found), key=Answer.rank)
+                base = min((answer for _, answer in found), key=Trial.rank)
     if base.report and base.status:
         for found, answer in fitted(trials, base):
-            yield found._replace(explains=found.kind != "no placement" and sum(answer.rank()) * 2 < sum(base.rank()))
+            yield found._replace(explains=found.kind != NOWHERE and sum(answer.rank()) * 2 < sum(base.rank()))
 
 
 def explain(found):

@@ -1,7 +1,8 @@
 """Which copper file is the top and which the bottom, by surface points that lie on centres of pads of one file."""
 from boardnet_show.formats import ipc356
-from boardnet_show.intake import declarations
+from boardnet_show.intake import own_declarations
 
+from .changes import LayersOrdered
 from .placement import flashes
 
 NEAR = 50_000       # 5 micrometres: two roundings of a netlist's place
@@ -29,7 +30,7 @@ def reordered(manifest, order):
 
 
 def layerings(package):
-    """(words, manifest) with the outer files where the surface points are, or none where that is as it is. Inner files keep their order."""
+    """(change, manifest) with the outer files where the surface points are, or none where that is as it is. Inner files keep their order."""
     data, layers = package.read(package.manifest.netlist), package.manifest.layers
     unit = ipc356.unit_of(data)
     surface = [r for r in ipc356.places(data) if not r.is_through]
@@ -42,14 +43,13 @@ def layerings(package):
         return
     order = [first] + [k for k in range(layers) if k not in (first, last)] + [last]
     told = reordered(package.manifest, order)
-    cannot = "; the netlist cannot tell the order of the inner layers" if layers > 3 else ""
-    yield f"with the layers in the order {', '.join(told.copper)} (where surface points have a pad of their own{cannot})", told
+    yield LayersOrdered(tuple(told.copper), False, layers > 3), told
 
 
 def as_labelled(package):
-    """(words, manifest) with the files in the order of the layers that they say they are, where that is an order."""
-    numbers = declarations.layers(package)
+    """(change, manifest) with the files in the order of the layers that they say they are, where that is an order."""
+    numbers = own_declarations.layers(package)
     if sorted(numbers) != list(range(1, package.manifest.layers + 1)):
         return
     told = reordered(package.manifest, [numbers.index(k) for k in range(1, len(numbers) + 1)])
-    yield f"with the layers in the order {', '.join(told.copper)}, as the files say", told
+    yield LayersOrdered(tuple(told.copper), True), told

@@ -7,12 +7,13 @@ from collections import Counter
 from fractions import Fraction as Q
 from typing import Callable, List, Optional, Sequence, Tuple
 
-from boardnet_show.base.wording import millimetres
 from boardnet_show.formats import ipc356
 from boardnet_show.formats.drills.drill_places import places
 from boardnet_show.formats.gerber_words import words_of
 from boardnet_show.formats.units import SCALES, UNIT_WORDS
 from boardnet_show.geometry.exact import Refused
+
+from .changes import NetlistPlaced
 
 SAMPLE = 40             # records that vote
 FEW, MANY = 8, 20_000   # centres
@@ -162,20 +163,8 @@ def votes(package, text, declared, without=()):
     return sorted(found)
 
 
-def change(turn, by):
-    """A form and a shift in u, in words."""
-    words = [FORMS[turn][0]] if turn else []
-    words += [f"moved by ({millimetres(by[0])}, {millimetres(by[1])}) mm"] if tuple(by) != (0, 0) else []
-    return ", ".join(words)
-
-
-def spoken(other, turn, by, unit):
-    words = [f"read in the other unit ({UNIT_WORDS[unit]})"] if other else []
-    return "with the netlist " + ", ".join(filter(None, [*words, change(turn, (by[0] * unit, by[1] * unit))]))
-
-
 def placements(package, without):
-    """(words, changed files), the likeliest first; among equal votes the fewest changes first. Holes of some files have no vote."""
+    """(change, changed files), the likeliest first; among equal votes the fewest changes first. Holes of some files have no vote."""
     name = package.manifest.netlist
     text = text_of(package, name)
     declared = unit_of(text)
@@ -187,5 +176,6 @@ def placements(package, without):
         seen.add((other, turn, by))
         if changed is not None:
             unit = sum(UNIT_WORDS) - declared if other else declared
+            change = NetlistPlaced(unit if other else None, turn, (by[0] * unit, by[1] * unit))
             data = changed.encode("latin-1")
-            yield spoken(other, turn, by, unit), {name: ipc356.in_other_unit(data) if other else data}
+            yield change, {name: ipc356.in_other_unit(data) if other else data}

@@ -1,8 +1,9 @@
 """Mended copies in the scratch folder, and how the answer says that they were judged."""
 import os
+from typing import Optional
 
-from boardnet_show.base.statuses import REFUSED, UNJUDGED, Stop
-from boardnet_show.base.wording import counted
+from boardnet_show.base.refusals import Advice, Refusal
+from boardnet_show.base.statuses import REFUSED, Stop
 from boardnet_show.formats.drills.drill_plating import unplated_hole, unread_function
 from boardnet_show.intake.mends import mended_files as mends, netlist_mends
 
@@ -67,13 +68,9 @@ def bytes_of(package, name):
     return b"" if os.path.isabs(name) else read(package, name)
 
 
-def say(package, shown):
-    """Has the answer's line and notes say what was mended, and the line of a refusal the way out."""
-    shown.mends = package.mends
-    if package.mends:
-        shown.notes = [f"mended: {it.words}" for it in package.mends] + shown.notes
-        if shown.status != UNJUDGED:
-            shown.line += f", after {counted(len(package.mends), 'mend')}"
-    if shown.status == REFUSED:
-        from . import export_advice     # as above
-        shown.line += export_advice.way_out(shown.line, lambda name: bytes_of(package, name))
+def way_out(package, refusal: Optional[Refusal]) -> Advice:
+    """The way out of a refusal of one of a package's files."""
+    if not refusal:
+        return Advice(0, "")
+    from . import export_advice     # as above
+    return export_advice.way_out(refusal, lambda name: bytes_of(package, name))

@@ -14,14 +14,13 @@ from boardnet_show.base.statuses import UNDECIDED, UNJUDGED, Stop
 from boardnet_show.geometry.exact import Refused
 from boardnet_show.intake.package import beside
 
-from . import two_bounds
+from . import answers, two_bounds
 from .net_ties import Ties
-from .two_bounds import BETWEEN, own_commands
+from .two_bounds import own_commands
 
-PROVED = f"{BETWEEN}, proved"
 ANSWERS = {0: "agrees", 1: "differs", UNDECIDED: "undecided"}
 FIRST_LINE = "boardnet-bounds 1\n"
-UNBOUNDED = re.compile(r": not bounded (?:below|above)$")
+UNBOUNDED = (": not bounded below", ": not bounded above")
 NAME = re.compile(rb"^name [0-9]+ (.*)$", re.M)
 
 
@@ -150,10 +149,16 @@ def finds_as(one, other, ties):
     return (one.certain, one.undecided, one.word(ties)) == (other.certain, other.undecided, other.word(ties))
 
 
-def refused(package, line, why):
+def refused(judged, why):
     """The answer where `between` does not take a bound: then nothing stands on both."""
+    package = judged.package
     package.no_bounds, package.sides, package.between = f"`between` does not take them: {why}", None, None
-    return two_bounds.Bounded(3, f"{line}; no bounds: {package.no_bounds}", [], [])
+    return two_bounds.Bounded(answers.without_bounds(judged.status, judged.line, judged.refusal, package.no_bounds), [], [])
+
+
+def proved(bounds):
+    """The same answer, by bounds that the program takes."""
+    return bounds._replace(answer=bounds.answer._replace(both=bounds.answer.both._replace(is_proved=True)))
 
 
 def answer_of_between(program, judged, answer, ties, is_finer=False):
@@ -167,12 +172,12 @@ def answer_of_between(program, judged, answer, ties, is_finer=False):
         return answer
     sides, between = boards
     its = asked(program, package, sides, between[2])
-    if its.status == 3 and UNBOUNDED.search(its.line):
-        return refused(package, judged.line, its.line)
+    if its.status == 3 and its.line.endswith(UNBOUNDED):
+        return refused(judged, its.line)
     if its.status not in (0, 1):
         return answer._replace(notes=(f"`between` was asked, and stopped: {its.line}",)) if its.status == 3 else answer
     confirm(its.out, Decision(*between[1:]), between[0].status, ties)
     if package.sides.is_bent and (is_finer or not finds_as(between, package.between, ties)):
         return answer
     package.sides, package.between = boards
-    return between[0]._replace(line=between[0].line.replace(BETWEEN, PROVED, 1))
+    return proved(between[0])

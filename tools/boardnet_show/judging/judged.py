@@ -1,30 +1,33 @@
 """What the program says of a package: `check`, and always `audit` on that report. Files that `check` refuses for a macro are flattened."""
-import re
-from collections import namedtuple
+from typing import NamedTuple, Optional
 
+from boardnet_show.base import refusals
 from boardnet_show.base.statuses import REFUSED, UNJUDGED, BadCopper, Stop
 from boardnet_show.formats import ipc356
 from boardnet_show.formats.gerber_tokens import begins
 from boardnet_show.formats.report import BadReport, Report
-from boardnet_show.intake import declarations
+from boardnet_show.intake import own_declarations
+from boardnet_show.intake.package import Package
 
 from .program import Answer
 
-MACRO = re.compile(r"(.*): Gerber 12 Macro at command ")
-
-
-class Judged(namedtuple("Judged", "package status line report text audit")):
+class Judged(NamedTuple):
     """The program's answer; `report` and `text` are None where a file is refused, `audit` is what the audit says of the report."""
 
-    __slots__ = ()
+    package: Package
+    status: int
+    line: str
+    report: Optional[Report]
+    text: Optional[bytes]
+    audit: str
+    refusal: Optional[refusals.Refusal] = None
 
 
-def flattens(program, package, line):
+def flattens(program, package, refusal):
     """Rewrites the file that a refusal names, and every other with a macro. Whether there is something new to check."""
-    found = MACRO.match(line)
-    if not found or not package.manifest:
+    if not package.manifest or not refusal or (refusal.form, refusal.kind) != (refusals.GERBER, refusals.MACRO):
         return False
-    named, done = found.group(1), False
+    named, done = refusal.file, False
     for name in dict.fromkeys(package.manifest.copper):
         if name in package.flattened or name in package.outside or name != named and not begins(package.read(name), b"AM"):
             continue
@@ -42,10 +45,10 @@ def flattens(program, package, line):
 def checked(program, package):
     """What `check` says, but where a file says of itself what does not fit and `check` does not come to it (`said`)."""
     answer = program.check(package)
-    wrong = declarations.amiss(package) if answer.status in (0, 1, REFUSED) else ""
+    wrong = own_declarations.amiss(package) if answer.status in (0, 1, REFUSED) else None
     if wrong:
-        return Answer(REFUSED, b"", wrong)
-    while answer.status == 3 and flattens(program, package, answer.line):
+        return Answer(REFUSED, b"", wrong.line(), wrong)
+    while answer.status == 3 and flattens(program, package, answer.refusal):
         answer = program.check(package)
     return answer
 
@@ -54,7 +57,7 @@ def judge(program, package):
     """The answer on a package, with its report audited."""
     answer = checked(program, package)
     if answer.status not in (0, 1):
-        return Judged(package, answer.status, answer.line, None, None, "")
+        return Judged(package, answer.status, answer.line, None, None, "", answer.refusal)
     audit = program.audit(package, answer.out)
     told = audit.out.decode("ascii", "replace").strip() or audit.line
     if audit.status != 0:

@@ -7,9 +7,10 @@ import re
 from collections import namedtuple
 
 from boardnet_show.base.statuses import NOT_UNDERSTOOD, Stop
-from boardnet_show.base.wording import counted
 from boardnet_show.formats.ipc356 import NO_NET
 from boardnet_show.intake.package import TIES
+
+from .answers import EXACT, STOPPED, Answer, Counts, Tied
 
 # A line of ties.txt that begins with the sign, or what comes behind it with blanks round it: names may have it.
 COMMENT = re.compile(r"\A\s*#.*|\s#(\s.*)?\Z")
@@ -98,22 +99,17 @@ class Ties:
         nets = nets_of(report) if self.ties else {}
         return [it for it in self.ties if not nets.get(it.names[0], set()) & nets.get(it.names[1], set())]
 
-    def counts(self, report):
+    def counts(self, report) -> Counts:
         """How many opens, shorts, points without copper and open ties count."""
-        return len(report.opens), len(self.shorts(report)), len(report.bare), len(self.parted(report))
+        return Counts(len(report.opens), len(self.shorts(report)), len(report.bare), len(self.parted(report)))
 
-    def answer(self, told):
-        """(status, line) of a judged package, with the ties taken into account."""
+    def answer(self, told) -> Answer:
+        """The answer on a judged package, with the ties taken into account."""
+        plain = Answer(told.status, EXACT if told.report else STOPPED, told.line, told.refusal)
         if not self.ties or not told.report:
-            return told.status, told.line
+            return plain
         counts = self.counts(told.report)
-        word = "differs, " + ", ".join(f"{name} {count}" for name, count in zip(("opens", "shorts", "missing", "open ties"), counts)) if any(counts) else "agrees"
-        return int(any(counts)), f"{word}{self.words(len(self.ties) - counts[3])}; the report itself says: {told.line}"
-
-    @staticmethod
-    def words(made):
-        """How many ties the copper has, behind the answer's first word."""
-        return f", with {counted(made, 'declared tie')}"
+        return plain._replace(status=int(any(counts)), tied=Tied(len(self.ties) - counts.open_ties, counts))
 
 
 def nets_of(report):

@@ -1,9 +1,10 @@
 """The program, run in the scratch folder: its status, its output, and its line."""
 import os
 import subprocess
-from collections import namedtuple
+from typing import NamedTuple, Optional
 
-from boardnet_show.base.statuses import Stop
+from boardnet_show.base import refusals
+from boardnet_show.base.statuses import REFUSED, Stop
 
 from . import building
 
@@ -13,10 +14,13 @@ PLACES = (os.path.join(TOOLS, "boardnet"), os.path.join(os.path.dirname(TOOLS), 
 NO_PROGRAM = 127
 
 
-class Answer(namedtuple("Answer", "status out line")):
-    """What a command of the program answered; `line` is its line without `boardnet: `."""
+class Answer(NamedTuple):
+    """What a command of the program answered; `line` is its line without `boardnet: `, and `refusal` what that says of a file."""
 
-    __slots__ = ()
+    status: int
+    out: bytes
+    line: str
+    refusal: Optional[refusals.Refusal] = None
 
 
 def found():
@@ -63,7 +67,8 @@ class Program:
         if not 0 <= status <= 6:
             raise Stop(NO_PROGRAM, f"{self.path} {words[0]} ended with {status}")
         lines = [line for line in notes.decode("utf-8", "replace").split("\n") if line.startswith("boardnet: ")]
-        return Answer(status, out, lines[0][len("boardnet: "):] if lines else "")
+        line = lines[0][len("boardnet: "):] if lines else ""
+        return Answer(status, out, line, refusals.of_line(line) if status == REFUSED else None)
 
     def ended(self):
         """The output of the running command, and what it noted."""

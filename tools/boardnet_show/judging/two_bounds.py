@@ -10,39 +10,46 @@ says so (`between_command`): this script makes them, by whole numbers, and its t
 import copy
 import hashlib
 import os
-import re
-from typing import NamedTuple
+from typing import NamedTuple, Optional
 
-from boardnet_show.base.statuses import UNDECIDED, UNJUDGED, fault_of
-from boardnet_show.base.wording import counted
+from boardnet_show.base.refusals import Refusal
+from boardnet_show.base.statuses import UNDECIDED, fault_of
 from boardnet_show.formats import ipc356
 from boardnet_show.formats.gerber_words import line_numbers
 from boardnet_show.geometry.exact import Refused
 from boardnet_show.intake.package import beside
 
-from . import judged, nothing_judged
+from . import answers, judged, nothing_judged
+from .answers import Answer
 from .both_reports import Joint
 from .net_ties import Ties, lost
 from .upper_joins import Differing
 
-# ClearPolarity, Arc, Macro, Block, Polygon, Hole, Transform, ApertureTwice, PenNotCircle, OffGrid, NegativeFile, TooManyVertices,
-# NoOperation: what copper files hold that bounds may be given for.
-OUTSIDE = re.compile(r"(.*): Gerber (1[0-6]|18|19|23|26|28|29) |(.*): flatten ")
 SIDES = ("lower", "upper")
-BETWEEN = ", between two bounds"
+
+
+class SideRefused(Refused):
+    """One of both boards is refused, and why."""
+
+    def __init__(self, words, refusal: Optional[Refusal]):
+        super().__init__(words)
+        self.refusal = refusal
 
 
 class Bounded(NamedTuple):
     """The answer on a board between two; `findings` are (kind, sure, words, places), places (x, y, layer) with x and y in u.
     `points` are those of each finding, `sides` what both boards are made of, `notes` what else is to be told."""
 
-    status: int
-    line: str
+    answer: Answer
     findings: list
     left_out: list
     points: tuple = ()
     sides: tuple = ()
     notes: tuple = ()
+
+    @property
+    def status(self) -> int:
+        return self.answer.status
 
 
 class Made(NamedTuple):
@@ -67,11 +74,6 @@ class Sides(NamedTuple):
     rows: dict
     unlike: dict
     is_bent: bool
-
-
-def is_outside(line):
-    """Whether a refusal is of a kind that bounds can answer."""
-    return bool(OUTSIDE.match(line))
 
 
 def outline_of(package):
@@ -166,7 +168,7 @@ def both_judged(program, sides, before=()):
         known = before and before[number]
         answer = known if known and is_same_board(known.package, package) else judged.judge(program, package)
         if answer.report is None:
-            raise Refused(f"the {side} board: {answer.line}")
+            raise SideRefused(f"the {side} board: {answer.line}", answer.refusal)
         told.append(answer)
     return told
 
@@ -180,15 +182,10 @@ def answered(program, package, sides, low, high, ties):
         findings = [*map(Differing(program, low, high, sides.sources).placed, findings)]
     certain, doubt = (sum(it[1] is sure for it in findings) for sure in (True, False))
     certain += len(lost(ties, high.report))
-    if joint.agrees():
-        status, word = 0, "agrees"
-    else:
-        status, word = (1, "differs") if certain else (UNDECIDED, "undecided")
-    told = [f"{counted(certain, 'finding')} certain"] if certain else []
-    told += [f"{counted(doubt, 'finding')} undecided"] if doubt else []
-    word += ties.words(len(ties.ties) - len(ties.parted(low.report))) if ties.ties else ""
-    line = word + BETWEEN + (f": {', '.join(told)}" if told else "") + f" (lower {low.line}; upper {high.line})"
-    return Bounded(status, line, [it[:4] for it in findings], sides.left_out, tuple(it[4] for it in findings), sides.sources)
+    status = 0 if joint.agrees() else 1 if certain else UNDECIDED
+    tied = answers.Tied(len(ties.ties) - len(ties.parted(low.report))) if ties.ties else None
+    answer = Answer(status, answers.BETWEEN, "", tied=tied, both=answers.Both(low.line, high.line, certain, doubt))
+    return Bounded(answer, [it[:4] for it in findings], sides.left_out, tuple(it[4] for it in findings), sides.sources)
 
 
 def judged_by(program, package, sides, ties, before=()):
@@ -209,14 +206,14 @@ def judge(program, package, ties):
 
 def bounded(program, told, ties=Ties()):
     """The answer on a refused package whose copper is outside the profile, or None where bounds have nothing to say."""
-    if told.status != 3 or not told.package.manifest or not is_outside(told.line):
+    if not told.refusal or not told.package.manifest or not told.refusal.has_bounds():
         return None
     try:
-        answer, _, high = judge(program, told.package, ties)
+        bounds, _, high = judge(program, told.package, ties)
     except Refused as why:
-        return Bounded(3, f"{told.line}; no bounds: {why}", [], [])
-    nothing = "" if answer.status else nothing_judged.why_nothing(high.report)
-    return answer._replace(status=UNJUDGED, line=nothing) if nothing else answer
+        return Bounded(answers.without_bounds(told.status, told.line, told.refusal, str(why)), [], [])
+    nothing = "" if bounds.status else nothing_judged.why_nothing(high.report)
+    return bounds._replace(answer=answers.nothing(nothing)) if nothing else bounds
 
 
 def own_commands(report, manifest, sources):

@@ -3,7 +3,6 @@ import os
 
 from boardnet_show.base.statuses import UNDECIDED
 
-FIRST = "by the copper's own names, so that only opens and shorts against those are known: "
 MADE = "C made by boardnet show of the copper's own attributes"
 # Statuses of an answer: agrees, differs, undecided.
 ANSWERS = (0, 1, UNDECIDED)

@@ -3,8 +3,7 @@ from typing import Iterator, NamedTuple, Optional
 
 from boardnet_show.base.statuses import UNDECIDED
 from boardnet_show.extras.requested import GAPS
-from boardnet_show.findings.findings import doubt
-from boardnet_show.judging.net_ties import lost
+from boardnet_show.findings.finding import doubt
 
 from .text_lines import summary
 
@@ -37,7 +36,7 @@ def of_findings(shown) -> Iterator[Cause]:
     for finding in shown.findings:
         place = (netlist, shown.board.line(finding.points[0])) if finding.points else (None, 0)
         yield Cause(finding.kind, doubt(finding) + finding.id, finding.sentence(), finding.sure is not False, *place)
-    for words in lost(shown.ties, shown.board.report):
+    for words in shown.seen.lost_ties():
         yield Cause("tie", "tie", words, True)
 
 

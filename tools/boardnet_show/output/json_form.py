@@ -3,6 +3,8 @@ from boardnet_show.formats import indented_json
 from boardnet_show.formats.ipc356 import NO_NET
 from boardnet_show.judging import net_ties
 
+from .sentences import answers, hints
+
 FORM = 2
 # As many points of a part of an open are told.
 MOST_OF_A_PART = 12
@@ -58,7 +60,7 @@ def finding(board, one):
 
 def absent_ties(shown):
     """The ties of names that no test point has, as findings without a place."""
-    for number, (it, words) in enumerate(net_ties.absent(shown.ties, shown.board.report)):
+    for number, (it, words) in enumerate(net_ties.absent(shown.seen.ties, shown.board.report)):
         yield {"id": f"tie-{number}", "kind": "tie", "names": list(it.names), "words": words, "hints": [], "points": [], "nets": [],
                **({"sure": True} if shown.bounds else {})}
 
@@ -70,28 +72,32 @@ def like_of(likeness):
         {**each._asdict(), "places": places(each.places), "places_there": places(each.places_there)} for each in likeness.differences]}
 
 
+def hint_of(hint):
+    return {"kind": hint.kind, "words": hints.words(hint), "answer_status": hint.answer.status, "answer_line": answers.bare_line(hint.answer), "explains": hint.explains}
+
+
 def board_of(shown):
     """One board."""
     told = {"path": shown.path, "status": shown.status, "line": shown.line, "notes": shown.notes,
-            "mends": [it._asdict() for it in shown.mends],
-            "hints": [hint._asdict() for hint in shown.hints]}
+            "mends": [it._asdict() for it in shown.seen.mends],
+            "hints": list(map(hint_of, shown.hints))}
     if shown.bounds:
         told["bounds"] = {"findings": [{"kind": kind, "sure": sure, "words": words, "places": [place_object((x, y), layer) for x, y, layer in places]}
                                        for kind, sure, words, places in shown.bounds.findings], "left_out": list(shown.bounds.left_out)}
-    if shown.gap_count is not None:
-        told["gaps"] = shown.gap_count
-    if shown.like:
-        told["like"] = like_of(shown.like)
-    if shown.tester:
-        told["tester"] = {"written": shown.tester.text is not None, "lines": shown.tester.lines}
+    if shown.requested.gap_count is not None:
+        told["gaps"] = shown.requested.gap_count
+    if shown.requested.like:
+        told["like"] = like_of(shown.requested.like)
+    if shown.requested.tester:
+        told["tester"] = {"written": shown.requested.tester.text is not None, "lines": shown.requested.tester.lines}
     if not shown.board:
         return told
     board = shown.board
     unnamed = sum(board.name(name) == NO_NET for _, _, name, _ in board.report.points)
-    return {**told, "audit": shown.audit, "copper": board.manifest.copper, "drills": [name for name, _, _ in board.manifest.drills],
+    return {**told, "audit": shown.seen.audit, "copper": board.manifest.copper, "drills": [name for name, _, _ in board.manifest.drills],
             "netlist": board.manifest.netlist, "own_names": bool(board.package.own), "ties": list(net_ties.told_of(board.ties, board.report)),
             "pieces": board.report.pieces, "points": len(board.report.points), "unnamed_points": unnamed,
-            **shown.counts(), **shown.found_counts(), "flood": shown.flood, "findings": [*(finding(board, it) for it in shown.findings), *absent_ties(shown)]}
+            **shown.seen.counts()._asdict(), **shown.found_counts(), "flood": shown.seen.flood, "findings": [*(finding(board, it) for it in shown.findings), *absent_ties(shown)]}
 
 
 def json_text(all_shown):

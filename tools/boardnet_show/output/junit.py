@@ -2,8 +2,7 @@
 from typing import NamedTuple
 
 from boardnet_show.base.wording import printable
-from boardnet_show.findings.findings import doubt
-from boardnet_show.judging.net_ties import lost
+from boardnet_show.findings.finding import doubt
 
 from .markup import escaped, for_xml
 
@@ -41,15 +40,15 @@ def of_names(shown):
     for it in shown.findings:
         for name in it.names if it.kind != "gap" else ():
             failures.setdefault(name, []).append((doubt(it) + it.id, it.sentence()))
-    nowhere = [("tie", words) for words in lost(shown.ties, shown.board.report)]
+    nowhere = [("tie", words) for words in shown.seen.lost_ties()]
     cases = [Case(name, failures.get(number, [])) for number, name in enumerate(shown.board.report.names)]
     return cases + ([Case("ties", nowhere)] if nowhere else [])
 
 
 def cases_of(shown):
     """All cases: no status but 0 is without one that fails or is an error."""
-    status, line = shown.verdict or (shown.status, shown.line)
-    cases = of_names(shown) if shown.board and status in (0, 1) else [whole(shown, status, line)]
+    status = shown.answer.status
+    cases = of_names(shown) if shown.board and status in (0, 1) else [whole(shown, status, shown.netlist_line)]
     cases += [Case(it.what, [cause[:2] for cause in it.causes()], "failure" if it.status == 1 else "error") for it in shown.besides]
     return cases if not shown.status or any(it.causes for it in cases) else [*cases, whole(shown, shown.status, shown.line)]
 

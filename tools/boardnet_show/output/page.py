@@ -14,10 +14,11 @@ from array import array
 from operator import sub
 
 from boardnet_show.base.wording import counted, printable, spoken
-from boardnet_show.findings.findings import doubt
+from boardnet_show.findings.finding import doubt
 
 from . import record_page, text_lines
 from .markup import in_html
+from .sentences import hints
 from .text_lines import cut
 
 HERE = os.path.join(os.path.dirname(os.path.abspath(__file__)), "page_assets")
@@ -139,7 +140,7 @@ def finding_data(finding, sides):
 
 def wider_data(shown):
     """What the upper of two bounds has beyond the lower one: layer and corners."""
-    return [[layer, [v for spot in corners for v in in_whole_nanometres(spot)]] for layer, corners in shown.wider]
+    return [[layer, [v for spot in corners for v in in_whole_nanometres(spot)]] for layer, corners in shown.seen.wider]
 
 
 def in_page(value):
@@ -195,18 +196,18 @@ def list_of(kind, findings):
 def verdict(shown):
     """The words of the terminal, and what they mean where the board agrees."""
     words = f"{shown.line[:1].upper()}{shown.line[1:]}"
-    if shown.bounds or (shown.verdict or (shown.status,))[0] != 0:
+    if shown.bounds or shown.answer.status != 0:
         return words
     what = "to which its own files give one name" if shown.board.package.own else "that the netlist joins"
-    return f"{words}. The copper joins exactly the points {what}{' or the ties do' if shown.ties.ties else ''}."
+    return f"{words}. The copper joins exactly the points {what}{' or the ties do' if shown.seen.ties.ties else ''}."
 
 
 def audited(shown):
     """What the audit is of: the files, or copies in place of some."""
-    copies = dict.fromkeys(it.file for it in shown.mends)
+    copies = dict.fromkeys(it.file for it in shown.seen.mends)
     words = [*(f"{name} (mended)" for name in copies), *(f"{name} (flattened)" for name in sorted(shown.board.package.flattened))]
     of = f"these files, with copies in place of {spoken(words, FEW)}" if words else "these files"
-    return f"The report was audited: it is true of {of}{', and has each declared tie as a short' if shown.ties.ties else ''}."
+    return f"The report was audited: it is true of {of}{', and has each declared tie as a short' if shown.seen.ties.ties else ''}."
 
 
 def facts(shown):
@@ -225,7 +226,7 @@ def source_hash(source):
 
 
 def notes(shown):
-    told = [*shown.notes, *([shown.flood] if shown.flood else []), *(hint.words for hint in shown.hints), *cut(list(text_lines.extra_lines(shown)), False)]
+    told = [*shown.notes, *([shown.seen.flood] if shown.seen.flood else []), *(hints.words(hint) for hint in shown.hints), *cut(list(text_lines.extra_lines(shown)), False)]
     return "".join(f'<p class="advice">{in_html(words)}</p>\n' for words in told)
 
 
@@ -237,7 +238,7 @@ def page_html(shown):
         "TITLE": in_html(shown.title), "STYLE": style, "SCRIPT": code, "STATE": "agrees" if shown.status == 0 else "differs",
         "VERDICT": in_html(verdict(shown)), "FACTS": in_html(facts(shown)), "ADVICE": notes(shown),
         "FINDINGS": lists or f'<p class="none">{"No finding" if shown.status else "No open, no short, no point without copper"}.</p>', "DATA": block(shown.board, shown.findings, wider_data(shown)),
-        "RECORD": record_page.section(shown.record),
+        "RECORD": record_page.section(shown.requested.record),
     }
     parts = asset("page.html").split("@@")
     return "".join(fills[part] if k % 2 else part for k, part in enumerate(parts))

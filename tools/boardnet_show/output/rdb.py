@@ -1,8 +1,7 @@
 """The findings as a marker database of KLayout (*.lyrdb): lengths are micrometres."""
 from boardnet_show.base.statuses import UNDECIDED
 from boardnet_show.extras.requested import GAPS
-from boardnet_show.findings.findings import doubt
-from boardnet_show.judging.net_ties import lost
+from boardnet_show.findings.finding import doubt
 
 from .markup import escaped, for_xml
 
@@ -62,8 +61,8 @@ def items_of(shown):
 def items_of_board(shown):
     board = shown.board
     its = [item(finding.kind, doubt(finding) + finding.id, values(board, finding)) for finding in shown.findings]
-    its += [item("tie", "tie", [quoted(words)]) for words in lost(shown.ties, board.report)]
-    return its, [item("wider", f"{board.manifest.layer_word(layer)}", [f"polygon: ({';'.join(map(at, corners))})"]) for layer, corners in shown.wider]
+    its += [item("tie", "tie", [quoted(words)]) for words in shown.seen.lost_ties()]
+    return its, [item("wider", f"{board.manifest.layer_word(layer)}", [f"polygon: ({';'.join(map(at, corners))})"]) for layer, corners in shown.seen.wider]
 
 
 def marker_database(shown):

@@ -44,4 +44,4 @@ def page(shown):
     told = "".join(f"<p>{in_html(words)}</p>\n" for words in [shown.line, *shown.notes, *text_lines.extra_lines(shown)])
     return (f'<!DOCTYPE html>\n<html lang="en">\n<head>\n<meta charset="utf-8">\n'
             f'<meta http-equiv="Content-Security-Policy" content="default-src \'none\'">\n<title>{in_html(shown.title)}: boardnet</title>\n</head>\n'
-            f"<body>\n<h1>{in_html(shown.title)}</h1>\n{told}{section(shown.record)}</body>\n</html>\n")
+            f"<body>\n<h1>{in_html(shown.title)}</h1>\n{told}{section(shown.requested.record)}</body>\n</html>\n")

@@ -108,7 +108,7 @@ class Picture:
     def wider(self, layer):
         """What the upper of two bounds has beyond the lower one, by its outline in dashes."""
         dash = micrometres(3 * self.pixel)
-        for of, corners in self.shown.wider:
+        for of, corners in self.shown.seen.wider:
             if of == layer:
                 yield f'<path class="wider" stroke-width="{micrometres(self.pixel)}" stroke-dasharray="{dash}" d="M{"L".join(map(point, corners))}Z"/>'
 

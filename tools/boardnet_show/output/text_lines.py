@@ -1,8 +1,9 @@
 """Findings as lines: grouped by name for a reader, one a line for `grep`."""
 from boardnet_show.base.statuses import UNJUDGED
 from boardnet_show.base.wording import counted
-from boardnet_show.findings.findings import doubt
-from boardnet_show.judging.net_ties import lost
+from boardnet_show.findings.finding import doubt
+
+from .sentences import hints
 
 MOST = 20
 
@@ -18,8 +19,8 @@ def summary(shown):
 
 def notes(shown):
     """What is told before the findings."""
-    told = [*shown.notes, *([shown.flood] if shown.flood else [])]
-    return told + [f"hint: {hint.words}" for hint in shown.hints]
+    told = [*shown.notes, *([shown.seen.flood] if shown.seen.flood else [])]
+    return told + [f"hint: {hints.words(hint)}" for hint in shown.hints]
 
 
 def bounded(shown):
@@ -45,7 +46,7 @@ def blocks(shown):
 
 def reader(shown, is_all):
     """What is printed of one board: at most twenty lines of findings where not all are wanted."""
-    yield heading(shown) + (f" ({shown.audit})" if shown.audit and shown.status != UNJUDGED and not shown.bounds else "")
+    yield heading(shown) + (f" ({shown.seen.audit})" if shown.seen.audit and shown.status != UNJUDGED and not shown.bounds else "")
     yield from notes(shown)
     printed, told = 0, 0
     for block in blocks(shown):
@@ -68,14 +69,14 @@ def quiet(shown):
     """A line `file:line: id: words` for each finding, as editors and CI read them, and one for the board."""
     if shown.board:
         netlist = shown.board.package.told_path(shown.board.manifest.netlist)
-        yield from (f"{shown.path}: {words}" for words in lost(shown.ties, shown.board.report))
+        yield from (f"{shown.path}: {words}" for words in shown.seen.lost_ties())
         for finding in shown.findings:
             place = f"{netlist}:{shown.board.line(finding.points[0])}" if finding.points else shown.path
             yield f"{place}: {doubt(finding)}{finding.id}: {finding.sentence()}"
     for row in bounded(shown):
         yield f"{shown.path}: {row.strip()}"
     for hint in shown.hints:
-        yield f"{shown.path}: hint: {hint.words}"
+        yield f"{shown.path}: hint: {hints.words(hint)}"
     for row in extra_lines(shown):
         yield f"{shown.path}: {row.strip()}"
     yield summary(shown)
@@ -83,11 +84,11 @@ def quiet(shown):
 
 def extra_lines(shown):
     """What is told of it in lines."""
-    if shown.like:
-        yield f"like {shown.like.path}: {shown.like.line}" + (f" ({shown.like.placed})" if shown.like.placed else "")
-        for it in shown.like.differences:
+    if shown.requested.like:
+        yield f"like {shown.requested.like.path}: {shown.requested.like.line}" + (f" ({shown.requested.like.placed})" if shown.requested.like.placed else "")
+        for it in shown.requested.like.differences:
             yield f"  {it.name()}: {it.sentence()}"
-    if shown.tester:
-        first, *rest = shown.tester.lines
+    if shown.requested.tester:
+        first, *rest = shown.requested.tester.lines
         yield f"netlist for a tester: {first}"
         yield from (f"  {words}" for words in rest)

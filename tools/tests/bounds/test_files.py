@@ -19,6 +19,7 @@ from boardnet_show.judging import judged, two_bounds
 from boardnet_show.judging.nothing_judged import NO_POINTS
 from boardnet_show.judging.program import Program
 from boardnet_show.judging.upper_joins import Differing
+from boardnet_show.output.sentences import answers as sentences
 from tests.fixtures import made
 from tests.fixtures.made import STAND_IN, flash, manifest, netlist, record
 from tests.fixtures.real_shapes import Real, fine, has, pieces_of
@@ -240,7 +241,7 @@ class Packages(made.Case):
         for program in self.over_both():
             told = self.bounded(program, self.ARC, [record("A", "J1.1", 1, 0), record("A", "J1.2", -1, 0), record("A", "J1.3", 0, 1)])
             self.assertEqual((told.status, told.findings, told.left_out), (0, [], []))
-            self.assertEqual(told.line, "agrees, between two bounds (lower agrees; upper agrees)")
+            self.assertEqual(sentences.line(told.answer), "agrees, between two bounds (lower agrees; upper agrees)")
 
     def test_differs(self):
         """What both have is the board's: a short, a point without copper, a name in two parts."""
@@ -287,7 +288,7 @@ class Packages(made.Case):
             told = self.bounded(program, pad, [record("A", "J1.1", 1, 0), record("B", "J1.2", -1, 0), record("N/C", "J2.1", 0, 1.6002)])
             self.assertEqual((told.status, [it[:2] for it in told.findings]), (1, [("short", True), ("short", False)]))
             told = self.bounded(program, pad, [record("N/C", "J1.1", 1, 0), record("N/C", "J2.1", 0, 1.6002)])
-            self.assertEqual((told.status, told.findings, told.line[:18]), (12, [], "NOTHING WAS JUDGED"))
+            self.assertEqual((told.status, told.findings, sentences.line(told.answer)[:18]), (12, [], "NOTHING WAS JUDGED"))
 
     def test_left_out(self):
         """What the lower bound does not have is told, and makes its points undecided."""
@@ -327,8 +328,8 @@ class Packages(made.Case):
                 runs, told = self.judged(program, [*self.ARC, line], points)
                 answer = two_bounds.bounded(runs, told)
                 why = "a hole that is not round at command 12" if line != "G36*" else "a region without an end at command 11"
-                self.assertEqual((answer.status, answer.line), (3, f"{told.line}; no bounds: top.gbr: {why}"))
-            self.assertEqual(self.bounded(program, self.ARC, [])[:2], (12, NO_POINTS))
+                self.assertEqual((answer.status, sentences.line(answer.answer)), (3, f"{told.line}; no bounds: top.gbr: {why}"))
+            self.assertEqual(self.bounded(program, self.ARC, []).answer[:3], (12, "nothing", NO_POINTS))
             self.assertIsNone(two_bounds.bounded(*self.judged(program, [*HEAD, "%ADD10C,1.0*%", *flash(10, (1, 0))], points)))
 
     def test_names_with_dots(self):

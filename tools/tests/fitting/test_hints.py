@@ -6,6 +6,8 @@ from itertools import product
 
 from boardnet_show.fitting import drill_decimals, layer_order, placement
 from boardnet_show.formats.manifest import Manifest
+from boardnet_show.output.sentences import changes
+from boardnet_show.output.sentences.answers import bare_line
 from tests.fixtures import made
 from tests.fixtures.hinted import Case, files_of, with_netlist
 from tests.fixtures.made import STAND_IN
@@ -37,7 +39,7 @@ class Hints(Case):
             for turn, by in rows if program != STAND_IN else rows[::3]:
                 with self.subTest(turn=turn, by=by):
                     status, words, found = self.told(with_netlist(files_of(), placement.FORMS[turn][1], by), program)
-                    self.assertEqual((status, len(words), found[0].kind, found[0].answer_status, found[0].answer_line), (1, 1, "placement", 0, "agrees"), words)
+                    self.assertEqual((status, len(words), found[0].kind, found[0].answer.status, bare_line(found[0].answer)), (1, 1, "placement", 0, "agrees"), words)
                     self.assertTrue(words[0].startswith("with the netlist ") and words[0].endswith(", `check` says: agrees"), words)
         status, words, _ = self.told(with_netlist(files_of(), placement.FORMS[0][1], (12345, -678)))
         self.assertEqual((status, words), (1, ["with the netlist moved by (-12.345, 0.678) mm, `check` says: agrees"]))
@@ -69,8 +71,8 @@ class Hints(Case):
             if program != STAND_IN:
                 self.assertEqual(self.told(files, program)[:2], (3, ["with the layers in the order a.gbr, b.gbr, as the files say, `check` says: agrees"]))
         package = self.package(files)
-        (words, told), = layer_order.as_labelled(package)
-        self.assertEqual((words, told.copper), ("with the layers in the order a.gbr, b.gbr, as the files say", ["a.gbr", "b.gbr"]))
+        (change, told), = layer_order.as_labelled(package)
+        self.assertEqual((changes.words(change), told.copper), ("the layers in the order a.gbr, b.gbr, as the files say", ["a.gbr", "b.gbr"]))
 
     def test_inner_layers(self):
         """Of four layers in another order the outer ones are found; that the netlist cannot tell the inner ones is said."""
@@ -159,16 +161,16 @@ class Decimals(Case):
         short = {**files, "n.ipc": files["n.ipc"].replace(f"{'N1':<14}", f"{'N2':<14}")}
         for program in self.programs():
             found = self.told(files, program)[2]
-            self.assertEqual({it.answer_status for it in found}, {0})
+            self.assertEqual({it.answer.status for it in found}, {0})
             self.assertEqual(self.told(short, program)[:2], (3, []))
 
     def test_points_are_kept(self):
         text = b"M48\nMETRIC,TZ\nT1C0.4\n%\nT1\nX1.5Y-25\n;X5\nM30\n"
-        self.assertEqual(drill_decimals.with_point(text, drill_decimals.Reading(3, 0, "", "")), b"M48\nMETRIC\nT1C0.4\n%\nT1\nX1.5Y-0.025\n;X5\nM30\n")
+        self.assertEqual(drill_decimals.with_point(text, drill_decimals.Reading(3, 0)), b"M48\nMETRIC\nT1C0.4\n%\nT1\nX1.5Y-0.025\n;X5\nM30\n")
 
     def test_combined(self):
         """One form for all files where that fits, else the likeliest of all combinations, in their order; of many files at once."""
-        chance, how = random.Random(5), [drill_decimals.Reading(d, width, "", "") for width in (0, 6) for d in range(2, 5)]
+        chance, how = random.Random(5), [drill_decimals.Reading(d, width) for width in (0, 6) for d in range(2, 5)]
         fits = lambda name, least: [drill_decimals.Fit(name, it, b"", chance.randrange(4), 4) for it in chance.sample(how, chance.randrange(least, 5))]
         for files in (1, 2, 3, 4) * 40:
             by_file = [fits(str(k), 1) for k in range(files)]
@@ -195,7 +197,7 @@ class Outside(Case):
         files["a.gbr"] = files["a.gbr"].replace("M02*", arc)
         for program in self.over_both():
             status, words, found = self.told(files, program)
-            self.assertEqual((status, len(found), found[0].answer_status), (3, 1, 0), words)
+            self.assertEqual((status, len(found), found[0].answer.status), (3, 1, 0), words)
             self.assertEqual(words[0], "with the netlist moved by (-5.000, 0.000) mm, `check` says of both bounds: agrees, between two bounds (lower agrees; upper agrees)")
 
 

@@ -34,7 +34,7 @@ class Drills(Case):
         for program in self.over_both():
             status, words, found = self.told(with_drills(files_of(), 0, BY), program)
             self.assertEqual((status, words), (1, ["with the drills moved by (-3.500, 2.250) mm, `check` says: agrees"]))
-            self.assertEqual((found[0].kind, found[0].answer_status, found[0].explains), ("drills", 0, True))
+            self.assertEqual((found[0].kind, found[0].answer.status, found[0].explains), ("drills", 0, True))
 
     def test_mirrored(self):
         for turn, words in ((2, "mirrored upside down"), (1, "mirrored left to right, moved by (3.500, 2.250) mm")):

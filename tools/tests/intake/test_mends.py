@@ -5,9 +5,12 @@ import random
 import time
 import unittest
 
+from boardnet_show.base import refusals
 from boardnet_show.formats.drills import drill_plating
 from boardnet_show.intake import cad_tools, export_advice
 from boardnet_show.intake.mends import chords, copper_mends, drill_mends, mended_files, netlist_mends, table
+from boardnet_show.judging.answers import STOPPED, Answer
+from boardnet_show.output.sentences import answers as sentences
 from tests.fixtures import common
 
 HEAD = "%FSLAX46Y46*%\n%MOMM*%\n"
@@ -298,7 +301,9 @@ class Words(common.Case):
             ("differs, opens 1", b"", ""),
         ]
         for line, data, wanted in rows:
-            self.assertEqual(export_advice.way_out(line, lambda _: data), wanted)
+            refusal = refusals.of_line(line)
+            answer = Answer(3, STOPPED, "", refusal, advice=export_advice.way_out(refusal, lambda _: data))
+            self.assertEqual(sentences.line(answer), wanted)
 
     def test_tools(self):
         """The tool that a file names, and what its user is told; a tool without a word of its own gets that for all."""

@@ -13,6 +13,7 @@ from boardnet_show.intake.package import Package
 from boardnet_show.judging import between_command, judged, two_bounds
 from boardnet_show.judging.net_ties import Ties, tie
 from boardnet_show.judging.program import Answer, Program
+from boardnet_show.output.sentences.answers import bare_line, line as line_of
 from tests.fixtures import made
 from tests.fixtures.made import STAND_IN, drill, flash, manifest, netlist, record
 
@@ -183,7 +184,7 @@ class Asked(made.Case):
         for names, answer in (("AA", decided("agrees")), ("AB", decided("differs", joined))):
             records = [record(name, f"J1.{k}", .5, .5 + k * .1) for k, name in enumerate(names)]
             told = self.told(Recorder(answer), self.BENT, records)
-            self.assertEqual((told.status, "proved" in told.line, self.corners_below() < 12), (answer.status, True, True))
+            self.assertEqual((told.status, "proved" in bare_line(told.answer), self.corners_below() < 12), (answer.status, True, True))
             told = self.told(Recorder(answer), self.BENT, records, is_finer=True)
             self.assertEqual((told, self.corners_below() > 20), (self.bounded, True))
         for names, answer in (("AA", decided("undecided")), ("AB", decided("differs")), ("AB", decided("differs", joined.replace("6000000 B", "7000000 B"))),
@@ -210,15 +211,15 @@ class Asked(made.Case):
     def test_said(self):
         """`proved` is said where the program takes the bounds and finds what the reports do, and only then."""
         plain = "agrees, between two bounds (lower agrees; upper agrees)"
-        self.assertEqual(self.told(Recorder(decided("agrees")), HALF, [A, B]).line, "agrees, between two bounds, proved (lower agrees; upper agrees)")
+        self.assertEqual(bare_line(self.told(Recorder(decided("agrees")), HALF, [A, B]).answer), "agrees, between two bounds, proved (lower agrees; upper agrees)")
         for status in (2, 4, 6):
             told = self.told(Recorder(Answer(status, b"", "")), HALF, [A, B])
-            self.assertEqual((told, told.line), (self.bounded, plain))
+            self.assertEqual((told, bare_line(told.answer)), (self.bounded, plain))
         told = self.told(Recorder(Answer(3, b"", "top.gbr: Gerber 39 OffsetsAmiss at command 10, byte 9")), HALF, [A, B])
-        self.assertEqual((told.line, told.notes), (plain, ("`between` was asked, and stopped: top.gbr: Gerber 39 OffsetsAmiss at command 10, byte 9",)))
+        self.assertEqual((bare_line(told.answer), told.notes), (plain, ("`between` was asked, and stopped: top.gbr: Gerber 39 OffsetsAmiss at command 10, byte 9",)))
         near = [record("A", "J1.1", 0, 1.1), B]
         told = self.told(Recorder(decided("undecided", NONE, "opens 0\nshorts 0\nmissing 1\nbare 1 1 0 11000000 A\n")), HALF, near)
-        self.assertEqual((told.status, told.line[:70]), (11, "undecided, between two bounds, proved: 1 finding undecided (lower diff"))
+        self.assertEqual((told.status, bare_line(told.answer)[:70]), (11, "undecided, between two bounds, proved: 1 finding undecided (lower diff"))
 
     def test_other_findings(self):
         """What `between` finds has to be what the reports on both boards find: words, counts, names and places."""
@@ -235,9 +236,9 @@ class Asked(made.Case):
         ties, records = Ties([tie("A=C", "--tie")]), [record("C", "J1.1", 1, 0), B]
         joined = "opens 0\nshorts 1\nshort 2\npoint 1 1 10000000 0 C\npoint 2 1 -10000000 0 A\nmissing 0\n"
         told = self.told(Recorder(decided("differs", joined)), HALF, records, ties=ties)
-        self.assertEqual((told.status, told.line[:59]), (0, "agrees, with 1 declared tie, between two bounds, proved (lo"))
+        self.assertEqual((told.status, bare_line(told.answer)[:59]), (0, "agrees, with 1 declared tie, between two bounds, proved (lo"))
         told = self.told(Recorder(decided("differs", joined)), HALF, records, ties=Ties([tie("A=C", "--tie"), tie("A=D", "--tie")]))
-        self.assertEqual((told.status, told.line[:75]), (1, "differs, with 1 declared tie, between two bounds, proved: 1 finding certain"))
+        self.assertEqual((told.status, bare_line(told.answer)[:75]), (1, "differs, with 1 declared tie, between two bounds, proved: 1 finding certain"))
         for answer in (decided("differs"), decided("agrees"), decided("undecided", NONE, joined), decided("differs", joined.replace(" C", " E"))):
             with self.subTest(answer.out), self.assertRaisesRegex(Stop, "NOTHING WAS JUDGED: `between` "):
                 self.told(Recorder(answer), HALF, records, ties=ties)
@@ -248,7 +249,7 @@ class Asked(made.Case):
             line = f"m.json: file 0, command 10, copy 0: not bounded {side}"
             told = self.told(Recorder(Answer(3, b"", line)), HALF, [A, B])
             self.assertEqual((self.bounded.status, told.status, told.findings, self.package.between), (0, 3, [], None))
-            self.assertEqual(told.line, f"top.gbr: Gerber 11 Arc at command 10, byte 0; no bounds: `between` does not take them: {line}")
+            self.assertEqual(line_of(told.answer), f"top.gbr: Gerber 11 Arc at command 10, byte 0; no bounds: `between` does not take them: {line}")
             with self.assertRaisesRegex(Refused, "not bounded"):
                 two_bounds.judge(Recorder(), self.package, Ties())
 

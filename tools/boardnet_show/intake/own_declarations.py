@@ -4,12 +4,14 @@
 comments are passed over: so they are judged here, by the rule that `check` has.
 """
 import re
-from typing import List
+from typing import List, Optional, Tuple
 
+from boardnet_show.base.refusals import GERBER, WRONG_LAYER, Refusal
 from boardnet_show.formats import gerber_attributes
 
 LAYER = re.compile(rb"Copper,L([1-9][0-9]?)")
-WRONG_LAYER, NEGATIVE_FILE = "Gerber 25 WrongLayer", "Gerber 26 NegativeFile"
+# Numbers and names of two kinds of refusal.
+WRONG, NEGATIVE = (25, WRONG_LAYER), (26, "NegativeFile")
 
 
 def came(package, name: str) -> bytes:
@@ -20,24 +22,23 @@ def came(package, name: str) -> bytes:
         return b""
 
 
-def line_of(name: str, data: bytes, kind: str, attribute: gerber_attributes.Attribute) -> str:
-    """The line of a refusal, as `check` has it."""
-    line = f"{name}: {kind} at command {data.count(b'*', 0, attribute.start) + 1}, byte {attribute.start}"
-    return line + (", by an attribute in a comment, which `check` passes over" if attribute.is_comment else "")
+def refusal(name: str, data: bytes, kind: Tuple[int, str], attribute: gerber_attributes.Attribute) -> Refusal:
+    """The refusal of a file by one of its attributes, as `check` has it."""
+    return Refusal(name, GERBER, *kind, "command", data.count(b"*", 0, attribute.start) + 1, attribute.start, attribute.is_comment)
 
 
-def amiss(package) -> str:
-    """The line of the first copper file that says that it is no layer of its place, else of the first that says that it is negative; nothing where
+def amiss(package) -> Optional[Refusal]:
+    """The refusal of the first copper file that says that it is no layer of its place, else of the first that says that it is negative; None where
     none does. The layers come first: where a file is negative, the board is judged by copies that have no comments."""
-    negative = ""
+    negative = None
     for place, name in enumerate(package.manifest.copper if package.manifest else (), 1):
         data, wanted = came(package, name), [b"Copper", b"L%d" % place]
         wrong = [it for it in gerber_attributes.functions(data) if it.fields[1:3] != wanted]
         if wrong:
-            return line_of(name, data, WRONG_LAYER, wrong[0])
+            return refusal(name, data, WRONG, wrong[0])
         said = gerber_attributes.negatives(data)
         if said and not negative:
-            negative = line_of(name, data, NEGATIVE_FILE, said[0])
+            negative = refusal(name, data, NEGATIVE, said[0])
     return negative
 
 

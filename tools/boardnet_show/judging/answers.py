@@ -1,0 +1,69 @@
+"""The answer on a board as a value: how it was judged and what counts. `output.sentences.answers` puts it in words."""
+from typing import NamedTuple, Optional
+
+from boardnet_show.base.refusals import Advice, Refusal
+from boardnet_show.base.statuses import UNJUDGED, Stop
+
+# By the report itself; by two boards between which it lies; no answer on its copper; an answer that says nothing.
+EXACT, BETWEEN, STOPPED, NOTHING = "exact", "between", "stopped", "nothing"
+
+
+class Counts(NamedTuple):
+    """How much counts: opens and points without copper, shorts that are no declared ties, and ties that no copper makes."""
+
+    opens: int
+    shorts: int
+    missing: int
+    open_ties: int
+
+
+class Tied(NamedTuple):
+    """What counts where ties are declared; nothing of it where the answer is by two bounds, which have their own counts. `made` is how
+    many ties the copper has."""
+
+    made: int
+    counts: Optional[Counts] = None
+
+
+class Both(NamedTuple):
+    """The answers on a lower and an upper board, how many findings are certain and how many not, and whether the program takes both as bounds."""
+
+    lower: str
+    upper: str
+    certain: int
+    undecided: int
+    is_proved: bool = False
+
+
+class Answer(NamedTuple):
+    """`said` is the program's own line, or why the board is not judged; `no_bounds` why there are no bounds of a board that is refused."""
+
+    status: int
+    kind: str
+    said: str
+    refusal: Optional[Refusal] = None
+    tied: Optional[Tied] = None
+    both: Optional[Both] = None
+    no_bounds: str = ""
+    mends: int = 0
+    is_by_own_names: bool = False
+    advice: Advice = Advice(0, "")
+
+    def is_between(self) -> bool:
+        return self.both is not None
+
+
+def stopped(stop: Stop) -> Answer:
+    """The answer on a board that is not judged."""
+    return Answer(stop.status, STOPPED, str(stop))
+
+
+def nothing(why: str) -> Answer:
+    """The answer where a yes would say nothing of the board."""
+    return Answer(UNJUDGED, NOTHING, why)
+
+
+def without_bounds(status: int, said: str, refusal: Optional[Refusal], why: str) -> Answer:
+    """The answer on a refused board that has no bounds either."""
+    return Answer(status, STOPPED, said, refusal, no_bounds=why)
+

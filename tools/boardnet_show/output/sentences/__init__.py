@@ -1,0 +1,1 @@
+"""English for what was found out as values: an answer, a hint, a declaration, a waiver."""

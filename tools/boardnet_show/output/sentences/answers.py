@@ -1,0 +1,59 @@
+"""An answer in words: its first word, what stands behind it, and what was made or looked for besides."""
+from typing import Iterable, List
+
+from boardnet_show.base.statuses import UNDECIDED, UNJUDGED
+from boardnet_show.base.wording import counted
+from boardnet_show.judging.answers import BETWEEN, Answer, Both, Counts
+
+OWN_NAMES = "by the copper's own names, so that only opens and shorts against those are known: "
+WORDS = {0: "agrees", 1: "differs", UNDECIDED: "undecided"}
+
+
+def counts_words(counts: Counts) -> str:
+    return "differs, " + ", ".join(f"{name.replace('_', ' ')} {count}" for name, count in zip(Counts._fields, counts)) if any(counts) else "agrees"
+
+
+def found_words(both: Both) -> str:
+    """How many findings are certain and how many not, and the answers on both boards."""
+    rows = ((both.certain, "certain"), (both.undecided, "undecided"))
+    found = ", ".join(f"{counted(count, 'finding')} {word}" for count, word in rows if count)
+    return (f": {found}" if found else "") + f" (lower {both.lower}; upper {both.upper})"
+
+
+def conditions(answer: Answer) -> str:
+    """What an answer stands on, behind its first word."""
+    its: List[str] = []
+    if answer.tied:
+        its.append(counted(answer.tied.made, "declared tie"))
+    return f", with {spoken_list(its)}" if its else ""
+
+
+def spoken_list(words: List[str]) -> str:
+    return words[0] if len(words) == 1 else ", ".join(words[:-1]) + " and " + words[-1]
+
+
+def bare_line(answer: Answer) -> str:
+    """The answer by what the program says, before what was made of the files first is told."""
+    if answer.kind == BETWEEN and answer.both:
+        proved = ", proved" if answer.both.is_proved else ""
+        return f"{WORDS[answer.status]}{conditions(answer)}, between two bounds{proved}{found_words(answer.both)}"
+    if answer.tied and answer.tied.counts:
+        return f"{counts_words(answer.tied.counts)}{conditions(answer)}; the report itself says: {answer.said}"
+    return answer.said
+
+
+def line(answer: Answer) -> str:
+    """The answer on the netlist."""
+    text = bare_line(answer) + (f"; no bounds: {answer.no_bounds}" if answer.no_bounds else "")
+    if answer.mends and answer.status != UNJUDGED:
+        text += f", after {counted(answer.mends, 'mend')}"
+    if answer.advice.line and answer.refusal:
+        text += f"; line {answer.advice.line} of {answer.refusal.file}"
+    if answer.advice.export:
+        text += f"; to export: {answer.advice.export}"
+    return (OWN_NAMES if answer.is_by_own_names else "") + text
+
+
+def whole_line(answer: Answer, besides: Iterable[str]) -> str:
+    """The same with what was asked for besides."""
+    return "; ".join([line(answer), *besides])
