@@ -9,8 +9,8 @@ from typing import Callable, List, Optional, Sequence, Tuple
 
 from boardnet_show.formats import ipc356
 from boardnet_show.formats.drills.drill_places import places
-from boardnet_show.formats.gerber_words import words_of
-from boardnet_show.formats.units import SCALES, UNIT_WORDS
+from boardnet_show.formats.gerber_machine import Machine
+from boardnet_show.formats.units import UNIT_WORDS
 from boardnet_show.geometry.exact import Refused
 
 from .changes import NetlistPlaced
@@ -18,8 +18,7 @@ from .changes import NetlistPlaced
 SAMPLE = 40             # records that vote
 FEW, MANY = 8, 20_000   # centres
 ENOUGH = Q(3, 4)        # of the votes: no other centres are asked
-# Operations of a copper file, and its format.
-OPERATION = re.compile(r"(?:G0?[123])?(?=[XYD])(?:X([+-]?\d+))?(?:Y([+-]?\d+))?(?:I[+-]?\d+)?(?:J[+-]?\d+)?(?:D0?([123]))?")
+# The format of a copper file.
 FORMAT = re.compile(r"FSLAX\d(\d)Y\d\d")
 Form = Callable[[int, int], Tuple[int, int]]
 FORMS = [("", lambda x, y: (x, y)), ("mirrored left to right", lambda x, y: (-x, y)), ("mirrored upside down", lambda x, y: (x, -y)),
@@ -62,36 +61,41 @@ def moved(text: str, form: Form, by: Sequence[int]) -> Optional[str]:
 
 # ---- centres
 
-class Flashes:
-    """The places of a copper file's flashes, as its numbers, by its words; its unit and its format, None before they are said."""
+class Flashes(Machine):
+    """The places of a copper file's flashes, as its numbers; its unit and its format, None before they are said."""
 
-    def __init__(self):
-        self.x, self.y, self.spots, self.scale, self.decimals = "0", "0", set(), None, None
+    PLAIN = True
 
-    def word(self, extended, word):
-        if isinstance(word, tuple):
-            for x, y, code, number in word:
-                if not number:
-                    self.operation(x, y, code)
-        elif word in SCALES:
-            self.scale = self.scale or SCALES[word]
-        elif extended and FORMAT.match(word):
-            self.decimals = self.decimals or int(FORMAT.match(word)[1])
-        elif not extended and word[:1] in "GXYD" and OPERATION.fullmatch(word):
-            self.operation(*OPERATION.fullmatch(word).groups())
+    def __init__(self, data):
+        super().__init__()
+        self.digits, self.spots, self.scale, self.decimals = (b"0", b"0"), set(), None, None
+        self.read(data)
 
-    def operation(self, x, y, code):
-        self.x, self.y = x or self.x, y or self.y
-        if code == "3":
-            self.spots.add((self.x, self.y))
+    def unit_word(self, scale, text):
+        self.scale = self.scale or scale
+
+    def format_word(self, text):
+        found = FORMAT.match(text)
+        self.decimals = self.decimals or (int(found[1]) if found else None)
+
+    def plain_words(self, plain):
+        for x, y, code, aperture in plain.words:
+            if not aperture:
+                self.digits = x or self.digits[0], y or self.digits[1]
+                if code == b"3":
+                    self.spots.add(self.digits)
+
+    def operation(self, parts):
+        _, x, y, _, code = parts
+        self.digits = x or self.digits[0], y or self.digits[1]
+        if code == b"3":
+            self.spots.add(self.digits)
 
 
 def flashes(package, index):
     """Centres of the flashes of a copper file, in u; none without one format and unit. Copies of blocks have no vote."""
-    found = Flashes()
     try:
-        for extended, word, _ in words_of(text_of(package, package.manifest.copper[index]), plain=True):
-            found.word(extended, word)
+        found = Flashes(package.read(package.manifest.copper[index]))
     except Refused:
         return set()
     if not found.scale or not found.decimals:

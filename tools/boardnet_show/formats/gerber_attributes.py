@@ -1,11 +1,12 @@
-"""The attributes of a copper file, by its words: in a pair of percent signs, or in a comment `G04 #@! T..` for older readers.
+"""The attributes of a copper file, by its words: in a pair of percent signs, or in a comment `G04 #@! T..` for older
+readers.
 
 The standard takes both for the same (Gerber Layer Format Specification, 5.1). `check` reads the first alone.
 """
 import re
-from typing import Iterator, List, NamedTuple
+from typing import Dict, Iterator, List, NamedTuple
 
-from .gerber_tokens import holding
+from .gerber_lexer import holding
 
 COMMENT = re.compile(rb"G04[ \t]*#@![ \t]*(T[AFOD].*)", re.S)
 NEGATIVE = b"negative"
@@ -28,10 +29,49 @@ class Attribute(NamedTuple):
         return b",".join(self.fields[1:]).decode("ascii", "replace")
 
 
+class InForce:
+    """Those in force: of the next aperture its function, of the next objects net, part and pin, and all fields of
+    these by their names."""
+
+    def __init__(self) -> None:
+        self.function = self.net = self.part = self.pin = ""
+        self.of_objects: Dict[str, List[str]] = {}
+
+    def word(self, text: str) -> None:
+        """Takes the word of an attribute."""
+        kind, (name, *fields) = text[:2], text[2:].split(",")
+        if kind == "TO":
+            self.of_objects[name] = fields
+        if kind == "TA" and name == ".AperFunction":
+            self.function = fields[0] if fields else ""
+        elif kind == "TO" and name == ".N":
+            self.net = fields[0] if fields else ""
+        elif kind == "TO" and name == ".P":
+            self.part, self.pin = (fields + ["", ""])[:2]
+        elif kind == "TD":
+            self.delete(name)
+
+    def delete(self, name: str) -> None:
+        """Ends one, or without a name all."""
+        if name:
+            self.of_objects.pop(name, None)
+        else:
+            self.of_objects.clear()
+        for of, fields in ((".AperFunction", ["function"]), (".N", ["net"]), (".P", ["part", "pin"])):
+            if name in ("", of):
+                for field in fields:
+                    setattr(self, field, "")
+
+
+def as_written(word: bytes) -> bytes:
+    """The attribute in a comment's word, with the blanks of its fields, or nothing."""
+    found = COMMENT.fullmatch(word)
+    return found[1] if found else b""
+
+
 def said_by(word: bytes) -> bytes:
     """The attribute in a comment's word, or nothing."""
-    found = COMMENT.fullmatch(word)
-    return b",".join(field.strip() for field in found[1].split(b",")) if found else b""
+    return b",".join(field.strip() for field in as_written(word).split(b","))
 
 
 def of_file(data: bytes, sign: bytes) -> Iterator[Attribute]:
@@ -48,7 +88,8 @@ def functions(data: bytes) -> List[Attribute]:
 
 
 def negatives(data: bytes) -> List[Attribute]:
-    """The words that say that a file is negative, also with blanks or small letters, which `check` does not take for it."""
+    """The words that say that a file is negative, also with blanks or small letters, which `check` does not take for
+    it."""
     found = (it for it in of_file(data, b"TF.FilePolarity") if it.is_named(b".FilePolarity"))
     return [it for it in found if b"".join(it.fields[1:2]).strip().lower() == NEGATIVE]
 

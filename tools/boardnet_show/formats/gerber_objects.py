@@ -1,34 +1,32 @@
 """What the commands of a copper file make, in order, and what its attributes say of it: function, net, part and pin.
 
-It is walked without a judgement: `check` or `flatten` took the file. Objects count the pieces that `flatten` makes of them, so that
-each piece of a flattened file has its object in the file as it was.
+It is walked without a judgement: `check` or `flatten` took the file. Objects count the pieces that `flatten` makes of
+them, so that each piece of a flattened file has its object in the file as it was.
 """
-import re
 from fractions import Fraction as Q
-from typing import NamedTuple
+from typing import Dict, List, NamedTuple, Optional, Tuple
 
 from boardnet_show.base.statuses import BadCopper
 from boardnet_show.geometry.exact import DECIMAL, Refused
 
-from . import gerber_attributes
-from .gerber_words import DRAW, FLASH, MODES, MOST_OBJECTS, MOVE, OPERATION, words_of
+from .gerber_lexer import Plain, Run
+from .gerber_machine import (
+    CODES, DRAW, FLASH, MOST_OBJECTS, MOVE, Code, Machine, Spot, definition_of, steps_of
+)
 from .macro_expressions import Expression, compact
-from .units import SCALES
 
-PLACED = re.compile(r"X([+-]?\d{1,13})Y([+-]?\d{1,13})D0?([123])")
-PICKED = re.compile(r"(?:G54)?D(\d{2,9})")
 PRIMITIVES = {1: (2,), 20: (2,), 21: (2, 3)}     # where a primitive has its sizes; without one it makes nothing
 
 
 class Object(NamedTuple):
-    """`count` pieces of a flash, draw or contour; `place` is that of a flash, `region` the number of a contour's region, `inner` that of
-    an object that the flash of a block makes."""
+    """`pieces` of a flash, draw or contour; `place` is that of a flash, `region` the number of a contour's region,
+    `inner` that of an object that the flash of a block makes."""
 
     kind: str
     command: int
     copy: int
-    count: int
-    place: tuple
+    pieces: int
+    place: Spot
     region: int
     function: str
     net: str
@@ -38,118 +36,71 @@ class Object(NamedTuple):
 
 
 class Aperture(NamedTuple):
-    count: int
+    """How many pieces a flash of it makes, and its function."""
+
+    pieces: int
     function: str
 
 
-class Attributes:
-    """Those in force: of the next aperture its function, of the next objects net, part and pin."""
+class Block(NamedTuple):
+    """Step and repeat: the number of its first object, how often these come, and the steps."""
 
-    def __init__(self):
-        self.function = self.net = self.part = self.pin = ""
-
-    def word(self, word):
-        name, *fields = word[2:].split(",")
-        if word.startswith("TA") and name == ".AperFunction":
-            self.function = fields[0] if fields else ""
-        elif word.startswith("TO") and name == ".N":
-            self.net = fields[0] if fields else ""
-        elif word.startswith("TO") and name == ".P":
-            self.part, self.pin = (fields + ["", ""])[:2]
-        elif word.startswith("TD"):
-            self.delete(name)
-
-    def delete(self, name):
-        for of, fields in ((".AperFunction", ["function"]), (".N", ["net"]), (".P", ["part", "pin"])):
-            if name in ("", of):
-                for field in fields:
-                    setattr(self, field, "")
+    first: int
+    columns: int
+    rows: int
+    x: int
+    y: int
 
 
-class Walk:
+class Walk(Machine):
     """Goes through a copper file; `objects` is what it makes."""
 
-    def __init__(self, text):
-        self.objects, self.attributes, self.apertures, self.macros = [], Attributes(), {}, {}
-        self.scale = self.parts = self.last = self.aperture = self.block = self.macro = None
-        self.place, self.clear, self.in_region, self.edges, self.region = (0, 0), False, False, 0, 0
-        self.command = 0
-        for extended, word, first in words_of(text, True, True):
-            self.command += 1
-            if extended:
-                self.extended(word, first)
-            elif isinstance(word, str):
-                self.plain(word)
-            elif isinstance(word, tuple):
-                self.plain_run(word)
-            else:
-                self.run(*word)
+    RUNS = PLAIN = True
 
-    # ---- words
+    def __init__(self, data: bytes) -> None:
+        super().__init__()
+        self.objects: List[Object] = []
+        self.apertures: Dict[int, Aperture] = {}
+        self.macros: Dict[str, List[str]] = {}
+        self.scale, self.parts = 0, 1
+        self.aperture: Optional[Aperture] = None
+        self.repeated: Optional[Block] = None
+        self.edges = self.region = 0
+        self.read(data)
 
-    def extended(self, word, first):
-        self.macro = None if first else self.macro
-        if self.macro is not None:
-            self.macro.append(word)
-        elif word.startswith(("TA", "TO", "TD")):
-            self.attributes.word(word)
-        elif word.startswith("AM"):
-            self.macro = self.macros.setdefault(word[2:], [])
-        elif word.startswith("AD"):
-            self.define(word)
-        elif word.startswith("SR"):
-            self.steps(word)
-        elif word.startswith("FS"):
-            self.parts = 10 ** int(word[-1])
-        elif word in SCALES:
-            self.scale = SCALES[word]
-        elif word in ("LPC", "LPD"):
-            self.clear = word == "LPC"
+    # ---- settings
 
-    def plain(self, word):
-        found = PLACED.fullmatch(word)
-        if found:       # most words
-            self.operation(*found.groups())
-            return
-        if word.startswith("G04"):
-            self.attributes.word(gerber_attributes.said_by(word.encode("latin-1")).decode("latin-1"))
-            return
-        picked = PICKED.fullmatch(word)
-        if picked and int(picked[1]) >= 10:
-            self.aperture = self.apertures.get(int(picked[1]))
-            return
-        operation = OPERATION.fullmatch(word)
-        if word in SCALES:
-            self.scale = SCALES[word]
-        elif word in ("G36", "G37"):
-            self.close()
-            self.in_region, self.region = word == "G36", self.region + 1
-        elif word in ("M02", "M2"):
-            self.steps("SR")
-        elif word not in MODES and operation and any(operation.groups()[1:]):
-            _, x, y, _, _, code = operation.groups()
-            self.operation(x, y, code)
+    def format_word(self, text: str) -> None:
+        self.parts = int(10 ** int(text[-1]))
 
-    def plain_run(self, words):
-        """Words by x, y and code, or by the number of an aperture."""
-        self.command -= 1
-        for x, y, code, number in words:
-            self.command += 1
-            if number:
-                self.aperture = self.apertures.get(int(number))
-            else:
-                self.operation(x, y, code)
+    def unit_word(self, scale: int, text: str) -> None:
+        self.scale = scale
+
+    def length(self, digits: bytes) -> int:
+        return int(digits) * self.scale // self.parts
+
+    def end(self) -> None:
+        self.steps("SR")
 
     # ---- apertures
 
-    def define(self, word):
-        match = re.fullmatch(r"ADD(\d{1,9})([^,]+)(?:,(.*))?", word)
-        number, name, parts = int(match[1]), match[2], (match[3] or "").split("X")
-        values = [Q(part) for part in parts if DECIMAL.fullmatch(part)]
-        count = self.macro_count(name, values) if name in self.macros else int(name != "C" or any(values[:1]))
-        self.apertures[number] = Aperture(count, self.attributes.function)
+    def begin_macro(self, name: str) -> None:
+        self.macros.setdefault(name, [])
 
-    def macro_count(self, name, values):
+    def macro_word(self, text: str) -> None:
+        if self.macro is not None:
+            self.macros[self.macro].append(text)
+
+    def define(self, text: str) -> None:
+        its = definition_of(text)
+        if not its:
+            return
+        values = [Q(part) for part in its.values() if DECIMAL.fullmatch(part)]
+        is_shape = its.template != "C" or any(values[:1])
+        count = self.macro_count(its.template, values) if its.template in self.macros else int(is_shape)
+        self.apertures[its.number] = Aperture(count, self.attributes.function)
+
+    def macro_count(self, name: str, values: List[Q]) -> int:
         """How many primitives of a macro have an image."""
         variables, count = {k: value for k, value in enumerate(values, 1)}, 0
         try:
@@ -158,67 +109,105 @@ class Walk:
                     continue
                 parts = word.split(",")
                 sizes = [Expression(parts[k], variables).value() for k in PRIMITIVES.get(int(Q(parts[0])), ())]
-                line = [Expression(part, variables).value() for part in parts[3:7]] if Q(parts[0]) == 20 else [0, 0, 1, 1]
+                is_line = Q(parts[0]) == 20
+                line = [Expression(part, variables).value() for part in (parts[3:7] if is_line else "0011")]
                 count += all(sizes) and line[:2] != line[2:]
         except (Refused, ValueError, IndexError, ZeroDivisionError):
             return 1    # of a macro that `flatten` refuses: bounds have their own sources
         return count
 
+    def select(self, number: int, text: bytes) -> None:
+        self.aperture = self.apertures.get(number)
+
     # ---- operations
 
-    def operation(self, x, y, code):
-        code = self.last = int(code) if code else self.last
-        self.place = (int(x) * self.scale // self.parts if x else self.place[0], int(y) * self.scale // self.parts if y else self.place[1])
-        if self.in_region:
-            if code == MOVE:
-                self.close()
-            else:
-                self.edges += 1
-        elif code == DRAW and (self.aperture is None or self.aperture.count):
+    def plain_words(self, plain: Plain) -> None:
+        """The usual words, without a call for each that moves."""
+        scale, parts = self.scale, self.parts
+        for self.number, (x, y, code, aperture) in enumerate(plain.words, self.number):
+            if aperture:
+                self.aperture = self.apertures.get(int(aperture))
+                continue
+            before = self.spot
+            self.spot = int(x) * scale // parts if x else before[0], int(y) * scale // parts if y else before[1]
+            self.code = CODES[code]
+            if self.in_region:
+                (self.contour if self.code is MOVE else self.edge)(self.spot)
+            elif self.code is DRAW:
+                self.draw(self.spot)
+            elif self.code is FLASH:
+                self.flash()
+
+    def draw(self, start: Spot) -> None:
+        if self.aperture is None or self.aperture.pieces:
             self.add("draw", 1)
-        elif code == FLASH and self.aperture is not None:
-            self.add("flash", self.aperture.count)
 
-    def run(self, xs, ys, codes):
-        """The words of a region by their numbers."""
-        first, before = self.command, 0
-        for k in [*(k for k, code in enumerate(codes) if code == MOVE), len(codes)]:
-            self.edges += k - before
-            if k < len(codes):
-                self.command, self.place = first + k, (xs[k] * self.scale // self.parts, ys[k] * self.scale // self.parts)
-                self.close()
-            before = k + 1
-        self.command, self.last = first + len(codes) - 1, codes[-1]
-        self.place = xs[-1] * self.scale // self.parts, ys[-1] * self.scale // self.parts
+    def flash(self) -> None:
+        if self.aperture is not None:
+            self.add("flash", self.aperture.pieces)
 
-    def close(self):
+    def edge(self, start: Spot) -> None:
+        self.edges += 1
+
+    def contour(self, start: Spot) -> None:
         if self.edges:
             self.add("contour", 1)
         self.edges = 0
 
-    def add(self, kind, count):
+    def region_begins(self) -> None:
+        super().region_begins()
+        self.next_region()
+
+    def region_ends(self) -> None:
+        super().region_ends()
+        self.next_region()
+
+    def next_region(self) -> None:
+        self.contour(self.spot)
+        self.region += 1
+
+    def run(self, run: Run) -> None:
+        """The words of a region by their numbers."""
+        xs, ys, codes = run.xs, run.ys, run.codes
+        first, before = self.number, 0
+        for k in [*(k for k, code in enumerate(codes) if code == MOVE), len(codes)]:
+            self.edges += k - before
+            if k < len(codes):
+                self.number, self.spot = first + k, (xs[k] * self.scale // self.parts, ys[k] * self.scale // self.parts)
+                self.contour(self.spot)
+            before = k + 1
+        self.number, self.code = first + len(codes) - 1, Code(codes[-1])
+        self.spot = xs[-1] * self.scale // self.parts, ys[-1] * self.scale // self.parts
+
+    def add(self, kind: str, count: int) -> None:
         its = self.attributes
         function = self.aperture.function if self.aperture and kind != "contour" else its.function
-        self.objects.append(Object("clear" if self.clear else kind, self.command, 0, count, self.place, self.region if kind == "contour" else 0,
-                                   function, its.net, its.part, its.pin))
+        region = self.region if kind == "contour" else 0
+        kind = kind if self.is_dark else "clear"
+        named = function, its.net, its.part, its.pin
+        self.objects.append(Object(kind, self.number, 0, count, self.spot, region, *named))
 
     # ---- step and repeat
 
-    def steps(self, word):
+    def steps(self, text: str) -> None:
         """Ends a block, whose objects give way to their copies, and may open one."""
-        if self.block:
-            first, columns, rows, x, y = self.block
-            # Copies of nothing are none, however many: `check` takes them.
-            once = [it for it in self.objects[first:] if it.count]
-            if len(once) * columns * rows > MOST_OBJECTS:
-                raise BadCopper("it has too many copies of blocks")
-            self.objects[first:] = [it._replace(copy=i * rows + j, place=(it.place[0] + i * x, it.place[1] + j * y))
-                                    for i in range(columns) for j in range(rows) for it in once] if once else []
-        match, self.block = re.fullmatch(r"SRX(\d+)Y(\d+)I([^J]+)J(.+)", word), None
-        if match:
-            self.block = (len(self.objects), int(match[1]), int(match[2]), *(round(Q(v) * self.scale) for v in match.groups()[2:]))
+        if self.repeated:
+            self.repeat(self.repeated)
+        its = steps_of(text)
+        steps: Tuple[int, int] = (round(Q(its.across) * self.scale), round(Q(its.up) * self.scale)) if its else (0, 0)
+        self.repeated = Block(len(self.objects), its.columns, its.rows, *steps) if its else None
+
+    def repeat(self, block: Block) -> None:
+        # Copies of nothing are none, however many: `check` takes them.
+        once = [it for it in self.objects[block.first:] if it.pieces]
+        if len(once) * block.columns * block.rows > MOST_OBJECTS:
+            raise BadCopper("it has too many copies of blocks")
+        self.objects[block.first:] = [
+            it._replace(copy=i * block.rows + j, place=(it.place[0] + i * block.x, it.place[1] + j * block.y))
+            for i in range(block.columns) for j in range(block.rows) for it in once
+        ] if once else []
 
 
-def objects_of(data):
+def objects_of(data: bytes) -> List[Object]:
     """The objects of a copper file."""
-    return Walk(data.decode("latin-1")).objects
+    return Walk(data).objects

@@ -9,6 +9,6 @@ CODES = {unit: code for code, unit in CUSTOM.items()}
 UNIT_WORDS = {10_000: "0.001 mm", 25_400: "0.0001 inch"}
 
 
-def decimal_millimetres(u):
+def decimal_millimetres(u: int) -> str:
     """A length as a file has it: seven decimals."""
     return f"{'-' if u < 0 else ''}{abs(u) // 10 ** 7}.{abs(u) % 10 ** 7:07d}"

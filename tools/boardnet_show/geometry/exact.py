@@ -2,6 +2,7 @@
 import re
 from fractions import Fraction as Q
 from math import isqrt
+from typing import Optional
 
 DECIMAL = re.compile(r"[+-]?(\d+\.?\d*|\.\d+)")
 MOST_DIGITS = 60        # of a number in a file
@@ -17,7 +18,7 @@ class Refused(Exception):
 
 # ---- numbers of files
 
-def decimal(text):
+def decimal(text: str) -> Optional[Q]:
     """A decimal as a fraction; None where it is none."""
     if not DECIMAL.fullmatch(text):
         return None
@@ -26,7 +27,7 @@ def decimal(text):
     return Q(text)
 
 
-def limited(q):
+def limited(q: Q) -> Q:
     if q.numerator.bit_length() > MOST_BITS or q.denominator.bit_length() > MOST_BITS:
         raise Refused(f"macro: a number of over {MOST_BITS} bits")
     return q

@@ -1,6 +1,6 @@
 """Shapes in columns: capsules and areas, their places and boxes."""
 from array import array
-from typing import Iterable, Tuple
+from typing import Iterable, List, Tuple
 
 AREA = -1
 
@@ -8,10 +8,10 @@ AREA = -1
 class Shapes:
     """Shapes in order, in u. A capsule has a radius and one or two places, an area the radius -1 and its corners."""
 
-    def __init__(self):
+    def __init__(self) -> None:
         self.radius, self.start = array("q"), array("q", [0])
         self.x, self.y = array("q"), array("q")
-        self.boxes = []
+        self.boxes: List[Tuple[int, int, int, int]] = []
 
     def __len__(self):
         return len(self.radius)
@@ -23,13 +23,13 @@ class Shapes:
             self.y.append(y)
         self.start.append(len(self.x))
 
-    def add_area(self, xs, ys):
+    def add_area(self, xs: List[int], ys: List[int]) -> None:
         self.radius.append(AREA)
         self.x.fromlist(xs)
         self.y.fromlist(ys)
         self.start.append(len(self.x))
 
-    def add_all(self, radii, starts, xs, ys):
+    def add_all(self, radii: List[int], starts: List[int], xs: List[int], ys: List[int]) -> None:
         """Adds shapes that are in columns; each of `starts` is where the next one begins."""
         self.radius.fromlist(radii)
         self.start.fromlist(starts)

@@ -2,7 +2,7 @@
 import re
 from typing import Dict, Iterable, NamedTuple, Pattern
 
-from boardnet_show.formats.gerber_tokens import holding
+from boardnet_show.formats.gerber_lexer import holding
 
 from .package import Package
 

@@ -2,7 +2,7 @@
 import re
 
 from boardnet_show.formats import gerber_attributes
-from boardnet_show.formats.gerber_tokens import holding
+from boardnet_show.formats.gerber_lexer import holding
 
 from .file_names import Refused, shown
 

@@ -6,7 +6,7 @@ import sys
 from boardnet_show.base.statuses import FAULT, Stop
 from boardnet_show.base.wording import printable
 from boardnet_show.formats import ipc356
-from boardnet_show.formats.gerber_tokens import begins
+from boardnet_show.formats.gerber_lexer import begins
 
 BUILDER = os.path.join(os.path.dirname(os.path.dirname(os.path.dirname(os.path.abspath(__file__)))), "launch", "build.py")
 

@@ -4,7 +4,7 @@ from typing import NamedTuple, Optional
 from boardnet_show.base import refusals
 from boardnet_show.base.statuses import REFUSED, UNJUDGED, BadCopper, Stop
 from boardnet_show.formats import ipc356
-from boardnet_show.formats.gerber_tokens import begins
+from boardnet_show.formats.gerber_lexer import begins
 from boardnet_show.formats.report import BadReport, Report
 from boardnet_show.intake import own_declarations
 from boardnet_show.intake.package import Package

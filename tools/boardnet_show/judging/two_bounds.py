@@ -15,7 +15,7 @@ from typing import NamedTuple, Optional
 from boardnet_show.base.refusals import Refusal
 from boardnet_show.base.statuses import UNDECIDED, fault_of
 from boardnet_show.formats import ipc356
-from boardnet_show.formats.gerber_words import line_numbers
+from boardnet_show.formats.gerber_lexer import line_numbers
 from boardnet_show.geometry.exact import Refused
 from boardnet_show.intake.package import beside
 
@@ -97,13 +97,13 @@ def sides_of(package, name, is_coarse=False):
         raise fault_of(package.told_path(name), fault) from fault
 
 
-def told_once(text, lost):
+def told_once(data, lost):
     """What a file leaves out, each kind once: with its first command, that one's line, and how many more there are."""
     kinds = {}
     for what in lost:
         words, _, command = what.rpartition(" at command ")
         kinds.setdefault(words, []).append(int(command))
-    lines = line_numbers(text, [its[0] for its in kinds.values()])
+    lines = line_numbers(data, [its[0] for its in kinds.values()])
     return [f"{words} at command {its[0]}, line {lines[its[0]]}" + (f", and {len(its) - 1} more" if len(its) > 1 else "") for words, its in kinds.items()]
 
 
@@ -119,7 +119,7 @@ def made_once(package, name, is_coarse):
         return made, [read_whole(path) for path in paths]
     copper = sides_of(package, name, is_coarse)
     rows = copper.rows if copper.replaced == len(copper.rows) else None
-    lost = told_once(package.read(name).decode("latin-1"), copper.lost)
+    lost = told_once(package.read(name), copper.lost)
     made = Made(copper.replaced, copper.is_bent, rows, copper.unlike, lost, tuple(side.sources for side in copper.sides))
     if not copper.negative:     # these lie within a board's outline
         package.made[key] = made, []

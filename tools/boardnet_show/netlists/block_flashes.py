@@ -6,36 +6,34 @@ pieces come in the same order; a flash whose pieces are others, as where they ar
 from collections import defaultdict
 
 from boardnet_show.bounds.files.bounded_file import Copper
-from boardnet_show.formats.gerber_objects import Attributes, Object
-from boardnet_show.formats.gerber_words import FLASH
+from boardnet_show.formats.gerber_machine import FLASH
+from boardnet_show.formats.gerber_objects import Object
 
 
 class Blocks(Copper):
     """`found` has for each flash of a block outside of blocks (object, pieces of the lower side), in order."""
 
     def __init__(self, text):
-        self.attributes, self.functions, self.found = Attributes(), {}, defaultdict(list)
+        self.functions, self.found = {}, defaultdict(list)
         self.inner, self.is_contour = None, False
         super().__init__(text)
 
-    def extended(self, word, first):
-        if self.macro is None or first:
-            if word.startswith(("TA", "TO", "TD")):
-                self.attributes.word(word)
-        super().extended(word, first)
+    def attribute(self, text):
+        self.attributes.word(text)
+        super().attribute(text)
 
     def keep(self, number, made, name, word):
         self.functions[number] = self.attributes.function
         super().keep(number, made, name, word)
 
-    def end_region(self):
+    def end_region(self, contours):
         self.is_contour = True
-        super().end_region()
+        super().end_region(contours)
         self.is_contour = False
 
     def object(self):
         """What the command makes that is walked now."""
-        its, kind = self.attributes, "contour" if self.is_contour else "flash" if self.last == FLASH else "draw"
+        its, kind = self.attributes, "contour" if self.is_contour else "flash" if self.code is FLASH else "draw"
         function = its.function if self.is_contour else self.functions.get(self.chosen, "")
         return Object(kind, self.number, 0, 1, self.spot, 0, function, its.net, its.part, its.pin)
 

@@ -7,7 +7,7 @@ from collections import defaultdict
 
 from boardnet_show.base.statuses import BadCopper
 from boardnet_show.formats.gerber_objects import objects_of
-from boardnet_show.formats.gerber_tokens import begins
+from boardnet_show.formats.gerber_lexer import begins
 from boardnet_show.geometry import box_grid
 from boardnet_show.geometry.box_tree import cover
 
@@ -50,7 +50,7 @@ class Place:
 
 def repeated(objects):
     """The object of each piece, in order."""
-    return [it for it in objects for _ in range(it.count)]
+    return [it for it in objects for _ in range(it.pieces)]
 
 
 def of_file(package, name):

@@ -12,8 +12,9 @@ from boardnet_show.base.statuses import UNCLEAR, UNREADABLE, Stop
 from boardnet_show.base.wording import at_most, counted, printable, spoken, with_ends
 from boardnet_show.bounds.files import bounded_file
 from boardnet_show.bounds.polarity import dark_and_clear
-from boardnet_show.formats import gerber_attributes, gerber_words, ipc356
-from boardnet_show.formats.gerber_words import words_of
+from boardnet_show.formats import gerber_attributes, ipc356
+from boardnet_show.formats.gerber_lexer import OPERATION
+from boardnet_show.formats.gerber_machine import CENTRE, CODES, DRAW, FLASH, Machine
 from boardnet_show.geometry.box_tree import Tree
 from boardnet_show.geometry.exact import Refused
 from boardnet_show.judging import net_ties
@@ -22,9 +23,6 @@ from . import pad_places
 from .own_names import MADE
 from .pad_parts import parts
 
-# Mode, X and Y of an operation, and its code.
-OPERATION = re.compile(r"(G0?[123])?(X[+-]?\d+)?(Y[+-]?\d+)?(?:I[+-]?\d+)?(?:J[+-]?\d+)?(?:D0?([123]))?")
-COMMENT = re.compile(r"G04[ \t]*#@![ \t]*(T[OD].*)")
 ESCAPED = re.compile(r"\\u([0-9A-Fa-f]{4})")
 NO_NAMES = "the copper files do not say of which pins or nets their pads are (TO.P, TO.N): export Gerber X2 with net attributes"
 
@@ -74,29 +72,16 @@ def field(text):
     return printable(ESCAPED.sub(lambda found: chr(int(found[1], 16)), told))
 
 
-class Names:
-    """The attributes of objects in force, as words set and end them."""
-
-    def __init__(self):
-        self.set = {}
-
-    def word(self, word):
-        kind, *fields = word[2:].split(",")
-        if word.startswith("TO"):
-            self.set[kind] = [field(each) for each in fields]
-        elif kind:
-            self.set.pop(kind, None)
-        else:
-            self.set.clear()
-
-    def label(self):
-        part, pin, *_ = [*self.set.get(".P", []), "", ""]
-        pin = pin if pin.strip() or not part.strip() else UNKNOWN
-        names = tuple(name for name in dict.fromkeys(self.set.get(".N", [])) if name.strip() not in ("", ipc356.NO_NET))
-        return Label((part or next(iter(self.set.get(".C", [])), "")).strip(), pin.strip(), names)
+def label_in_force(attributes):
+    """The label of the next object."""
+    its = {name: [*map(field, fields)] for name, fields in attributes.of_objects.items()}
+    part, pin, *_ = [*its.get(".P", []), "", ""]
+    pin = pin if pin.strip() or not part.strip() else UNKNOWN
+    names = tuple(name for name in dict.fromkeys(its.get(".N", [])) if name.strip() not in ("", ipc356.NO_NET))
+    return Label((part or next(iter(its.get(".C", [])), "")).strip(), pin.strip(), names)
 
 
-class Pads:
+class Pads(Machine):
     """The words of a copper file with its labelled objects and its blocks alone: walking all copper of a board would take long.
 
     `labels` are those of the commands of the new text that end an object, `tracks` the draws with a net of their own and no pin, `passed`
@@ -105,40 +90,64 @@ class Pads:
     stay.
     """
 
-    def __init__(self, text, wants_pins):
-        self.wants_pins, self.stays = wants_pins, "LPC*" in text
-        self.names, self.words, self.labels, self.region = Names(), [], {}, None
-        self.tracks, self.passed, self.depth, self.last = set(), [], 0, None
-        for extended, word, first in words_of(text):
-            comment = None if extended else COMMENT.fullmatch(word)
-            if comment or extended and word.startswith(("TO", "TD")):
-                self.names.word(comment[1] if comment else word)
-            elif extended:
-                self.words.append((True, word, first))
-                self.depth += (word[:3] == "ABD") - (word == "AB")
-            else:
-                self.plain(word)
+    def __init__(self, data, wants_pins):
+        super().__init__()
+        self.wants_pins, self.stays = wants_pins, b"LPC*" in data
+        self.words, self.labels, self.label, self.first = [], {}, NONE, 0
+        self.tracks, self.passed = set(), []
+        self.read(data)
+
+    def attribute(self, text):
+        super().attribute(text)
+        if text[:2] in ("TO", "TD"):
+            self.label = label_in_force(self.attributes)
+
+    def extended(self, word):
+        super().extended(word)
+        if not word.text.startswith((b"TO", b"TD")):
+            self.words.append((True, word.text, word.first))
 
     def plain(self, word):
-        word = word[3:] if word.startswith("G55") else word     # it says that a flash comes, and a mend leaves it out
-        operation = OPERATION.fullmatch(word) if word and word not in gerber_words.MODES else None
-        code = operation and (operation[4] or self.last)
-        self.last = code or self.last
-        if word == "G36":
-            self.region = len(self.words)
-        if word == "G37" and self.region is not None:
-            self.end_region()
-        elif operation and self.region is None and code not in ("2", "3"):
-            self.draw(word, operation)
-        else:
-            # The code is written, as words before may be gone.
-            self.words.append((False, word + "D03" if code == "3" and not operation[4] else word, True))
-            if code == "3":
-                self.label()
+        text = word.text
+        said = gerber_attributes.as_written(text)
+        if said.startswith((b"TO", b"TD")):
+            self.attribute(said.decode("latin-1"))
+            return
+        # G55 says that a flash comes, and a mend leaves it out.
+        is_told = text.startswith(b"G55")
+        match = OPERATION.fullmatch(text, 3) if is_told and len(text) > 3 else None
+        if match:
+            self.operated(text[3:], match.groups())
+            return
+        self.put(text[3:] if is_told else text)
+        super().plain(word)
 
-    def label(self, is_draw=False):
+    def comment(self, text):
+        """An attribute in a comment is heard above."""
+
+    def put(self, text):
+        self.words.append((False, text, True))
+
+    def operation(self, parts):
+        if CENTRE.fullmatch(parts[3]):
+            self.operated(self.word.text, parts)
+        else:
+            self.put(self.word.text)
+
+    def operated(self, text, parts):
+        code = parts[-1]
+        self.code = CODES[code] if code else self.code
+        if not self.in_region and self.code in (None, DRAW):
+            self.drawn(text, parts)
+            return
+        # The code is written, as words before may be gone.
+        self.put(text + b"D03" if self.code is FLASH and not code else text)
+        if self.code is FLASH:
+            self.note()
+
+    def note(self, is_draw=False):
         """Notes the label of the command that was last; answers whether it may be wanted."""
-        found = self.names.label()
+        found = self.label
         if found.pin or found.names:
             self.labels[len(self.words)] = found
         is_wanted = self.is_wanted(found)
@@ -149,36 +158,47 @@ class Pads:
     def is_wanted(self, label):
         return bool(label.pin or label.names and not self.wants_pins)
 
-    def draw(self, word, operation):
-        mode, x, y, _ = operation.groups()
-        label = self.names.label()
+    def drawn(self, text, parts):
+        """A draw outside of regions."""
+        label = self.label
         if self.is_wanted(label) and not label.pin and not self.depth:
             self.passed.append((label, DRAWN))
         if self.stays or self.depth or label.pin:
-            self.words.append((False, word, True))
-            self.label(is_draw=True)
+            self.put(text)
+            self.note(is_draw=True)
             if not label.pin and label.names:
                 self.tracks.add(len(self.words))
         else:
-            self.words += [(False, each, True) for each in (mode, (x or "") + (y or "") + "D02") if each]
+            self.leave([parts])
 
-    def end_region(self):
-        first, self.region = self.region, None
-        self.words.append((False, "G37", True))
-        if self.label() or self.stays or self.depth:
+    def leave(self, many):
+        """Writes the last mode and the last place of operations that go."""
+        modes, xs, ys = ([it[k] for it in many if it[k]] for k in range(3))
+        for mode in modes[-1:]:
+            self.put(b"G0" + mode)
+        place = b"".join([*(b"X" + x for x in xs[-1:]), *(b"Y" + y for y in ys[-1:])])
+        self.put(place + b"D02")
+
+    def region_begins(self):
+        super().region_begins()
+        self.first = len(self.words) - 1
+
+    def region_ends(self):
+        if not self.in_region:
             return
-        inner, self.words[first:] = [word for _, word, _ in self.words[first:]], []
-        found = [match.groups() for match in map(OPERATION.fullmatch, inner) if match]
-        modes, xs, ys = ([it[k] for it in found if it[k]] for k in range(3))
-        self.words += [(False, each, True) for each in ("".join(modes[-1:]), "".join(xs[-1:] + ys[-1:] + ["D02"])) if each]
+        super().region_ends()
+        if self.note() or self.stays or self.depth:
+            return
+        inner, self.words[self.first:] = [text for _, text, _ in self.words[self.first:]], []
+        self.leave([match.groups() for match in map(OPERATION.fullmatch, inner) if match])
 
     def marked_text(self):
         out = []
         for extended, word, first in self.words:
             if extended and not first:
                 out[-1] = out[-1][:-1]
-            out.append(f"{'%' if extended and first else ''}{word}*{'%' if extended else ''}")
-        return "\n".join(out) + "\n"
+            out.append((b"%" if first else b"") + word + b"*%" if extended else word + b"*")
+        return b"\n".join(out).decode("latin-1") + "\n"
 
 
 def erased(objects):
@@ -199,8 +219,8 @@ class Objects(bounded_file.Copper):
         self.inner, self.regions = None, []
         super().__init__(text, cuts=True)
 
-    def contour(self, contour):
-        made = super().contour(contour)
+    def bounded(self, contour):
+        made = super().bounded(contour)
         self.regions.append(made)
         return made
 
@@ -233,7 +253,7 @@ def label_of(pads, tag):
 def points_of(text, layer, wants_pins):
     """The labelled objects of a copper file."""
     # Breaks within words say nothing of copper: `check` judges them.
-    pads = Pads(text.replace("\r", "").replace("\n", ""), wants_pins)
+    pads = Pads(text.encode("latin-1").translate(None, b"\r\n"), wants_pins)
     copper = Objects(pads.marked_text())
     near = erased(copper.objects)
     yield from (Point(layer, label, None, False, why) for label, why in pads.passed)
@@ -242,7 +262,7 @@ def points_of(text, layer, wants_pins):
         if label:
             # What a negative file makes is where there is no copper.
             why = NEGATIVE if copper.negative else CLEAR if not it.dark else "" if any(it.both) else NO_COPPER
-            is_contour = pads.words[it.tag[-1] - 1][1] == "G37"
+            is_contour = pads.words[it.tag[-1] - 1][1] == b"G37"
             for pieces, is_known in parts(it.both) if not (why or is_contour) else [(it.both[0] or it.both[1], bool(it.both[0]))]:
                 yield Point(layer, label, None if why else pad_of(pieces, near, at), is_known, why)
 

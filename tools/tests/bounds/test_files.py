@@ -12,7 +12,7 @@ from boardnet_show.bounds.files.bounded_file import Copper
 from boardnet_show.bounds.files.operations import Operations
 from boardnet_show.formats import manifest as manifests
 from boardnet_show.formats.gerber_objects import objects_of
-from boardnet_show.formats.gerber_words import words_of
+from boardnet_show.formats.gerber_lexer import tokens
 from boardnet_show.geometry.exact import Refused
 from boardnet_show.intake.package import Package
 from boardnet_show.judging import judged, two_bounds
@@ -122,7 +122,7 @@ class Files(unittest.TestCase):
             "%FSLAX47Y47*%", "%MOMM*%", "%TF.Part,Single*%", "%ADD10C,1.0000000*%", "%ADD11R,0.5000000X0.4000000*%", "X10000000Y0D02*", "D10*",
             "X10000000Y20000000D01*", "%TO.N,A*%", "D11*", "X10000000Y20000000D03*", "G36*", "X0Y0D02*", "X10Y0D01*", "X0Y10D01*", "X0Y0D01*",
             "G37*", "%LMZ*%", "G91*", "M02*"])
-        given = [word for _, word, _ in words_of("\n".join(HEAD + lines))]
+        given = [word.text.decode() for word in tokens("\n".join(HEAD + lines).encode())]
         self.assertEqual([given[source - 1] for source in copper.sides[0].sources[5:11]],
                          ["X1000000Y0D02", "Y2000000D01", "Y2000000D01", "TO.N,A", "D03", "D03"])
 

@@ -13,7 +13,7 @@ def contour(*corners):
 
 
 def told(*contours):
-    return told_of("\n".join([*HEAD, "G36*", *(line for its in contours for line in contour(*its)), "G37*", "M02*", ""]))
+    return told_of("\n".join([*HEAD, "G36*", *(line for its in contours for line in contour(*its)), "G37*", "M02*", ""]).encode())
 
 
 class Contours(unittest.TestCase):
@@ -38,7 +38,7 @@ class Contours(unittest.TestCase):
         for corners in (self.SQUARE, hole, two, [(0, 0), (10, 10), (10, 0), (0, 10)], [(0, 0), (10, 0), (5, 5), (10, 10), (0, 10), (5, 5)], [*self.SQUARE, *self.SQUARE[:1]]):
             with self.subTest(corners=corners):
                 self.assertEqual(told(corners), "")
-        self.assertEqual(told_of("\n".join([*HEAD, "G75*", "G36*", "X0Y0D02*", "G03X4Y0I2J0D01*", "G02X0Y0I-2J0D01*", "G37*", "M02*", ""])), "")
+        self.assertEqual(told_of("\n".join([*HEAD, "G75*", "G36*", "X0Y0D02*", "G03X4Y0I2J0D01*", "G02X0Y0I-2J0D01*", "G37*", "M02*", ""]).encode()), "")
 
 
 class Notes(made.Case):

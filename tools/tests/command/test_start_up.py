@@ -11,7 +11,7 @@ from boardnet_show.base import scratch, wording
 from boardnet_show.command import options
 from boardnet_show.fitting import placement
 from boardnet_show.formats import indented_json
-from boardnet_show.formats.gerber_tokens import in_u
+from boardnet_show.formats.gerber_lexer import in_u
 from boardnet_show.output import junit, markup
 from tests.fixtures import common
 

@@ -179,7 +179,7 @@ class Netlists(made.Case):
         """Each piece has its object: copies of a block, primitives of a macro that have an image, contours of a region."""
         text = gerber(*RING[:2], "20,1,0,0,0,1,1,0*", "1,1,$1,0,0*%", "%ADD20RING,0.5*%", "%ADD21RING,0*%", "%SRX2Y2I1.0J5.0*%", "%TO.N,A*%", *flash(20, (0, 0)), "%SR*%",
                       *flash(21, (0, 0)), "%TD.N*%", "G36*", *draw(10, (0, 0), (1, 0), (0, 1), (0, 0))[1:], *draw(10, (5, 0), (6, 0), (5, 1), (5, 0))[1:], "G37*")
-        found = [(it.kind, it.copy, it.count, it.net, it.region) for it in objects_of(text.encode())]
+        found = [(it.kind, it.copy, it.pieces, it.net, it.region) for it in objects_of(text.encode())]
         self.assertEqual(found, [("flash", k, 2, "A", 0) for k in range(4)] + [("flash", 0, 1, "A", 0)] + [("contour", 0, 1, "", 1)] * 2)
         self.assertEqual([it.place for it in objects_of(text.encode())][:4], [(0, 0), (0, 50_000_000), (10_000_000, 0), (10_000_000, 50_000_000)])
 

@@ -6,7 +6,7 @@ from boardnet_show.bounds.primitives.insets import eighth_chain, eighth_radius
 from boardnet_show.bounds.primitives.real_polygons import convex_bounds
 from boardnet_show.bounds.primitives.rounded_contours import rounded_contour
 from boardnet_show.bounds.primitives.slots import slot_draws
-from boardnet_show.formats.gerber_tokens import MOST_WIDE
+from boardnet_show.formats.gerber_machine import MOST_WIDE
 from boardnet_show.geometry.arcs import Arc, arc_chain, chain_bounds, draw_bounds, leaves
 from boardnet_show.geometry.exact import Refused, exact
 from boardnet_show.geometry.segments import cross

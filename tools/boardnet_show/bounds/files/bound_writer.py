@@ -1,5 +1,5 @@
 """One of the two files that are written in a copper file's place."""
-from boardnet_show.formats.gerber_words import DRAW, FLASH, MOVE
+from boardnet_show.formats.gerber_machine import DRAW, FLASH, MOVE
 from boardnet_show.formats.units import decimal_millimetres
 
 OWN = 900_000_000       # numbers of apertures that are made here

@@ -3,6 +3,7 @@ import re
 
 from boardnet_show.bounds.apertures import apertures
 from boardnet_show.bounds.apertures.changes import Change
+from boardnet_show.formats.gerber_machine import LEAST_APERTURE, definition_of
 from boardnet_show.formats.units import decimal_millimetres
 from boardnet_show.geometry.exact import Refused, decimal
 
@@ -14,25 +15,27 @@ class Definitions:
     what is drawn: within a block others, which nobody reads."""
 
     def __init__(self):
-        self.macro, self.macros, self.apertures, self.chosen = None, {}, {}, None
+        self.macros, self.apertures = {}, {}
         self.change, self.blocks, self.used, self.at = Change(), [], set(), {}
 
-    def begin_macro(self, word):
-        self.macro = self.macros.setdefault(word[2:], [])
-        if self.macro:
+    def begin_macro(self, name):
+        if self.macros.setdefault(name, []):
             raise Refused("a macro defined twice")
+
+    def macro_word(self, text):
+        self.macros[self.macro].append(text)
 
     # ---- apertures
 
     def define(self, word):
-        match = re.fullmatch(r"ADD(\d{1,9})([^,]+)(?:,(.*))?", word)
-        if not match:
+        its = definition_of(word)
+        if not its:
             self.pass_on(f"%{word}*%")
             return
-        number, name, parts = int(match[1]), match[2], match[3].split("X") if match[3] else []
-        if number >= OWN or number < 10 or not self.scale:
+        number, name = its.number, its.template
+        if number >= OWN or number < LEAST_APERTURE or not self.scale:
             raise Refused("an aperture's number" if self.scale else "no unit")
-        values = [decimal(part) for part in parts]
+        values = [decimal(part) for part in its.values()]
         if None in values:
             raise Refused("an aperture's parameter")
         self.renew(number)
@@ -61,10 +64,10 @@ class Definitions:
             for side, even in zip(self.files, sizes):
                 side.word(f"%ADD{number}{name},{'X'.join(decimal_millimetres(v) for v in even)}*%" if made else f"%{word}*%", self.number)
 
-    def select(self, number, word):
+    def select(self, number, text):
         self.chosen = number
         if self.apertures.get(number) is None:
-            self.pass_on(f"{word}*")
+            self.pass_on(f"{text.decode()}*")
 
     def aperture(self):
         """The chosen one; None where it is left to `check`."""
@@ -93,14 +96,14 @@ class Definitions:
 
     # ---- blocks
 
-    def block_word(self, word):
+    def block(self, word):
         match = re.fullmatch(r"ABD(\d{1,9})", word)
-        if match and 10 <= int(match[1]) < OWN:
+        if match and LEAST_APERTURE <= int(match[1]) < OWN:
             self.blocks.append((int(match[1]), self.objects, self.sides, self.lost, self.copies))
             self.objects, self.sides, self.lost, self.copies = [], (Side(), Side()), [], None
         elif word == "AB" and self.blocks:
             made = apertures.Block(self.objects, self.lost)
-            self.steps("SR")
+            self.repeat("SR")
             number, self.objects, self.sides, self.lost, self.copies = self.blocks.pop()
             self.renew(number)
             self.apertures[number], self.replaced = made, self.replaced + 1

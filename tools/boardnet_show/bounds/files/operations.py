@@ -3,7 +3,7 @@ from functools import lru_cache
 
 from boardnet_show.bounds.apertures import apertures
 from boardnet_show.bounds.polarity.dark_and_clear import moved
-from boardnet_show.formats.gerber_words import ANTICLOCKWISE, DRAW, FLASH, MOVE, STRAIGHT
+from boardnet_show.formats.gerber_machine import ANTICLOCKWISE, DRAW, FLASH, MOVE
 from boardnet_show.geometry.arcs import chain_bounds, draw_bounds
 from boardnet_show.geometry.capsule_polygons import ring
 from boardnet_show.geometry.exact import Refused
@@ -22,7 +22,7 @@ class Operations:
     of both sides are."""
 
     def __init__(self):
-        self.spot, self.mode, self.quadrants, self.last, self.rows, self.frames = (0, 0), STRAIGHT, None, None, {}, 0
+        self.rows, self.frames = {}, 0
 
     def stands(self, pieces):
         """Notes these pieces, each as those that stand for it on both sides, of a command that is written otherwise."""
@@ -30,29 +30,17 @@ class Operations:
         if pieces is not None:
             self.rows[self.number] = pieces
 
-    def operation(self, mode, x, y, i, j, operation):
-        if mode:
-            self.mode = int(mode)
-        start, code = self.spot, int(operation) if operation else self.last
-        if code is None or not operation and code == MOVE:
+    def implied(self):
+        if self.code is None or self.code is MOVE:
             raise Refused("coordinates without an operation")
-        self.replaced += code == FLASH and not operation
-        self.spot = (self.length(x) if x else start[0], self.length(y) if y else start[1])
-        self.last = code
-        is_arc = code == DRAW and self.mode != STRAIGHT
-        if bool(i or j) != is_arc:
-            raise Refused("an arc without I and J" if is_arc else "I or J without an arc")
-        if is_arc:
-            self.arc(start, self.centre(start, (self.length(i or "0"), self.length(j or "0"))))
-        elif self.contours is not None:
-            self.in_region(code, start)
-        elif code == DRAW:
-            self.draw(start)
-        elif code == FLASH:
-            self.flash()
-        else:
-            for side in self.sides:
-                side.operate(self.spot, MOVE, self.number)
+        self.replaced += self.code is FLASH
+
+    def mismatched(self, is_arc):
+        raise Refused("an arc without I and J" if is_arc else "I or J without an arc")
+
+    def move(self):
+        for side in self.sides:
+            side.operate(self.spot, MOVE, self.number)
 
     # ---- arcs
 
@@ -60,7 +48,7 @@ class Operations:
         """The centre of an arc; None where a single quadrant has both ends at one place, so no arc. Where rounding makes a quarter
         circle more than a right angle, as much as a unit of the file at both ends is allowed. Of several centres the ends of the one
         that is meant are the least unlike; of those as unlike it is the one at most a right angle."""
-        if self.quadrants is None:
+        if not self.quadrants:
             raise Refused("an arc before G74 or G75")
         if self.quadrants == "G75":
             return start[0] + offset[0], start[1] + offset[1]
@@ -79,10 +67,10 @@ class Operations:
         return found[0][2]
 
     def arc(self, start, centre):
+        self.arc_about(start, self.centre(start, self.offset(centre)))
+
+    def arc_about(self, start, centre):
         anticlockwise = self.mode == ANTICLOCKWISE
-        if self.contours is not None:
-            self.arc_in_region(centre, start, anticlockwise)
-            return
         radius = self.pen_radius()
         if self.passes():
             return
@@ -174,6 +162,6 @@ class Operations:
             if lost:
                 self.lost.append(f"{lost} a changed object of the block at command {self.number}")
             both = tuple([moved(piece, *self.spot) for piece in pieces] for pieces in it.both)
-            self.stays_as(it.dark != self.clear, both, None, it.joins)
-            if it.dark != self.clear and self.number not in self.taken:
+            self.stays_as(it.dark == self.is_dark, both, None, it.joins)
+            if it.dark == self.is_dark and self.number not in self.taken:
                 self.write_both(both, (0, 0))

@@ -10,7 +10,7 @@ from boardnet_show.bounds.polarity.dark_and_clear import Object, box
 from boardnet_show.bounds.polarity.negative import around
 from boardnet_show.bounds.primitives.rounded_contours import Walked, rounded_contour
 from boardnet_show.formats import gerber_attributes
-from boardnet_show.formats.gerber_words import ANTICLOCKWISE
+from boardnet_show.formats.gerber_machine import ANTICLOCKWISE
 from boardnet_show.geometry.exact import Refused
 from boardnet_show.geometry.segments import Segments, edges, odd_inside, segments_within
 from boardnet_show.intake.file_names import MOST_BYTES
@@ -76,24 +76,21 @@ class Profile(Copper):
     def draw(self, start):
         self.lines.append((start, self.spot, None, True))
 
-    def arc(self, start, centre):
-        if self.contours is not None:
-            super().arc(start, centre)
-        elif centre is not None:
+    def arc_about(self, start, centre):
+        if centre is not None:
             self.lines.append((start, self.spot, centre, self.mode == ANTICLOCKWISE))
 
     def flash(self):
         raise Refused("a flash")
 
-    def steps(self, word):
-        if word != "SR":
+    def repeat(self, text):
+        if text != "SR":
             raise Refused("step and repeat")
 
-    def block_word(self, word):
+    def block(self, word):
         raise Refused("a block")
 
-    def end_region(self):
-        contours, self.contours = self.contours, None
+    def end_region(self, contours):
         for spot, *parts in contours:
             for part in parts:
                 centre, end, anticlockwise = part if len(part) == 3 else (None, part, True)

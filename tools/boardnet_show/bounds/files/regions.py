@@ -2,8 +2,7 @@
 from typing import NamedTuple
 
 from boardnet_show.bounds.primitives.rounded_contours import rounded_contour
-from boardnet_show.formats.gerber_tokens import MOST_EDGES
-from boardnet_show.formats.gerber_words import FLASH, MOVE
+from boardnet_show.formats.gerber_machine import ANTICLOCKWISE, MOST_EDGES
 from boardnet_show.geometry.exact import Refused
 
 from .bound_writer import edges_of
@@ -15,26 +14,39 @@ class Regions:
     def __init__(self):
         self.contours, self.long = None, set()
 
-    def in_region(self, code, start):
-        if code == FLASH:
-            raise Refused("a flash in a region")
-        if code == MOVE:
-            self.contours.append([self.spot])
-        else:
-            if not self.contours:
-                self.contours.append([start])
-            self.contours[-1].append(self.spot)
+    def region_begins(self):
+        if self.contours is not None:
+            self.other(self.word.text)
+        self.in_region, self.contours = True, []
 
-    def arc_in_region(self, centre, start, anticlockwise):
+    def flash_in_region(self, start):
+        raise Refused("a flash in a region")
+
+    def contour(self, start):
+        self.contours.append([self.spot])
+
+    def edge(self, start):
         if not self.contours:
             self.contours.append([start])
-        self.contours[-1].append((centre, self.spot, anticlockwise))
+        self.contours[-1].append(self.spot)
 
-    def end_region(self):
-        contours, self.contours = self.contours, None
+    def arc_edge(self, start, centre):
+        centre = self.centre(start, self.offset(centre))
+        if not self.contours:
+            self.contours.append([start])
+        self.contours[-1].append((centre, self.spot, self.mode == ANTICLOCKWISE))
+
+    def region_ends(self):
+        if self.contours is None:
+            self.other(self.word.text)
+            return
+        contours, self.contours, self.in_region = self.contours, None, False
+        self.end_region(contours)
+
+    def end_region(self, contours):
         if self.passes():
             return
-        made = [self.contour(contour) for contour in contours if len(contour) > 1]
+        made = [self.bounded(contour) for contour in contours if len(contour) > 1]
         is_bent = any(it.is_bent for it in made)
         if is_bent:
             rows = [it.row for it in made]
@@ -66,7 +78,7 @@ class Regions:
             side.at = None
         self.sides[1].pieces(grown, (0, 0), self.number)
 
-    def contour(self, contour):
+    def bounded(self, contour):
         """What stands for a contour on both sides."""
         if all(len(part) == 2 for part in contour):
             return Contour(([contour], [contour]), [], False, (1, 1))

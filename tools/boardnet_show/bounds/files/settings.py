@@ -2,10 +2,9 @@
 import re
 from fractions import Fraction as Q
 
-from boardnet_show.formats.units import SCALES, decimal_millimetres
+from boardnet_show.formats.gerber_machine import steps_of
+from boardnet_show.formats.units import decimal_millimetres
 from boardnet_show.geometry.exact import Refused, decimal
-
-STEPS = re.compile(r"SRX(\d{1,9})Y(\d{1,9})I([^J]+)J(.+)")
 
 
 class Settings:
@@ -24,7 +23,7 @@ class Settings:
             raise Refused("a word in a block that is not known")
         self.both(text)
 
-    def set_format(self, word):
+    def format_word(self, word):
         match = re.fullmatch(r"FSLAX([1-6])([2-7])Y\1\2", word)
         if not match or self.format not in (None, word):
             raise Refused("a format that is not absolute with leading zeros left out")
@@ -32,11 +31,11 @@ class Settings:
         self.both("%FSLAX47Y47*%")
         self.set_unit()
 
-    def set_scale(self, word, written):
-        if self.scale not in (None, SCALES[word]):
+    def unit_word(self, scale, text):
+        if self.scale not in (None, scale):
             raise Refused("two units")
-        self.scale = SCALES[word]
-        self.both(written)
+        self.scale = scale
+        self.both("G71*" if text.startswith("G") else "%MOMM*%")
         self.set_unit()
 
     def set_unit(self):
@@ -65,11 +64,11 @@ class Settings:
 
     def step(self, word):
         """(columns, rows, across, up) of a block; None where the word has none, or another form."""
-        match = STEPS.fullmatch(word)
-        steps = [decimal(part) for part in match.groups()[2:]] if match and self.scale else [None]
+        its = steps_of(word) if self.scale else None
+        steps = [decimal(part) for part in (its.across, its.up)] if its else [None]
         if None in steps:
             return None
-        return (int(match[1]), int(match[2]), *map(self.whole, steps))
+        return (its.columns, its.rows, *map(self.whole, steps))
 
     def step_word(self, word):
         found = self.step(word)

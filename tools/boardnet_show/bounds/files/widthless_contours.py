@@ -3,63 +3,58 @@ own rule; here is only told where it is, with straight contours of some thousand
 from collections import Counter
 
 from boardnet_show.base.wording import millimetres
-from boardnet_show.formats.gerber_words import MODES, MOVE, OPERATION, STRAIGHT, line_numbers, words_of
-from boardnet_show.formats.units import SCALES
+from boardnet_show.formats.gerber_lexer import line_numbers
+from boardnet_show.formats.gerber_machine import MOVE, STRAIGHT, Machine
 from boardnet_show.geometry.exact import Refused
 from boardnet_show.geometry.segments import Bands, dot, edges, place_beside, point_within
 
-MOST_EDGES = 10_000     # of a contour that is looked at
+MOST_CORNERS = 10_000   # of a contour that is looked at
 FEW_EDGES = 200         # of one whose edges are parted where corners lie on them
 
 
-class Contours:
-    """Goes through the words of a copper file; `found` are the straight contours of its regions, with the numbers of the words that close them."""
+class Contours(Machine):
+    """Goes through the words of a copper file; `found` are the straight contours of its regions, with the numbers of the words that close them.
+    What is drawn along arcs has a None among its corners."""
 
-    def __init__(self, text):
-        self.found, self.corners, self.spot, self.mode = [], None, (0, 0), STRAIGHT
+    RUNS = True
+
+    def __init__(self, data):
+        super().__init__()
+        self.found, self.corners = [], []
         self.scale = self.decimals = None
-        number = 0
-        for extended, word, _ in words_of(text, True):
-            number += 1
-            if isinstance(word, list):
-                for number, (x, y, code) in enumerate(zip(*word), number):
-                    self.go(x, y, code, number)
-            elif extended or word in SCALES:
-                self.setting(word)
-            else:
-                self.plain(word, number)
+        self.read(data)
 
-    def setting(self, word):
-        if word.startswith("FS") and word[-1:].isdigit():
-            self.decimals = 10 ** int(word[-1])
-        self.scale = SCALES.get(word, self.scale)
+    def format_word(self, text):
+        if text[-1:].isdigit():
+            self.decimals = 10 ** int(text[-1])
 
-    def plain(self, word, number):
-        if word in ("G36", "G37"):
-            self.close(number)
-            self.corners = [] if word == "G36" else None
-        elif word in MODES:
-            self.mode = int(word[-1])
-        else:
-            match = OPERATION.fullmatch(word)
-            if match and any(match.groups()[1:]):
-                mode, x, y, _, _, code = match.groups()
-                self.mode = int(mode) if mode else self.mode
-                self.go(int(x) if x else self.spot[0], int(y) if y else self.spot[1], int(code or 1), number)
+    def unit_word(self, scale, text):
+        self.scale = scale
 
-    def go(self, x, y, code, number):
-        """An operation; what is drawn along arcs has a None among its corners."""
-        if self.corners is not None and code == MOVE:
-            self.close(number)
-            self.corners = []
-        elif self.corners is not None:
-            self.corners += [] if self.corners else [self.spot]
-            self.corners += [(x, y)] if self.mode == STRAIGHT else [(x, y), None]
-        self.spot = x, y
+    def region_begins(self):
+        super().region_begins()
+        self.close()
 
-    def close(self, number):
-        if self.corners and None not in self.corners and len(self.corners) <= MOST_EDGES:
-            self.found.append((number, self.corners))
+    def region_ends(self):
+        super().region_ends()
+        self.close()
+
+    def run(self, run):
+        for self.number, (x, y, code) in enumerate(zip(run.xs, run.ys, run.codes), self.number):
+            start, self.spot = self.spot, (x, y)
+            (self.contour if code == MOVE else self.edge)(start)
+
+    def contour(self, start):
+        self.close()
+
+    def edge(self, start):
+        self.corners += [] if self.corners else [start]
+        self.corners += [self.spot] if self.mode is STRAIGHT else [self.spot, None]
+
+    def close(self):
+        if self.corners and None not in self.corners and len(self.corners) <= MOST_CORNERS:
+            self.found.append((self.number, self.corners))
+        self.corners = []
 
     def spot_in_u(self, spot):
         """In u."""
@@ -85,9 +80,9 @@ def hair(corners):
     return None
 
 
-def told_of(text):
-    """What is told of a copper file's text, or nothing."""
-    walk = Contours(text)
+def told_of(data):
+    """What is told of a copper file's bytes, or nothing."""
+    walk = Contours(data)
     if not walk.scale or not walk.decimals:
         return ""
     found = [(number, spot) for number, spot in ((number, hair(corners)) for number, corners in walk.found if len(corners) > 2) if spot]
@@ -95,7 +90,7 @@ def told_of(text):
         return ""
     number, spot = found[0]
     more = f", and of {len(found) - 1} more contours" if len(found) > 1 else ""
-    return (f"copper without width at {', '.join(map(millimetres, walk.spot_in_u(spot)))} mm, command {number}, line {line_numbers(text, [number])[number]}{more}: "
+    return (f"copper without width at {', '.join(map(millimetres, walk.spot_in_u(spot)))} mm, command {number}, line {line_numbers(data, [number])[number]}{more}: "
             "the contour runs along itself with no copper on its sides, and joins what it touches there")
 
 
@@ -104,7 +99,7 @@ def notes(package):
     for name in dict.fromkeys(package.manifest.copper):
         try:
             data = package.read(name)
-            told = told_of(data.decode("latin-1")) if b"G36" in data else ""
+            told = told_of(data) if b"G36" in data else ""
         except (OSError, Refused, ValueError):
             continue
         if told:

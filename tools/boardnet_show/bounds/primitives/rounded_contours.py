@@ -8,7 +8,7 @@ from functools import lru_cache
 from typing import NamedTuple
 
 from boardnet_show.bounds.polarity.sweep import Sweep
-from boardnet_show.formats.gerber_tokens import MOST_WIDE
+from boardnet_show.formats.gerber_machine import MOST_WIDE
 from boardnet_show.geometry.arcs import Arc, arc_chain, distances, goes_once, is_loop, leaves, need_meant
 from boardnet_show.geometry.capsule_polygons import polygon
 from boardnet_show.geometry.exact import Refused

@@ -15,7 +15,7 @@ from itertools import count, product
 from math import gcd
 from typing import Iterator, List, Optional, Sequence, Tuple
 
-from boardnet_show.formats.gerber_tokens import MOST_EDGES
+from boardnet_show.formats.gerber_machine import MOST_EDGES
 from boardnet_show.geometry.contour_sweep import ContourSweep, Corner, Crossed
 
 TRIED = 60          # chords of a contour that are tried

@@ -1,5 +1,8 @@
 """The mends of a copper file. Words that go leave others without an effect behind, so that commands keep their numbers."""
-from boardnet_show.formats.gerber_tokens import MOST_EDGES, Broken
+from typing import List, Set, Tuple
+
+from boardnet_show.formats.gerber_lexer import Broken
+from boardnet_show.formats.gerber_machine import MOST_EDGES
 
 from . import definitions, identities
 from .edits import Edits

@@ -1,16 +1,16 @@
 """Apertures and macros of a copper file: which are used, and those outside the profile that are not; words of macros broken over lines."""
 import re
 from collections import defaultdict
+from typing import List, Optional, Set, Tuple
 
-from boardnet_show.formats.gerber_tokens import (
-    AXES, COMMENT, DECIMAL, MOST_WIDE, NOTHING, SELECTION, SIZES, in_u, pairs, words
-)
+from boardnet_show.formats.gerber_lexer import DECIMAL, Parts, Plain, Run, Word, choosing, in_u, pairs
+from boardnet_show.formats.gerber_machine import LEAST_APERTURE, MOST_WIDE, Definition, definition_of
+from boardnet_show.formats.units import SCALES
 
+from .edits import COMMENT, NOTHING, SIZES, Edits, Reading
 from .table import LINES, UNUSED
 
-DEFINED = re.compile(rb"ADD([0-9]{1,9})([^,]+)(?:,(.*))?", re.S)
 MOVES = (b"D02", b"D2")
-SCALES = {b"MOMM": 10 ** 7, b"MOIN": 254 * 10 ** 6}
 MOST = 10 ** 10             # 1 m in u
 BLANKS = b" \t\r\n"
 BLANK = re.compile(rb"[ \t\r\n]")
@@ -19,80 +19,84 @@ BLANK = re.compile(rb"[ \t\r\n]")
 class Macro:
     """A macro's name and its words with their places; the first word is that of its name."""
 
-    def __init__(self, name):
-        self.name, self.words = name, []
+    def __init__(self, name: bytes) -> None:
+        self.name = name
+        self.words: List[Tuple[int, int, bytes]] = []
 
 
 class Aperture:
     """A definition's place, its number, its template and its parameters."""
 
-    def __init__(self, start, end, match):
-        self.start, self.end, self.number, self.name, self.parts = start, end, int(match[1]), match[2], match[3]
+    def __init__(self, word: Word, its: Definition) -> None:
+        self.start, self.end, self.number, self.name = word.start, word.end, its.number, its.template.encode("latin-1")
+        self.parts = None if its.parameters is None else its.parameters.encode("latin-1")
         self.values = self.parts.split(b"X") if self.parts is not None else []
 
-    def is_whole(self):
+    def is_whole(self) -> bool:
         """Whether it is a definition at all, and not a damaged word."""
-        return self.number >= 10 and all(re.fullmatch(DECIMAL, value) for value in self.values) and len(self.values) >= SIZES.get(self.name, 0)
+        return self.number >= LEAST_APERTURE and all(re.fullmatch(DECIMAL, value) for value in self.values) and len(self.values) >= SIZES.get(self.name, 0)
 
-    def is_taken(self, scale):
+    def is_taken(self, scale: int) -> bool:
         """Whether `check` takes the definition."""
         if len(self.values) != SIZES.get(self.name):
             return False
-        sizes = [in_u(value, scale) for value in self.values]
-        return (all(size is not None and size % 2 == 0 and 0 <= size <= MOST for size in sizes) and min(sizes) <= MOST_WIDE
-                and (self.name == b"C" or min(sizes) > 0))
+        told = [in_u(value, scale) for value in self.values]
+        sizes = [size for size in told if size is not None and size % 2 == 0 and 0 <= size <= MOST]
+        return len(sizes) == len(told) and min(sizes) <= MOST_WIDE and (self.name == b"C" or min(sizes) > 0)
 
 
 class Definitions:
     """What a file defines, and what it uses."""
 
-    def __init__(self, edits):
-        self.edits, self.macros, self.apertures, self.scale, self.is_plain = edits, [], [], None, True
-        macro, is_macro = None, False
-        for start, end, word, first in pairs(edits.data):
-            if first:
-                is_macro = False
+    def __init__(self, edits: Edits) -> None:
+        self.edits, self.scale, self.is_plain = edits, 0, True
+        self.macros: List[Macro] = []
+        self.apertures: List[Aperture] = []
+        is_macro = False
+        for word in pairs(edits.data):
+            is_macro = is_macro and not word.first
+            if not is_macro and word.text.startswith(b"AM"):
+                is_macro = True
+                self.macros.append(Macro(word.text[2:]))
             if is_macro:
-                macro.words.append((start, end, word))
-            elif word.startswith(b"AM"):
-                is_macro, macro = True, Macro(word[2:])
-                macro.words.append((start, end, word))
-                self.macros.append(macro)
+                self.macros[-1].words.append((word.start, word.end, word.text))
             else:
-                self.extended(start, end, word)
+                self.extended(word)
 
-    def extended(self, start, end, word):
-        match = DEFINED.fullmatch(word)
-        if match:
-            self.apertures.append(Aperture(start, end, match))
-        elif word in SCALES:
-            self.scale = self.scale or SCALES[word]
-        elif word.startswith(b"AB"):
+    def extended(self, word: Word) -> None:
+        text = word.text.decode("latin-1")
+        its = definition_of(text)
+        if its:
+            self.apertures.append(Aperture(word, its))
+        elif text in SCALES:
+            self.scale = self.scale or SCALES[text]
+        elif text.startswith("AB"):
             self.is_plain = False
 
-    def outside(self):
+    def outside(self) -> List[Aperture]:
         """The apertures that `check` does not take, where each number is defined once and no block holds copper."""
         numbers = [it.number for it in self.apertures]
         if not self.is_plain or not self.scale or len(set(numbers)) < len(numbers):
             return []
         return [it for it in self.apertures if it.is_whole() and not it.is_taken(self.scale)]
 
-    def unused(self):
+    def unused(self) -> List[Aperture]:
         """The apertures outside the profile that no draw and no flash has; they and their selections are left out."""
         outside = self.outside()
         if not outside:
             return []
-        use = Use(self.edits.data)
-        gone = [it for it in outside if it.number not in use.numbers]
+        numbers = Use(self.edits.data).numbers
+        gone = [it for it in outside if it.number not in numbers]
         for it in gone:
             self.edits.put(it.start, it.end, NOTHING, UNUSED)
-            for start, end in use.selections.get(it.number, ()):
-                self.edits.edits[start] = end, COMMENT
+        for word in choosing(self.edits.data, {it.number for it in gone}) if gone else ():
+            self.edits.edits[word.start] = word.end, COMMENT
         return gone
 
-    def rewrite(self):
+    def rewrite(self) -> List[Tuple[Macro, List[Aperture]]]:
         """Unused definitions go, and words of macros that are left are joined. The macros that are left, each with its apertures."""
-        gone, left, by_name = set(self.unused()), [], defaultdict(list)
+        gone, by_name = set(self.unused()), defaultdict(list)
+        left: List[Tuple[Macro, List[Aperture]]] = []
         for it in self.apertures:
             if it not in gone:
                 by_name[it.name].append(it)
@@ -105,12 +109,12 @@ class Definitions:
                 self.leave_out(macro)
         return left
 
-    def leave_out(self, macro):
+    def leave_out(self, macro: Macro) -> None:
         for start, end, _ in macro.words:
             self.edits.edits[start] = end, NOTHING
         self.edits.note(*macro.words[0][:2], UNUSED)
 
-    def join(self, macro):
+    def join(self, macro: Macro) -> None:
         """Words over several lines in one; a break elsewhere than beside a comma or at the end, as in a number, stays."""
         for at, (start, end, word) in enumerate(macro.words[1:], 1):
             if BLANK.search(word) and not word.startswith(b"0"):
@@ -120,27 +124,35 @@ class Definitions:
                     macro.words[at] = start, end, joined
 
 
-class Use:
-    """The numbers of apertures that a draw outside regions or a flash has, and the places of each number's selections."""
+class Use(Reading):
+    """The numbers of apertures that a draw outside regions or a flash has, also where a word is not known to be none."""
 
-    def __init__(self, data):
-        self.numbers, self.selections, self.chosen, self.in_region = set(), {}, None, False
-        for start, end, word, inside, _ in words(data):
-            if inside:
-                continue
-            first = word[:1]
-            if first in AXES:
-                if not self.in_region and not word.endswith(MOVES):
-                    self.numbers.add(self.chosen)
-            elif first in (b"D", b"G"):
-                self.word(start, end, word)
+    RUNS = PLAIN = True
 
-    def word(self, start, end, word):
-        selection = SELECTION.fullmatch(word)
-        if selection and int(selection[1]) >= 10:
-            self.chosen = int(selection[1])
-            self.selections.setdefault(self.chosen, []).append((start, end))
-        elif word in (b"G36", b"G37"):
-            self.in_region = word == b"G36"
-        elif not self.in_region and not word.startswith(b"G04") and re.search(rb"[XYD]", word) and not word.endswith(MOVES):
+    def __init__(self, data: bytes) -> None:
+        super().__init__()
+        self.numbers: Set[Optional[int]] = set()
+        self.read(data)
+
+    def extended(self, word: Word) -> None:
+        """No draw and no flash."""
+
+    def run(self, run: Run) -> None:
+        """Edges of a region."""
+
+    def plain_words(self, plain: Plain) -> None:
+        for _, _, code, aperture in plain.words:
+            if aperture:
+                self.chosen = int(aperture)
+            elif code != b"2" and not self.in_region:
+                self.numbers.add(self.chosen)
+
+    def operation(self, parts: Parts) -> None:
+        if parts[-1] != b"2" and not self.in_region:
             self.numbers.add(self.chosen)
+
+    def other(self, text: bytes) -> None:
+        is_like = text[:1] in (b"X", b"Y", b"I", b"J") or text[:1] in (b"D", b"G") and re.search(rb"[XYD]", text)
+        if is_like and not self.in_region and not text.endswith(MOVES):
+            self.numbers.add(self.chosen)
+

@@ -1,9 +1,14 @@
 """Words of a copper file that change nothing, written as `check` takes them."""
 import re
 
-from boardnet_show.formats.gerber_tokens import AXES, COMMENT, DECIMAL, OPERATION, SIZES, has, in_u, pairs, words
+from typing import Optional
 
-from .table import END, FORMAT, IDENTITY, STATE, STRAIGHT
+from boardnet_show.formats.gerber_lexer import DECIMAL, OPERATION, Parts, Token, Word, has, in_u, pairs
+from boardnet_show.formats.gerber_machine import MODES, STRAIGHT
+
+from .edits import COMMENT, SIZES, Edits, Reading
+from .table import END, FORMAT, IDENTITY, STATE
+from .table import STRAIGHT as STRAIGHT_LINE
 
 TAKEN = (b"OFA0B0", b"MIA0B0", b"SFA1B1", b"SFA1.0B1.0", b"IR0")
 # Most files have none of these words: the expressions are compiled where one has.
@@ -13,15 +18,16 @@ ONCE = rb"SRX0*1Y0*1(?:I[+-]?0*\.?0*)?(?:J[+-]?0*\.?0*)?"
 ONCE_TAKEN = rb"SRX0{0,8}1Y0{0,8}1I" + DECIMAL + rb"J" + DECIMAL
 LENGTHS = rb"FSLA(?:N[0-9])?(?:G[0-9])?(X[0-9]{2}Y[0-9]{2})(?:N[0-9])?(?:G[0-9])?(?:D[0-9])?(?:M[0-9])?"
 PLAIN_FORMAT = len(b"FSLAX46Y46")
-NO_DRAWS = (b"D02", b"D03", b"D2", b"D3")
+NO_DRAWS = (b"2", b"3")
+STOPS = (b"M00", b"M0")
 # What a look at the words' states is for, beside centres of 0.
 SIGNS = (b"G02*", b"G2*", b"G03*", b"G3*", b"G55", b"M00*", b"M0*", b"M01*", b"M1*")
 LENGTH = re.compile(rb"[0-9+-]*")
 
 
-def extended(edits):
+def extended(edits: Edits) -> None:
     """Identities in pairs of percent signs."""
-    for start, end, word, _ in pairs(edits.data):
+    for start, end, word, *_ in pairs(edits.data):
         lead = word[:2]
         if lead in AS_TAKEN and word not in TAKEN:
             match = re.fullmatch(BY_VALUE, word)
@@ -40,7 +46,7 @@ def extended(edits):
                 edits.put(start, end, whole, IDENTITY)
 
 
-def without_holes(word):
+def without_holes(word: bytes) -> bytes:
     """An aperture's word without a hole of size 0."""
     head, comma, sizes = word.partition(b",")
     parts = sizes.split(b"X")
@@ -52,67 +58,59 @@ def without_holes(word):
     return word
 
 
-class States:
+class States(Reading):
     """Plain words whose state says nothing: a centre of 0 where lines are straight, a mode that no draw has."""
 
-    def __init__(self, edits):
-        self.edits, self.mode, self.waiting, self.last = edits, b"1", None, None
-        for start, end, word, inside, _ in words(edits.data):
-            if not inside:
-                self.word(start, end, word)
-                self.last = start, end, word
+    def __init__(self, edits: Edits) -> None:
+        super().__init__()
+        self.edits = edits
+        self.waiting: Optional[Token] = None
+        self.last: Optional[Token] = None
+        self.read(edits.data)
         self.let_go()
-        if self.last and self.last[2] in (b"M00", b"M0"):
-            edits.put(*self.last[:2], b"M02", END)
+        if isinstance(self.last, Word) and self.last.text in STOPS:
+            edits.put(self.last.start, self.last.end, b"M02", END)
 
-    def word(self, start, end, word):
-        first = word[:1]
-        if first in AXES:
-            if b"I" in word or b"J" in word:
-                self.operation(start, end, word)
-            elif not word.endswith(NO_DRAWS):
-                self.waiting = None
-        elif first == b"G":
-            self.general(start, end, word)
-        elif word in (b"M01", b"M1"):
-            self.edits.put(start, end, COMMENT, STATE)
-        elif word in (b"D01", b"D1"):
-            self.waiting = None
+    def extended(self, word: Word) -> None:
+        """No state."""
 
-    def general(self, start, end, word):
-        if word in (b"G01", b"G1"):
-            self.let_go()
-            self.mode = b"1"
-        elif word in (b"G02", b"G2", b"G03", b"G3"):
-            self.let_go()
-            self.mode, self.waiting = word[-1:], (start, end)
-        elif word.startswith(b"G55"):
-            if OPERATION.fullmatch(word[3:]) and word[-1:] == b"3":
-                self.edits.put(start, end, word[3:], STATE)
-        elif OPERATION.fullmatch(word):
-            self.operation(start, end, word)
+    def plain(self, word: Word) -> None:
+        self.last = word
+        super().plain(word)
 
-    def operation(self, start, end, word):
-        match = OPERATION.fullmatch(word)
-        if not match:
-            return
-        mode, x, y, centre, code = match.groups()
+    def mode_word(self) -> None:
+        self.let_go()
+        self.waiting = None if self.mode is STRAIGHT else self.word
+
+    def operation(self, parts: Parts) -> None:
+        self.last = self.word
+        mode, x, y, centre, code = parts
         if mode:
             self.let_go()
-            self.mode = mode
-        if code not in (b"2", b"3"):
+            self.mode = MODES[mode]
+        if code not in NO_DRAWS:
             self.waiting = None
-        if centre and self.mode == b"1" and not any(int(value) for value in re.findall(rb"[0-9]+", centre)) and (x or y or code):
-            self.edits.put(start, end, word.replace(centre, b"", 1), STRAIGHT)
+        is_centred = centre and self.mode is STRAIGHT and not centre.strip(b"IJ+-0")
+        if is_centred and (x or y or code) and isinstance(self.word, Word):
+            self.edits.put(self.word.start, self.word.end, self.word.text.replace(centre, b"", 1), STRAIGHT_LINE)
 
-    def let_go(self):
+    def other(self, text: bytes) -> None:
+        if text.startswith(b"G55"):
+            if OPERATION.fullmatch(text[3:]) and text[-1:] == b"3":
+                self.edits.put(self.word.start, self.word.end, text[3:], STATE)
+        elif text in (b"M01", b"M1"):
+            self.edits.put(self.word.start, self.word.end, COMMENT, STATE)
+        elif text[:1] in (b"X", b"Y") and b"I" not in text and b"J" not in text:
+            self.waiting = None
+
+    def let_go(self) -> None:
         """The last `G02` or `G03` alone, where no draw came behind it."""
         if self.waiting:
-            self.edits.put(*self.waiting, COMMENT, STATE)
+            self.edits.put(self.waiting.start, self.waiting.end, COMMENT, STATE)
         self.waiting = None
 
 
-def has_zero_centre(data):
+def has_zero_centre(data: bytes) -> bool:
     """Whether all that follows an I or a J is 0, and a J or an I behind that: faster than an expression, since few letters are one."""
     centre = b""
     for part in [*data.replace(b"J", b"I").split(b"I")[1:], b"*"]:
@@ -125,6 +123,6 @@ def has_zero_centre(data):
     return False
 
 
-def plain(edits):
+def plain(edits: Edits) -> None:
     if has(edits.data, SIGNS) or has_zero_centre(edits.data):
         States(edits)

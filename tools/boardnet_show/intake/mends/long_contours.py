@@ -4,13 +4,11 @@ from itertools import accumulate
 from typing import NamedTuple
 
 from boardnet_show.formats import gerber_attributes
-from boardnet_show.formats.gerber_tokens import BLANKS, FILE_ENDS, MOST_EDGES, NUMBERS, holding, is_at_word
+from boardnet_show.formats.gerber_lexer import BLANKS, FILE_ENDS, Broken, Word, holding, is_at_word, run_of, tokens
+from boardnet_show.formats.gerber_machine import MODES, MOST_EDGES, MOVE, STRAIGHT
 
 from .table import CONTOUR
 
-# A word in a region: an operation of straight lines, or another one; OPERATED are other operations.
-STEP = re.compile(rb"[%\t\n\r ]*(?:(?:G0?1)?(?:X([+-]?[0-9]{1,13}))?(?:Y([+-]?[0-9]{1,13}))?(?:D0?([12]))?|([^*%]*))\*")
-PLAIN = re.compile(rb"[\t\n\r ]*X[+-]?[0-9]{1,13}Y[+-]?[0-9]{1,13}D0?[12]\*")
 OPERATED = re.compile(rb"(?:G0?[0-3])?[XYIJ]|(?:G0?[0-3])?D0?[0-3]\Z|G0?[023]\Z")
 OF_OPERATIONS = b"GXYD+-0123456789"
 BETWEEN = b"%\t\n\r "
@@ -46,17 +44,20 @@ class Region:
 
     def plain(self):
         """The numbers of the operations' words, their places, and which of them move; nothing where a word does not say all."""
-        if PLAIN.sub(b"", self.body).strip(BETWEEN):
-            return None
-        values = [*map(int, self.body.translate(NUMBERS).split())]
-        moves = [k for k, code in enumerate(values[2::3]) if code == 2]
-        return (range(len(values) // 3), [*zip(values[::3], values[1::3])], moves) if moves[:1] == [0] else None
+        run = run_of(self.body, 0, len(self.body))
+        moves = [k for k, code in enumerate(run.codes) if code == MOVE] if run else []
+        return (range(len(run.codes)), [*zip(run.xs, run.ys)], moves) if moves[:1] == [0] else None
 
     def operations(self):
         """The same, where words leave out what they share with the one before; nothing where one is no straight edge."""
         words, spots, moves, x, y = [], [], [], None, None
-        for number, (new_x, new_y, code, other) in enumerate(STEP.findall(self.body)):
-            if new_x or new_y or code:
+        try:
+            for number, word in enumerate(tokens(self.body)):
+                mode, new_x, new_y, centre, code = word.parts or (None, None, None, b"", None)
+                if is_bent(word) or centre or code == b"3" or MODES.get(mode, STRAIGHT) is not STRAIGHT:
+                    return None
+                if not word.parts:
+                    continue
                 if not spots and not (code == b"2" and new_x and new_y):
                     return None
                 x, y = int(new_x) if new_x else x, int(new_y) if new_y else y
@@ -64,9 +65,9 @@ class Region:
                     moves.append(len(spots))
                 spots.append((x, y))
                 words.append(number)
-            elif other and OPERATED.match(other):
-                return None
-        return (words, spots, moves) if not STEP.sub(b"", self.body).strip(BETWEEN) else None
+        except Broken:
+            return None
+        return words, spots, moves
 
     def word_place(self, number):
         """A word's first byte and its star, in the file."""
@@ -74,6 +75,11 @@ class Region:
             self.stops = [*accumulate(len(text) + 1 for text in self.texts)]
         star = self.start + self.stops[number] - 1
         return star - len(self.texts[number].lstrip(BETWEEN)), star
+
+
+def is_bent(word: Word) -> bool:
+    """Whether a word without coordinates or code is an arc's mode, or like an operation and none that is known."""
+    return not word.parts and not word.inside and bool(OPERATED.match(word.text))
 
 
 def regions(data):

@@ -3,7 +3,7 @@ import re
 from decimal import Decimal
 from fractions import Fraction
 
-from boardnet_show.formats.gerber_tokens import DECIMAL
+from boardnet_show.formats.gerber_lexer import DECIMAL
 
 from .table import TURN
 
