@@ -9,8 +9,8 @@ from xml.sax import saxutils
 
 from boardnet_show.base import scratch, wording
 from boardnet_show.command import options
-from boardnet_show.fitting import placement
 from boardnet_show.formats import indented_json
+from boardnet_show.formats.drills import drill_places
 from boardnet_show.formats.gerber_lexer import in_u
 from boardnet_show.output import junit, markup
 from tests.fixtures import common
@@ -48,7 +48,7 @@ class Light(common.Case):
         for text in ("0", "1", "-1", "+1.5", ".5", "-.25", "007.500", "0.0000001", "0.00000005", "-0.00000015", "0.00000025", "1.", "123456789.123456789"):
             exact = Fraction(Decimal(text)) * 10 ** 7
             self.assertEqual(in_u(text.encode(), 10 ** 7), exact if exact.denominator == 1 else None, text)
-            self.assertEqual(placement.length(text, 10 ** 7), round(exact), text)
+            self.assertEqual(drill_places.length(text.encode(), 10 ** 7), round(exact), text)
         self.assertEqual((in_u(b"0" * 5000 + b"2." + b"0" * 5000, 10), in_u(b"1" * 5000, 10)), (20, None))
 
     def test_scratch(self):
