@@ -11,19 +11,27 @@ from .units import CODES, CUSTOM
 # ---- columns
 
 CODE, NAME, COMPONENT, PIN, PLATING = slice(0, 3), slice(3, 17), slice(20, 26), slice(27, 31), slice(37, 38)
+PIN_COLUMNS, LAYER, PLACE = slice(20, 31), slice(38, 41), slice(38, 57)     # with dash and letters
 ACCESS, X, Y = slice(39, 41), slice(41, 49), slice(49, 57)
 NAME_WIDTH, COMPONENT_WIDTH, PIN_WIDTH = 14, 6, 4
 MOST = 999_999      # what the six digits of a place hold
 MOST_SIZE = 9_999   # what the four digits of a size hold
 FULL = 72           # columns of a parameter's line whose name may be cut
 
-THROUGH, SURFACE, END = b"317", b"327", b"999"
+THROUGH, SURFACE, VIA, END = b"317", b"327", b"307", b"999"
 TEST_RECORDS = (THROUGH, SURFACE)
+# What goes on behind a record, as which code, and records that name no test point: those that `check` passes over, and others.
+CONTINUED = {b"017": THROUGH, b"027": SURFACE}
+PASSED_OVER = (b"367", b"378", b"379", b"389", b"078", b"079", b"089")
+NO_POINTS = (b"390", b"088", b"099")
 # Where records, their unit and their end stand, in bytes that may be a netlist.
 ANY_RECORD = re.compile(rb"^(?:317|327)", re.M)
 ANY_UNITS = re.compile(rb"^P[ \t]*UNITS", re.M)
 ANY_END = re.compile(rb"^999", re.M)
+ANY_PASSED_OVER = re.compile(rb"^(?:%s)" % b"|".join(PASSED_OVER), re.M)
 ANY_NAME = re.compile(rb"^3[12]7(.{14})", re.M)
+# A name that fills its columns and runs on behind them.
+LONG_NAME = re.compile(rb"^3[12]7(.{13}[!-~]{2,4})", re.M)
 
 # ---- parameters
 
@@ -134,6 +142,22 @@ def has_place(line: bytes) -> bool:
     return is_test(line) and len(line) >= Y.stop
 
 
+def has_digits(field: bytes, width: int) -> bool:
+    """Whether columns have a number as `check` takes one: blanks, then digits to their end."""
+    return len(field) == width and field.lstrip(b" \t").isdigit()
+
+
+def has_access(line: bytes) -> bool:
+    """Whether the columns of the access code have one."""
+    return line[LAYER][:1] == b"A" and has_digits(line[ACCESS], 2)
+
+
+def has_coordinates(line: bytes) -> bool:
+    """Whether the columns of both coordinates have a letter, a sign or a blank, and a number."""
+    return all(line[its][:1] == letter and line[its][1:2] in (b" ", b"\t", b"+", b"-") and has_digits(line[its][2:], 6)
+               for its, letter in ((X, b"X"), (Y, b"Y")))
+
+
 def place_of(line: bytes) -> Place:
     """Where a test record is; ValueError where its columns have no numbers."""
     x, y = (int(line[its][1:].replace(b" ", b"")) for its in (X, Y))
@@ -166,9 +190,17 @@ def alias_lines(data: bytes) -> Iterator[AliasLine]:
         yield AliasLine(found[1], found[2].strip(), found.end() - found.start() >= FULL)
 
 
+def text_of(name: bytes) -> str:
+    """A name in UTF-8, or in Latin-1 where it is none."""
+    try:
+        return name.decode("utf-8")
+    except UnicodeDecodeError:
+        return name.decode("latin-1")
+
+
 def aliases(data: bytes) -> Dict[str, str]:
     """The whole names that a netlist's names stand for."""
-    return {it.alias.decode(): it.name.decode("utf-8", "replace").strip() for it in alias_lines(data)}
+    return {it.alias.decode(): text_of(it.name).strip() for it in alias_lines(data)}
 
 
 def spoken(names: Sequence[str], data: bytes) -> List[str]:

@@ -50,7 +50,7 @@ def need_plated(package, drills):
 
 def need_names(package, name):
     """Refuses a netlist of which it is not known which records are of one net."""
-    why = netlist_mends.unclear(read(package, name))
+    why = netlist_mends.unclear(read(package, name), package.manifest.layers)
     if why:
         raise Stop(REFUSED, f"{name}: {why}: have each name stand for one net, and each net have one name")
 

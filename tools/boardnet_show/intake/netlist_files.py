@@ -1,6 +1,8 @@
 """IPC-D-356A netlists: their test records, and which of several is meant."""
+from collections import Counter
 from typing import Optional, Sequence
 
+from boardnet_show.base.wording import counted, spoken
 from boardnet_show.formats import ipc356
 
 from .file_names import Refused
@@ -11,9 +13,17 @@ class Netlist:
 
     def __init__(self, name: str, data: bytes) -> None:
         self.name, self.records, self.through = name, 0, 0
-        for line in filter(ipc356.is_test, data.split(b"\n")):
-            self.records += 1
-            self.through += line[ipc356.CODE] == ipc356.THROUGH and line[ipc356.PLATING] != b"U"
+        for line in data.split(b"\n"):
+            is_via = line[ipc356.CODE] == ipc356.VIA
+            self.records += is_via or ipc356.is_test(line)
+            self.through += (is_via or line[ipc356.CODE] == ipc356.THROUGH) and line[ipc356.PLATING] != b"U"
+
+
+def note(name: str, data: bytes) -> str:
+    """What a netlist has that says nothing of test points, or nothing."""
+    codes = Counter(ipc356.ANY_PASSED_OVER.findall(data))
+    told = spoken(f"{count} of {code.decode()}" for code, count in sorted(codes.items())) if codes else ""
+    return f"{name}: {counted(sum(codes.values()), 'record')} that name no test point are passed over: {told}" if codes else ""
 
 
 def choose(netlists: Sequence[Netlist], wanted: Optional[str]) -> Netlist:

@@ -1,5 +1,6 @@
 """The mends of a package's files, and of a folder's."""
 import os
+from functools import partial
 
 from . import copper_mends, drill_mends, netlist_mends
 from .table import described
@@ -9,7 +10,7 @@ MENDED = ".mended"
 
 def of_files(read, copper, drills, netlist):
     """(name, data, mends) of each file that is mended, in order; `read` gives a file's bytes, or nothing where there are none."""
-    rows = [(name, copper_mends.mended) for name in copper] + [(name, drill_mends.mended) for name in drills] + [(netlist, netlist_mends.mended)]
+    rows = [(name, copper_mends.mended) for name in copper] + [(name, drill_mends.mended) for name in drills] + [(netlist, partial(netlist_mends.mended, layers=len(copper)))]
     for name, mended in dict(rows).items():
         data = read(name)
         text, mends = mended(data) if data else (data, [])

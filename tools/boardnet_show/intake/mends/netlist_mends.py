@@ -1,15 +1,17 @@
-"""The mend of a netlist: names that stand for one whole name (`P  NNAME1 name`) are written as one.
+"""Mends of a netlist: its lines in the form of `check`, and names that stand for one whole name (`P  NNAME1 name`) as one.
 
-To `check` each is a name of its own.
+To `check` each name is one of its own.
 """
 from typing import Dict, List, Tuple
 
 from boardnet_show.formats import ipc356
 
-from .mend import Mend
+from . import netlist_forms
+from .mend import Mend, short
 from .table import ALIAS
 
 NO_NET = ipc356.NO_NET.encode()
+MOST_LAYERS = 99    # what the two digits of an access code hold
 Groups = Dict[bytes, List[bytes]]
 
 
@@ -60,13 +62,31 @@ def renamed(data: bytes) -> Tuple[Dict[bytes, bytes], str]:
     return new, its.unclear
 
 
-def unclear(data: bytes) -> str:
+def cut(data: bytes) -> str:
+    """Why names that run on behind their columns may be of two nets, or nothing: the columns have what both begin with."""
+    whole: Dict[bytes, bytes] = {}
+    for name in dict.fromkeys(ipc356.LONG_NAME.findall(data)):
+        other = whole.setdefault(name[:ipc356.NAME_WIDTH], name)
+        if other != name:
+            return f"{short(other)} and {short(name)} run on behind their columns, and are one name within them"
+    return ""
+
+
+def unclear(data: bytes, layers: int = MOST_LAYERS) -> str:
     """Why it is not known which records are of one net, or nothing."""
-    return renamed(data)[1] if b"NNAME" in data else ""
+    text = netlist_forms.mended(data, layers)[0]
+    return cut(text) or (renamed(text)[1] if b"NNAME" in text else "")
 
 
-def mended(data: bytes) -> Tuple[bytes, List[Mend]]:
-    """A netlist as it is mended, and its mends; the same bytes where there are none."""
+def mended(data: bytes, layers: int = MOST_LAYERS, last: int = 0) -> Tuple[bytes, List[Mend]]:
+    """A netlist as it is mended, and its mends; the same bytes where there are none. `last` is a code of the last layer."""
+    text, found = netlist_forms.mended(data, layers, last)
+    text, aliases = with_one_name(text)
+    return text, sorted(found + aliases, key=lambda mend: mend.line)
+
+
+def with_one_name(data: bytes) -> Tuple[bytes, List[Mend]]:
+    """A netlist with one name for each whole name."""
     new, why = renamed(data) if b"NNAME" in data else ({}, "")
     if why or not new:
         return data, []

@@ -13,7 +13,8 @@ class Row(namedtuple("Row", "kind sees writes why told")):
 # Drill files.
 PLATING, UNIT, FORM, ENDS, MACHINE, LIFT, FORCE = "plating", "unit", "unit form", "header's end", "machine", "lift", "in force"
 # Netlists.
-ALIAS = "alias"
+ALIAS, NAME, CHARACTERS, METRIC, VIA, CONTINUED, NO_POINT, LAYER, PAPER = \
+    "alias", "name", "characters", "metric", "via", "continued", "no point", "layer", "paper"
 # Copper files.
 IDENTITY, STRAIGHT, STATE, FORMAT, END, UNUSED, LINES, TURN, CONTOUR = \
     "identity", "straight", "state", "format", "end", "unused", "macro lines", "macro turn", "contour"
@@ -49,6 +50,19 @@ ROWS = (
     Row(CONTOUR, "a contour of more than 100,000 edges, in a file without clear polarity and steps", "several contours, parted by chords between two corners; the first in its place, "
         "the others at the file's end, with the net name of the contour", "a chord lies in the copper and meets no edge, and of two parts none enters the other", ""),
     Row(ALIAS, "a netlist's names that stand for one whole name (`P  NNAME1 A`, `P  NNAME2 A`)", "one of them in all records", "equal whole names are one net", ""),
+    Row(NAME, "a name with blanks within, or letters outside ASCII, in its columns",
+        "an alias, with `P  NNAME<n>` before `999`", "the columns are the name's", "is no name for `check`: written as an alias"),
+    Row(CHARACTERS, "a record that stands only where characters of UTF-8 are counted", "the same in ASCII", "bytes of a letter are no columns",
+        "has columns of characters: written in ASCII"),
+    Row(METRIC, "`P  UNITS SI`", "`P  UNITS CUST 1`", "both are 0.001 mm", "is 0.001 mm: written as `CUST 1`"),
+    Row(VIA, "`307` with a layer, or `L<n>L<m>` in the `027` behind it", "`317` there, of a span at both ends", "a via is a plated hole",
+        "is a blind or buried via: written as `317`"),
+    Row(CONTINUED, "`017`, `027` behind its record, of no other name or pin", "a record on its layer; a comment where it says no other place",
+        "it is the same pin", "goes on from its record: written as a record of its own"),
+    Row(NO_POINT, "`390`, `088`, `099`; `307` without a layer", "a comment", "they name no point", "names no test point: left out"),
+    Row(LAYER, "code `A16`, `A32` or `A64` alone over the layers, and none of the last", "the last layer", "tools write the bottom so", ""),
+    Row(PAPER, "form feeds at a line's ends; `^Z` alone", "without them", "they are for printers and disks",
+        "has signs for printers or disks: left out"),
 )
 TOLD = {row.kind: row.told for row in ROWS}
 
