@@ -179,7 +179,7 @@ def reference(program, path, asked, scratch, board):
     made = tester.made(program, theirs, os.path.basename(os.path.normpath(path)), known=known, is_told=False)
     if made.text is None:
         raise Stop(theirs.status, f"{path}: {'; '.join(made.lines)}")
-    return made, made.text.encode("latin-1")
+    return made, made.netlist.netlist_text(is_plain=True).encode("latin-1")
 
 
 def counts_words(its):

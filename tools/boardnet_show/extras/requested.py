@@ -6,7 +6,7 @@ from typing import Any, Callable, Iterator, NamedTuple, Optional, Sequence, Tupl
 
 from boardnet_show.base.statuses import UNDECIDED, UNJUDGED
 from boardnet_show.findings.explained import Explained
-from boardnet_show.findings.finding import Finding
+from boardnet_show.findings.finding import GAP, Finding
 
 GAPS = "gaps between nets"
 # What was found in its course: its name, words and places.
@@ -85,7 +85,7 @@ def steps(program, judged, seen: Explained, asked, scratch: str) -> Iterator[Cal
         from . import comparison
         yield lambda _: comparison.requested(program, judged, seen, asked, scratch)
     if asked.ipc:
-        yield lambda _: netlist(program, judged, seen)
+        yield lambda its: netlist(program, judged, seen, its)
     if asked.record or asked.verify:
         from . import record
         if asked.record:
@@ -94,9 +94,10 @@ def steps(program, judged, seen: Explained, asked, scratch: str) -> Iterator[Cal
             yield lambda its: record.verify(program, judged, seen, its, asked.verify)
 
 
-def netlist(program, judged, seen: Explained) -> Requested:
-    """The netlist for a tester."""
+def netlist(program, judged, seen: Explained, before: Requested) -> Requested:
+    """The netlist for a tester, with the nets that are too close where they were found before."""
     from boardnet_show.netlists import tester
-    its = tester.made(program, judged, seen.title, seen.board)
+    close = [tuple(it.nets) for it in before.findings if it.kind == GAP and len(it.nets) == 2]
+    its = tester.made(program, judged, seen.title, seen.board, adjacent=None if before.gap_count is None else close)
     lacks = lacking("netlist for a tester", "no netlist for a tester", tuple(("netlist", words, ()) for words in its.lines))
     return Requested([lacks] if its.text is None else [], tester=its)

@@ -13,17 +13,20 @@ from .units import CODES, CUSTOM
 CODE, NAME, COMPONENT, PIN, PLATING = slice(0, 3), slice(3, 17), slice(20, 26), slice(27, 31), slice(37, 38)
 PIN_COLUMNS, LAYER, PLACE = slice(20, 31), slice(38, 41), slice(38, 57)     # with dash and letters
 ACCESS, X, Y = slice(39, 41), slice(41, 49), slice(49, 57)
+MASK_COLUMNS = slice(71, 80)
 NAME_WIDTH, COMPONENT_WIDTH, PIN_WIDTH = 14, 6, 4
 MOST = 999_999      # what the six digits of a place hold
 MOST_SIZE = 9_999   # what the four digits of a size hold
 FULL = 72           # columns of a parameter's line whose name may be cut
 
-THROUGH, SURFACE, VIA, END = b"317", b"327", b"307", b"999"
+THROUGH, SURFACE, VIA, TOOLING, ADJACENT, END = b"317", b"327", b"307", b"367", b"379", b"999"
 TEST_RECORDS = (THROUGH, SURFACE)
 # What goes on behind a record, as which code, and records that name no test point: those that `check` passes over, and others.
 CONTINUED = {b"017": THROUGH, b"027": SURFACE}
 PASSED_OVER = (b"367", b"378", b"379", b"389", b"078", b"079", b"089")
 NO_POINTS = (b"390", b"088", b"099")
+# The mask code behind a record's sizes: which sides have mask over the pad.
+MASK = re.compile(rb" ?S ?([0-3])[ \r]*")
 # Where records, their unit and their end stand, in bytes that may be a netlist.
 ANY_RECORD = re.compile(rb"^(?:317|327)", re.M)
 ANY_UNITS = re.compile(rb"^P[ \t]*UNITS", re.M)
@@ -126,6 +129,14 @@ def records(data: bytes) -> Tuple[Record, ...]:
             found.append(Record(number, line[CODE] == THROUGH, name, component, pin, x, y))
         before = line
     return tuple(found)
+
+
+@lru_cache(maxsize=2)
+def masks(data: bytes) -> Tuple[str, ...]:
+    """The mask code of each record, or nothing."""
+    lines = data.split(b"\n")
+    found = (MASK.fullmatch(lines[it.line - 1][MASK_COLUMNS]) for it in records(data))
+    return tuple(its[1].decode() if its else "" for its in found)
 
 
 def pin_of(line: bytes, before: bytes) -> Tuple[str, str]:
@@ -248,10 +259,10 @@ class Size(NamedTuple):
 
 
 class Written(NamedTuple):
-    """A test record as it is written, lengths in the netlist's unit, the diameter that of a plated hole. The fields fit
-    their columns, but for a component and a pin, which are cut."""
+    """A test record as it is written, lengths in the netlist's unit. The fields fit their columns, but for a component
+    and a pin, which are cut."""
 
-    is_through: bool
+    code: bytes
     name: str
     component: str
     pin: str
@@ -261,6 +272,8 @@ class Written(NamedTuple):
     is_midpoint: bool = False
     diameter: Optional[int] = None
     size: Optional[Size] = None
+    mask: str = ""
+    plating: str = "P"
 
 
 def place_columns(x: int, y: int) -> str:
@@ -269,12 +282,24 @@ def place_columns(x: int, y: int) -> str:
 
 def record_line(record: Written) -> str:
     """A test record in its columns, without an end of line; without a size it ends behind its place."""
-    code = (THROUGH if record.is_through else SURFACE).decode()
     component, pin = record.component[:COMPONENT_WIDTH], record.pin[:PIN_WIDTH]
     named = f"{component:<{COMPONENT_WIDTH}}{'-' if pin else ' '}{pin:<{PIN_WIDTH}}{'M' if record.is_midpoint else ' '}"
-    hole = f"{'':6}" if record.diameter is None else f"D{record.diameter:04d}P"
+    hole = f"{'':6}" if record.diameter is None else f"D{record.diameter:04d}{record.plating}"
     size = f"X{record.size.wide:04d}Y{record.size.high:04d}R000" if record.size else ""
-    return f"{code}{record.name:<{NAME_WIDTH}}   {named}{hole}A{record.access:02d}{place_columns(record.x, record.y)}{size}"
+    size += f" S{record.mask}" if record.mask else ""
+    return f"{record.code.decode()}{record.name:<{NAME_WIDTH}}   {named}{hole}A{record.access:02d}{place_columns(record.x, record.y)}{size}"
+
+
+def span_line(first: int, last: int) -> str:
+    """What stands behind the record of a via that spans these layers."""
+    return f"027{'':{LAYER.start - CODE.stop}}L{first:02d}L{last:02d}"
+
+
+def adjacent_lines(name: str, others: Sequence[str]) -> Iterator[str]:
+    """That other nets are beside a net: four names in a line."""
+    for at in range(0, len(others), 4):
+        fields = [name if at == 0 else "", *others[at:at + 4]]
+        yield (ADJACENT if at == 0 else b"079").decode() + " ".join(f"{it:<{NAME_WIDTH}}" for it in fields).rstrip()
 
 
 def pin_comment(component: str, pin: str) -> str:

@@ -6,6 +6,7 @@ on two nets there is one for each. A pad whose middle lies in a plated hole of i
 from collections import defaultdict
 
 from boardnet_show.base.statuses import BadCopper
+from boardnet_show.formats import ipc356
 from boardnet_show.formats.gerber_objects import objects_of
 from boardnet_show.formats.gerber_lexer import begins
 from boardnet_show.geometry import box_grid
@@ -29,6 +30,7 @@ class Place:
         self.pieces, self.net, self.layers, self.middle, self.size, self.hole = pieces, net, layers, middle, size, hole
         self.aim = middle
         self.part = self.pin = ""
+        self.masks = set()      # the mask codes of the netlist's records on it
         self.is_via = self.is_round = False
 
     def name(self, part, pin, is_via):
@@ -151,13 +153,17 @@ class Padlist:
     def name_by_records(self):
         """Part and pin of places by the netlist's records that lie on them, the nearest to the middle first."""
         board, places = self.board, self.places
+        masks = self.masks_of_records()
         told = [(point, board.record(point), board.spot(point)) for point in range(len(board.report.points))]
-        told = [it for it in told if it[1] and it[1].component and it[2]]
+        told = [it for it in told if it[1] and (it[1].component or masks[it[1].line]) and it[2]]
         boxes = [cover([board.touching.box(piece) for piece in it.pieces]) for it in places] if told else []
         found = defaultdict(list)
         for j, k in box_grid.holding(boxes, [spot for _, _, spot in told]):
             (point, record, spot), place = told[k], places[j]
             if place.layers[0] <= board.layer(point) <= place.layers[1] and any(board.touching.holds(piece, spot) for piece in place.pieces):
+                place.masks.update(masks[record.line])
+                if not record.component:
+                    continue
                 away = (spot[0] - place.middle[0]) ** 2 + (spot[1] - place.middle[1]) ** 2
                 found[j].append((place.hole is None and record.component == VIA, away, point, record))
         for j, its in found.items():
@@ -166,6 +172,12 @@ class Padlist:
                 places[j].name("", "", places[j].hole is not None)
             else:
                 places[j].name(record.component, record.pin, False)
+
+    def masks_of_records(self):
+        """The mask code that the netlist gives each record, by its line."""
+        package = self.board.package
+        data = package.read(package.manifest.netlist)
+        return {record.line: mask for record, mask in zip(ipc356.records(data), ipc356.masks(data))}
 
     def joined(self):
         """The holes with the pads about them, and the other pads: also those of other pins over a hole that has one."""

@@ -305,7 +305,7 @@ def lines_of(point, place, name):
     if not re.fullmatch("[!-~]{0,6}", component) or not re.fullmatch("[!-~]{0,4}", pin):
         yield ipc356.pin_comment(component, pin)
         component, pin = (re.sub("[^!-~]", "?", word) for word in (component, pin))
-    yield ipc356.record_line(ipc356.Written(False, name, component, pin, point.layer, place.x, place.y))
+    yield ipc356.record_line(ipc356.Written(ipc356.SURFACE, name, component, pin, point.layer, place.x, place.y))
 
 
 def text_of(found, unit, places):

@@ -3,11 +3,13 @@ from typing import NamedTuple, Optional
 
 from boardnet_show.base.statuses import BadCopper, Stop
 from boardnet_show.findings import between_bounds
+from boardnet_show.intake.mends import netlist_mends
 from boardnet_show.intake.package import beside
 from boardnet_show.judging import board_copper
 
 from . import pad_list
 from .tester_records import Netlist
+from .tooling_holes import tooling
 
 LOWER = "it is of the lower of two bounds: what that leaves out has no record"
 
@@ -39,8 +41,10 @@ def copper_of(program, told, board, known=None):
 
 
 def confirmed(program, package, text):
-    """Whether `check` agrees with the netlist and `audit` confirms that report, and the sentence on it."""
-    copy = package.changed(beside(package, "tester"), {package.manifest.netlist: text.encode("latin-1")})
+    """Whether `check` agrees with the netlist, mended where it has forms of its own, and `audit` confirms that report, and
+    the sentence on it."""
+    data, _ = netlist_mends.mended(text.encode("latin-1"), package.manifest.layers)
+    copy = package.changed(beside(package, "tester"), {package.manifest.netlist: data})
     answer = program.check(copy)
     if answer.status not in (0, 1):
         return False, f"`check` with it says: {answer.line}"
@@ -56,11 +60,12 @@ def above(program, base, text):
     return is_right, f"on the upper bound {said}, {meaning}"
 
 
-def made(program, told, title, board=None, known=None, is_told=True):
-    """The netlist of a judged package; where it is not told of, there are lines only on why there is none."""
+def made(program, told, title, board=None, known=None, is_told=True, adjacent=None):
+    """The netlist of a judged package; where it is not told of, there are lines only on why there is none. `adjacent` are
+    pairs of nets that are close to each other, or None."""
     try:
         board, base = copper_of(program, told, board, known), told.package if told.package.between else None
-        its = Netlist(pad_list.Padlist(board, pad_list.origins(board, base)), title)
+        its = Netlist(pad_list.Padlist(board, pad_list.origins(board, base)), title, tooling(told.package), adjacent)
     except (Stop, BadCopper) as why:
         return Tester(None, [f"no netlist for a tester: {why}"], None)
     text = its.netlist_text()

@@ -1,7 +1,7 @@
 """An IPC-D-356A netlist of a board's copper for a flying-probe tester, in the columns of its records 317 and 327.
 
-A net has the name that the netlist gives it, or the files' own labels, where that is one name and no other net has it, else NET<n>.
-Columns 72 to 80 are blank: solder masks are not read.
+A net has the name that the netlist gives it, or the files' own labels, where that is one name and no other net has it,
+else NET<n>. The mask code is that of the netlist's records on a pad, where they have one.
 """
 import re
 from collections import defaultdict
@@ -16,6 +16,7 @@ from boardnet_show.geometry.exact import ceil_root
 
 from . import pad_places
 from .pad_list import VIA, front
+from .tooling_holes import Tooling
 
 FEW = 6             # nets and pads that are named in a line
 
@@ -97,6 +98,11 @@ def whole(length, unit):
     return min(ipc356.MOST_SIZE, max(1, (2 * length + unit) // (2 * unit)))
 
 
+def rounded(length, unit):
+    """A coordinate in units."""
+    return (2 * length + unit) // (2 * unit)
+
+
 class Row:
     """A record: a place of the board, where it is touched, and the code's columns."""
 
@@ -109,13 +115,26 @@ class Row:
     def key(self):
         return self.place.hole is not None, self.access, self.at[:2], self.place.part, self.place.pin
 
-    def line(self, unit, name, drill):
+    def is_via(self, layers):
+        """Whether it is of a blind or a buried via."""
+        first, last = self.place.layers
+        return self.place.hole is not None and first < last and (first, last) != (1, layers)
+
+    def lines(self, unit, name, drill, layers):
+        """The record, and behind that of a blind or a buried via its span."""
+        if not self.is_via(layers):
+            return [self.line(unit, name, drill)]
+        return [self.line(unit, name, drill, ipc356.VIA), ipc356.span_line(*self.place.layers)]
+
+    def line(self, unit, name, drill, code=None):
         it, has_hole = self.place, self.place.hole is not None
         part, pin = (it.part, it.pin) if it.part else (VIA, "") if it.is_via else ("", "")
         wide, high = (whole(length, unit) for length in it.size)
+        code = code or (ipc356.THROUGH if has_hole else ipc356.SURFACE)
         return ipc356.record_line(ipc356.Written(
-            has_hole, name, *named(part, pin), self.access, self.at.x, self.at.y, it.is_via and not it.part,
-            whole(drill, unit) if has_hole else None, ipc356.Size(wide, 0 if it.is_round else high)))
+            code, name, *named(part, pin), self.access, self.at.x, self.at.y, it.is_via and not it.part,
+            whole(drill, unit) if has_hole else None, ipc356.Size(wide, 0 if it.is_round else high),
+            next(iter(it.masks)) if len(it.masks) == 1 else ""))
 
     def off(self, unit):
         """How far it is from the middle of the pad, squared, in u."""
@@ -161,8 +180,10 @@ def pad_of(place, shapes):
 class Netlist:
     """The netlist of a board's pads and holes, and what is to be told of it."""
 
-    def __init__(self, padlist, title):
+    def __init__(self, padlist, title, tooling=None, adjacent=None):
+        """`tooling` are the unplated holes, `adjacent` pairs of nets that are close to each other, or None."""
         self.board, self.title, self.objects = padlist.board, title, padlist.objects
+        self.tooling, self.adjacent = tooling or Tooling([], 0, []), adjacent
         shapes, layers = self.board.shapes, self.board.manifest.layers
         self.names = Names(self.board, padlist.objects)
         self.unit, found = on_grid(padlist.places, shapes) or pad_places.settled([pad_of(it, shapes) for it in padlist.places])
@@ -176,20 +197,40 @@ class Netlist:
     def drill(self, place):
         return 2 * self.board.shapes.radius[place.hole] if place.hole is not None else 0
 
-    def netlist_text(self):
-        lines = []
+    def netlist_text(self, is_plain=False):
+        """The netlist; a plain one has each place once, in records that `check` takes as they are."""
+        layers, lines = self.board.manifest.layers, []
         for row in self.rows:
-            it = row.place
-            if it.part and named(it.part, it.pin) != (it.part, it.pin):
-                lines.append(ipc356.pin_comment(plain(it.part, 60), plain(it.pin, 60)))
-            if row.is_moved(self.unit):
-                lines.append(f"C the next record is {at_most(row.away(self.unit))} mm from the middle of its pad")
-            lines.append(row.line(self.unit, self.names.field(it.net), self.drill(it)))
-        head = [f"C boardnet show: the nets of the copper of {plain(self.title.replace(' ', '_'), 40)}", "P  VER IPC-D-356A",
-                ipc356.units_line(self.unit)]
+            lines += self.comments(row)
+            name, drill = self.names.field(row.place.net), self.drill(row.place)
+            lines += [row.line(self.unit, name, drill)] if is_plain else row.lines(self.unit, name, drill, layers)
+        lines += [] if is_plain else [*map(self.tooling_line, self.tooling.holes), *self.adjacent_lines()]
+        title = plain(self.title.replace(" ", "_"), 40)
+        head = [f"C boardnet show: the nets of the copper of {title}", f"P  JOB   {title}", "P  VER IPC-D-356A", ipc356.units_line(self.unit)]
         aliases = [ipc356.alias_line(alias, with_ends(in_ascii(name))) for name, alias in self.names.alias.items()]
         none = [f"C net without a record: {self.net_word(net)}" for net in self.without()]
         return ipc356.file_text([*head, *aliases, *lines, *none])
+
+    def comments(self, row):
+        """What stands before a record: a pin that its columns do not hold, and how far it is from the middle."""
+        it = row.place
+        if it.part and named(it.part, it.pin) != (it.part, it.pin):
+            yield ipc356.pin_comment(plain(it.part, 60), plain(it.pin, 60))
+        if row.is_moved(self.unit):
+            yield f"C the next record is {at_most(row.away(self.unit))} mm from the middle of its pad"
+
+    def tooling_line(self, hole):
+        """The record of an unplated hole."""
+        wide, (x, y) = whole(hole.diameter, self.unit), (rounded(it, self.unit) for it in hole.middle)
+        return ipc356.record_line(ipc356.Written(ipc356.TOOLING, NO_NET, "", "", 0, x, y, False, wide, ipc356.Size(wide, 0), "", "U"))
+
+    def adjacent_lines(self):
+        """For each net those that are close to it and behind it in order, where that was asked for."""
+        others = defaultdict(set)
+        for one, other in self.adjacent or ():
+            others[min(one, other)].add(max(one, other))
+        for net in sorted(others):
+            yield from ipc356.adjacent_lines(self.names.field(net), list(map(self.names.field, sorted(others[net]))))
 
     # ---- what is told
 
@@ -216,7 +257,9 @@ class Netlist:
 
     def lines(self):
         holes = sum(row.place.hole is not None for row in self.rows)
-        yield f"{counted(len(self.rows), 'record')} ({holes} of plated holes) of {counted(len(self.nets()), 'net')}, in units of {UNIT_WORDS[self.unit]}"
+        records = f"{counted(len(self.rows), 'record')} ({holes} of plated holes) of {counted(len(self.nets()), 'net')}"
+        yield f"{records}, in units of {UNIT_WORDS[self.unit]}"
+        yield from self.besides()
         rounded = [row.away(self.unit) for row in self.rows if row.off(self.unit) and not row.is_moved(self.unit)]
         if rounded:
             yield f"{counted(len(rounded), 'place')} rounded to that grid within their pads, by at most {millimetres(-(-max(rounded) // 100) * 100)} mm"
@@ -228,6 +271,20 @@ class Netlist:
         if over:
             yield f"{counted(len(over), 'record')} with a size of {ipc356.MOST_SIZE}, the most that its columns hold: {spoken((row.pad_words() for row in over), FEW)}"
         yield from self.wanting()
+
+    def besides(self):
+        """What the netlist has besides."""
+        tooling = self.tooling
+        if tooling.holes or tooling.slots:
+            slots = f"; {counted(tooling.slots, 'unplated slot')} without one" if tooling.slots else ""
+            yield f"{counted(len(tooling.holes), 'record')} (367) of unplated holes{slots}"
+        if tooling.unread:
+            yield f"{counted(len(tooling.unread), 'file')} of unplated holes not read: {spoken(tooling.unread)}"
+        if self.adjacent is not None:
+            yield f"{counted(len(set(self.adjacent)), 'pair')} of nets that are close to each other (379)"
+        doubt = [row for row in self.rows if len(row.place.masks) > 1]
+        if doubt:
+            yield f"{counted(len(doubt), 'record')} without a mask code, since the netlist has several: {spoken((row.pad_words() for row in doubt), FEW)}"
 
     def wanting(self):
         """Nets that a tester cannot touch, or not at a pad."""

@@ -106,15 +106,16 @@ class Netlists(unittest.TestCase):
 
     def test_written(self):
         """What is written is read back: a pad, a hole with all its columns, a pin that is too long for them."""
-        rows = [ipc356.Written(False, "GND", "J1", "1", 1, -5, 999_999),
-                ipc356.Written(True, "a", "", "", 0, 0, -1, True, 300, ipc356.Size(600, 0)),
-                ipc356.Written(False, "NNAME1", "A_LONG_PART", "12345", 2, 7, 8)]
+        rows = [ipc356.Written(ipc356.SURFACE, "GND", "J1", "1", 1, -5, 999_999),
+                ipc356.Written(ipc356.THROUGH, "a", "", "", 0, 0, -1, True, 300, ipc356.Size(600, 0), "2"),
+                ipc356.Written(ipc356.SURFACE, "NNAME1", "A_LONG_PART", "12345", 2, 7, 8)]
         lines = list(map(ipc356.record_line, rows))
-        self.assertEqual(lines[1], f"317{'a':<14}{'':14}MD0300PA00X+000000Y-000001X0600Y0000R000")
+        self.assertEqual(lines[1], f"317{'a':<14}{'':14}MD0300PA00X+000000Y-000001X0600Y0000R000 S2")
         data = ipc356.file_text([ipc356.units_line(10_000), ipc356.alias_line("NNAME1", "a whole name"), *lines[:2],
                                  ipc356.pin_comment(*rows[2][2:4]), lines[2]]).encode()
-        self.assertEqual(ipc356.places(data), [ipc356.Place(it.is_through, it.access, it.x, it.y) for it in rows])
-        self.assertEqual([it[1:5] for it in ipc356.records(data)], [it[:4] for it in rows])
+        self.assertEqual(ipc356.places(data), [ipc356.Place(it.code == ipc356.THROUGH, it.access, it.x, it.y) for it in rows])
+        self.assertEqual(ipc356.masks(data), ("", "2", ""))
+        self.assertEqual([it[2:5] for it in ipc356.records(data)], [it[1:4] for it in rows])
         self.assertEqual((ipc356.names(data), ipc356.aliases(data)), ([b"GND", b"a", b"NNAME1"], {"NNAME1": "a whole name"}))
         changed = ipc356.changed(data, lambda line: ipc356.with_name(ipc356.with_access(ipc356.with_place(line, 1, 2), 3), b"B"))
         self.assertEqual({(it.access, it.x, it.y) for it in ipc356.places(changed)}, {(3, 1, 2)})

@@ -2,14 +2,15 @@
 import json
 import os
 import re
-import shutil
 import types
 import unittest
 from xml.dom import minidom
 
 from boardnet_show.base.progress import Progress
+from boardnet_show.formats import ipc356
 from boardnet_show.formats.gerber_objects import objects_of
 from boardnet_show.intake import package
+from boardnet_show.intake.mends import netlist_mends, table
 from boardnet_show.judging import judged
 from boardnet_show.judging.program import Program
 from boardnet_show.netlists import tester, tester_records
@@ -28,9 +29,9 @@ HOLES = {
 }
 HOLE_RECORDS = [
     "317X                J1    -2    D0400PA00X+020000Y+000000X1000Y1000R000",
-    "317NET1             VIA        MD0400PA01X+022000Y+000000X0600Y0000R000",
-    "317NET2                         D0300PA04X+024000Y+000000X1000Y0000R000",
-    "317NET4                         D0400PA02X+026000Y+000000X0400Y0000R000",
+    "307NET1             VIA        MD0400PA01X+022000Y+000000X0600Y0000R000", f"027{'':35}L01L02",
+    "307NET2                         D0300PA04X+024000Y+000000X1000Y0000R000", f"027{'':35}L03L04",
+    "307NET4                         D0400PA02X+026000Y+000000X0400Y0000R000", f"027{'':35}L02L03",
 ]
 PADS = {
     "m.json": manifest(), "n.ipc": netlist(record("GND", "C1.1", 0, 0), record("GND", "C1.2", 6, 0)),
@@ -66,7 +67,7 @@ class Netlists(made.Case):
     def test_holes(self):
         for program in self.over_both():
             status, out, text = self.made(HOLES, program)
-            self.assertEqual((status, body(text)[:4], len(body(text))), (0, HOLE_RECORDS, 5))
+            self.assertEqual((status, body(text)[:7], len(body(text))), (0, HOLE_RECORDS, 8))
             self.assertIn("1 record of buried holes, which no prober reaches: NET4 at 26.000, 0.000 mm\n", out)
             self.assertIn("1 net with mid-points (vias) alone, and no pad: NET1 (t.gbr command 14)\n", out)
             self.assertIn("1 net without a record: NET3 (b.gbr command 11)\n", out)
@@ -80,6 +81,52 @@ class Netlists(made.Case):
             self.assertIn("\nP  NNAME1  a_name_that_is_too_long\n", text)
             self.assertIn("2 places rounded to that grid within their pads, by at most 0.00047 mm\n", out)
             self.assertIn("1 name of several nets, which are called NET<n>: GND\n", out)
+
+    def test_both_ends_of_a_via(self):
+        """The span of a via stands behind its record: what is read of it is a point at either end."""
+        _, _, text = self.made(HOLES)
+        data, mends = netlist_mends.mended(text.encode(), 4)
+        found = [(it.access, it.x) for it in ipc356.places(data) if it.is_through]
+        self.assertEqual(found, [(0, 20_000), (1, 22_000), (2, 22_000), (4, 24_000), (3, 24_000), (2, 26_000), (3, 26_000)])
+        self.assertEqual({it.kind for it in mends}, {table.VIA, table.CONTINUED})
+
+    def test_masks(self):
+        """The code of the netlist's records on a pad; none where they differ, or have none."""
+        points = [record("A", "J1.1", 0, 0) + "X1000Y1000R000S1", record("B", "", 5, 0) + "X1000Y1000R000 S3      ", record("C", "J1.2", 9, 0) + "X1000Y1000R000 S2",
+                  record("C", "J1.2", 9, 0.1) + "X1000Y1000R000 S1", record("D", "J1.3", 12, 0) + "X1000Y1000R000 S4"]
+        status, out, text = self.made({"m.json": manifest(), "top.gbr": gerber(*flash(10, (0, 0), (5, 0), (9, 0), (12, 0))), "n.ipc": netlist(*points)})
+        self.assertEqual((status, [line[57:] for line in body(text)]), (0, [f"X1000Y0000R000{mask}" for mask in (" S1", " S3", "", "")]))
+        self.assertIn("1 record without a mask code, since the netlist has several: J1 pin 2\n", out)
+        self.assertIn("\nP  JOB   board\n", text)
+
+    def test_unplated_holes(self):
+        """Of tools that say so, and of a file that was left out because it does; slots are counted."""
+        top, through = "%TF.FileFunction,Copper,L1,Top*%", "; #@! TF.FileFunction,{},1,1,{}"
+        own = "; #@! TA.AperFunction,{},PTH,ComponentDrill"
+        mixed = "\n".join(["M48", through.format("MixedPlating", "Drill"), "METRIC", own.format("Plated"), "T1C0.4", own.format("NonPlated"), "T2C3.2", "%", "T1", "X0.0Y0.0",
+                            "T2", "X50.0Y-2.0005", "X1.0Y1.0G85X2.0Y1.0", "M30", ""])
+        alone = "\n".join(["M48", through.format("NonPlated", "NPTH"), "INCH", "T1C0.125", "%", "T1", "X1.0Y0.0", "M30", ""])
+        files = {"top.gbr": gerber(top, *flash(10, (0, 0), (9, 0))), "p.drl": mixed, "n.drl": alone, "n.ipc": netlist(record("A", "J1.1", 0, 0), record("B", "J1.2", 9, 0))}
+        status, out, text = self.made(files)
+        self.assertEqual((status, [line for line in body(text) if line.startswith("367")]), (0, [
+            f"367N/C{'':11}{'':15}D3200UA00X+050000Y-002000X3200Y0000R000", f"367N/C{'':11}{'':15}D3175UA00X+025400Y+000000X3175Y0000R000"]), out)
+        self.assertIn("2 records (367) of unplated holes; 1 unplated slot without one\n", out)
+        status, out, text = self.made({**files, "n.drl": alone.replace("X1.0", "X10000")})
+        self.assertEqual(text.count("\n367"), 1)
+        self.assertIn("1 file of unplated holes not read: n.drl\n", out)
+
+    def test_adjacent_nets(self):
+        """Nets that --gaps finds close to each other, each pair once, four to a line."""
+        at = [(0, 0), (1.1, 0), (2.2, 0), (0, 1.1), (9, 9)]
+        rows = [record(name, f"J1.{k}", *place) for k, (name, place) in enumerate(zip(("A", "NNAME1", "C", "D", "E"), at))]
+        self.board({"m.json": manifest(), "top.gbr": gerber(*flash(10, *at)), "n.ipc": "P  NNAME1  a_long_net_name\n" + netlist(*rows)})
+        for words, wanted in ((("--gaps", "0.2"), ["379A              NNAME1         D", "379NNAME1         C"]), (("--gaps", "0.05"), []), ((), [])):
+            _, out, _ = self.show("board", "--ipc", "o.ipc", *words)
+            self.assertEqual([line for line in self.read("o.ipc").split("\n") if line[:3] == "379"], wanted, out)
+            self.assertEqual("3 pairs of nets that are close to each other (379)" in out, bool(wanted))
+        lines = list(ipc356.adjacent_lines("A", list("BCDEF")))
+        self.assertEqual([line.split() for line in lines], [["379A", "B", "C", "D", "E"], ["079", "F"]])
+        self.assertTrue(all(len(line) <= 80 for line in ipc356.adjacent_lines("x" * 14, ["y" * 14] * 9)))
 
     def test_units(self):
         """The unit is that which has a place in every pad; where none has, the pads without are told."""
@@ -156,7 +203,8 @@ class Netlists(made.Case):
                 self.example(name, name)
                 self.show(name, "--ipc", f"{name}.ipc", program=program)
                 its = package.opened(self.path(name), types.SimpleNamespace(), self.path("files", name))
-                shutil.copy(self.path(f"{name}.ipc"), self.path(name, its.manifest.netlist))
+                data = netlist_mends.mended(self.read(f"{name}.ipc").encode(), its.manifest.layers)[0]
+                self.write(f"{name}/{its.manifest.netlist}", data)
                 status, _, notes = self.run_words([program, "check", "m.json"], self.path(name))
                 self.assertEqual((status, notes), (0, "boardnet: agrees\n"))
 
@@ -165,7 +213,7 @@ class Netlists(made.Case):
         told = judged.judge(Program(made.STAND_IN, Progress(quiet=True)), package.opened(self.path("board"), types.SimpleNamespace(), self.path("files")))
         text = tester_records.Netlist.netlist_text
         try:
-            tester_records.Netlist.netlist_text = lambda its: text(its).replace("NET2", "NET0")
+            tester_records.Netlist.netlist_text = lambda its, **how: text(its, **how).replace("NET2", "NET0")
             found = tester.made(Program(made.STAND_IN, Progress(quiet=True)), told, "board")
         finally:
             tester_records.Netlist.netlist_text = text
