@@ -44,6 +44,11 @@ def words(given):
     if asked.gaps is not None:
         from boardnet_show.extras import spacing
         asked.gaps = spacing.asked_distance(asked.gaps) or options.wrong("--gaps wants millimetres, over 0 and at most 10, with at most seven decimals")
+    if asked.necks is not None:
+        from boardnet_show.extras import spacing
+        asked.necks = spacing.asked_width(asked.necks)
+        if asked.necks is None:
+            options.wrong("--necks wants millimetres, from 0 to 10, with at most seven decimals")
     if asked.format not in (None, "text", "github"):
         options.wrong("--format is text or github")
     if asked.at and not asked.svg:

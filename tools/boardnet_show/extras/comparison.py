@@ -9,6 +9,7 @@ from typing import NamedTuple
 from boardnet_show.base.statuses import UNJUDGED, BadCopper, Stop
 from boardnet_show.base.wording import counted, millimetres
 from boardnet_show.findings import between_bounds, findings
+from boardnet_show.findings.besides import Requested, lacking, outcome
 from boardnet_show.findings.nearest_copper import gap_of_lines
 from boardnet_show.fitting.hints import Trial, Trials, best_placement
 from boardnet_show.fitting.placement import FORMS
@@ -21,7 +22,6 @@ from boardnet_show.judging import board_copper, judged, two_bounds
 from boardnet_show.netlists import pad_names, tester
 from boardnet_show.output.sentences import changes, hints
 
-from .requested import Requested, lacking, outcome
 from .spacing import STEP, Lines, least
 
 KINDS = {"open": "parted", "short": "joined", "missing": "missing"}

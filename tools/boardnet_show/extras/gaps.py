@@ -4,13 +4,13 @@ from collections import defaultdict
 
 from boardnet_show.base.statuses import BadCopper, Stop
 from boardnet_show.base.wording import counted, millimetres, spoken
-from boardnet_show.findings.finding import GAP, Finding, doubt
+from boardnet_show.findings.besides import GAPS, Requested, found, lacking
+from boardnet_show.findings.finding import GAP, Finding
 from boardnet_show.findings.nearest_copper import Gap
 from boardnet_show.formats.ipc356 import NO_NET
 from boardnet_show.netlists.tester import copper_of, with_copper
 
 from . import gaps_between_bounds
-from .requested import GAPS, Requested, lacking, outcome
 from .spacing import STEP, spacings
 
 FEW_NAMES = 2
@@ -80,16 +80,16 @@ def listed_by(u, listed, found):
 
 def of_board(program, board, u):
     """The gaps of a board, and the sentence on what is counted."""
-    found, listed = spacings(program, board, u)
+    its, listed = spacings(program, board, u)
     nets = Nets(board)
-    return [finding(nets, number, it) for number, it in enumerate(found)], f"{rule(u)}. {listed_by(u, listed, len(found))}"
+    return [finding(nets, number, it) for number, it in enumerate(its)], f"{rule(u)}. {listed_by(u, listed, len(its))}"
 
 
 def of_bounds(program, told, board, u):
     """The gaps of a board between two, of which `board` is the lower one."""
     high, nets = with_copper(program, told.package.between[2], told.package.sides.sources[1]), Nets(board)
-    found = gaps_between_bounds.gaps(program, board, high, u)
-    return [finding(nets, number, it, words, sure, others) for number, (sure, it, words, others) in enumerate(found)], rule(u)
+    its = gaps_between_bounds.gaps(program, board, high, u)
+    return [finding(nets, number, it, words, sure, others) for number, (sure, it, words, others) in enumerate(its)], rule(u)
 
 
 def requested(program, judged, board, u):
@@ -102,5 +102,4 @@ def requested(program, judged, board, u):
     possible = sum(it.sure is False for it in its)
     count = len(its) - possible
     told = f"{counted(count, 'gap') if count else 'no gap'} under {millimetres(u)} mm" + (f" and {counted(possible, 'possible one')}" if possible else "")
-    beside = outcome(GAPS, count, possible, told, tuple((doubt(it) + it.id, it.sentence(), ()) for it in its))
-    return Requested([beside], its, [words], count)
+    return Requested([found(GAPS, its, told)], its, [words], count)

@@ -12,11 +12,11 @@ from functools import lru_cache
 
 from boardnet_show.base.statuses import REFUSED, UNREADABLE, Stop
 from boardnet_show.base.wording import counted, spoken
+from boardnet_show.findings.besides import Requested, lacking, outcome
 from boardnet_show.formats import indented_json
 from boardnet_show.judging.program import TOOLS
 from boardnet_show.output.sentences import answers, hints
 
-from .requested import Requested, lacking, outcome
 
 FORM = 1
 RECORD = "record"

@@ -2,66 +2,12 @@
 
 Modules are loaded where they are wanted: most boards want none of them, and loading takes longer than a small board.
 """
-from typing import Any, Callable, Iterator, NamedTuple, Optional, Sequence, Tuple
+from typing import Any, Callable, Iterator
 
-from boardnet_show.base.statuses import UNDECIDED, UNJUDGED
+from boardnet_show.base.statuses import UNDECIDED
+from boardnet_show.findings.besides import Requested, lacking
 from boardnet_show.findings.explained import Explained
-from boardnet_show.findings.finding import GAP, Finding
-
-GAPS = "gaps between nets"
-# What was found in its course: its name, words and places.
-Detail = Tuple[str, str, Any]
-
-
-class Beside(NamedTuple):
-    """What was asked for beside the netlist: its name in lists of cases, its own status, what became of it, and (name, words, places) of
-    each thing that was found."""
-
-    what: str
-    status: int
-    words: str
-    details: Tuple[Detail, ...] = ()
-
-    def causes(self) -> Sequence[Detail]:
-        """Why its status is not 0, or nothing."""
-        return ([*self.details] or [(self.what, self.words, ())]) if self.status else []
-
-
-class Requested(NamedTuple):
-    """What became of it: findings and notes for the board's, what is told besides in lines, and what there is of each kind."""
-
-    besides: Sequence[Beside] = ()
-    findings: Sequence[Finding] = ()
-    notes: Sequence[str] = ()
-    gap_count: Optional[int] = None
-    like: Any = None
-    tester: Any = None
-    record: Any = None
-
-    def joined(self, other: "Requested") -> "Requested":
-        """Both: lists one behind the other, and of the rest what is there."""
-        lists = ((*one, *two) for one, two in zip(self[:3], other[:3]))
-        return Requested(*lists, *(one if two is None else two for one, two in zip(self[3:], other[3:])))
-
-
-def lacking(what: str, why: str, details: Tuple[Detail, ...] = ()) -> Beside:
-    """Something that was asked for is not known."""
-    return Beside(what, UNJUDGED, why, details)
-
-
-def outcome(what: str, certain: int, possible: int, words: str, details: Tuple[Detail, ...] = ()) -> Beside:
-    """Something that was looked for beside the netlist, and how much of it there is."""
-    return Beside(what, 1 if certain else UNDECIDED if possible else 0, words, details)
-
-
-def status_with(status: int, besides: Sequence[Beside]) -> int:
-    """The status of a board with what was asked for besides: what is not known counts where all else is right, findings where no board differs."""
-    for it in besides:
-        if it.status == UNJUDGED:
-            status = status or UNJUDGED
-        elif status in (0, UNDECIDED):
-            status = it.status or status
-    return status
+from boardnet_show.findings.finding import GAP
 
 
 def wants_copper(asked) -> Any:
@@ -78,6 +24,9 @@ def made(program, judged, seen: Explained, asked, scratch: str) -> Requested:
 
 def steps(program, judged, seen: Explained, asked, scratch: str) -> Iterator[Callable[[Requested], Requested]]:
     """What makes each of them of those before it."""
+    if seen.board and seen.answer.status in (0, 1, UNDECIDED):
+        from .as_made import looks
+        yield lambda _: looks.requested(program, judged, seen, asked)
     if asked.gaps:
         from . import gaps
         yield lambda _: gaps.requested(program, judged, seen.board, asked.gaps)

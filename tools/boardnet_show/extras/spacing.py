@@ -35,13 +35,18 @@ class Spacing(NamedTuple):
         return millimetres((self.distance // STEP + 1) * STEP)
 
 
-def asked_distance(text):
-    """A distance in millimetres as u; None where it is none that can be asked for."""
+def asked_width(text):
+    """A width in millimetres as u; None where it is none that can be asked for."""
     head, _, tail = text.partition(".")
     if not (head + tail).isascii() or not (head + tail).isdigit() or len(tail) > 7 or len(head) > 2:
         return None
     u = int(head or "0") * 10_000_000 + int(tail.ljust(7, "0"))
-    return u if 0 < u <= MOST else None
+    return u if u <= MOST else None
+
+
+def asked_distance(text):
+    """The same of a distance, which is over 0."""
+    return asked_width(text) or None
 
 
 def listed(program, package, u):

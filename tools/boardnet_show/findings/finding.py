@@ -3,7 +3,7 @@ from typing import Any, Dict, List, NamedTuple, Optional, Sequence
 
 from .nearest_copper import Gap
 
-OPEN, SHORT, MISSING, GAP = "open", "short", "missing", "gap"
+OPEN, SHORT, MISSING, GAP, CUT, OUTSIDE, NECK = "open", "short", "missing", "gap", "cut", "outside", "neck"
 # Why a clue is told: it is where to look, the copper files' labels say it, or it is known.
 SUGGESTED, LABELLED, KNOWN = "suggested", "labelled", "known"
 LEADS = {SUGGESTED: "Suggestion: ", LABELLED: "By the files' labels: ", KNOWN: ""}

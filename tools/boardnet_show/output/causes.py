@@ -2,7 +2,6 @@
 from typing import Iterator, NamedTuple, Optional
 
 from boardnet_show.base.statuses import UNDECIDED
-from boardnet_show.extras.requested import GAPS
 from boardnet_show.findings.finding import doubt
 
 from .text_lines import summary
@@ -13,6 +12,9 @@ KINDS = {
     "short": "Net names that copper joins",
     "missing": "Test points without copper",
     "gap": "Nets whose copper is too close",
+    "cut": "Nets that unplated holes part, or test points whose copper they take, when the board is made",
+    "outside": "Test points and joins outside the board's edge",
+    "neck": "Joins that are narrower than asked for",
     "tie": "Declared ties of names that no test point has",
     "beside": "What was asked for besides the netlist",
     "board": "Why the board is not judged",
@@ -44,7 +46,7 @@ def causes_of(shown) -> Iterator[Cause]:
     """All of one board; where nothing else says why, its own line does."""
     found = list(of_findings(shown)) if shown.board else []
     for beside in shown.besides:
-        if beside.what != GAPS or beside.status not in (1, UNDECIDED):
+        if not beside.are_findings:
             found += [Cause("beside", name, words, beside.status != UNDECIDED) for name, words, _ in beside.causes()]
     if shown.status and (not found or shown.status not in (1, UNDECIDED)):
         found.append(Cause("board", "board", summary(shown), shown.status != UNDECIDED))

@@ -1,4 +1,5 @@
 """The findings as JSON (docs/using/forms.md, "The JSON form"). Lengths are millimetres, exact."""
+from boardnet_show.findings.finding import GAP, NECK
 from boardnet_show.formats import indented_json
 from boardnet_show.formats.ipc356 import NO_NET
 from boardnet_show.judging import net_ties
@@ -49,7 +50,7 @@ def finding(board, one):
         told["parts"] = [{"count": len(part), "points": [point(board, number) for number in part[:MOST_OF_A_PART]]} for part in one.parts]
     if one.gap:
         told["gap"] = {"distance": round(mm(max(one.gap.distance, 0)), 6), **place_object(one.gap.place, one.gap.layer), "below": one.gap.below}
-    if one.kind == "gap":
+    if one.kind in (GAP, NECK):
         told["pieces"] = [piece(board, number) for number in one.pieces]
     if one.sure is not None:
         told["sure"] = one.sure

@@ -37,8 +37,8 @@ def whole(shown, status, line):
 def of_names(shown):
     """A case for each net name, and one for ties that have no place."""
     failures = {}
-    for it in shown.findings:
-        for name in it.names if it.kind != "gap" else ():
+    for it in shown.seen.findings:
+        for name in it.names:
             failures.setdefault(name, []).append((doubt(it) + it.id, it.sentence()))
     nowhere = [("tie", words) for words in shown.seen.lost_ties()]
     cases = [Case(name, failures.get(number, [])) for number, name in enumerate(shown.board.report.names)]

@@ -22,9 +22,11 @@ from .sentences import hints
 from .text_lines import cut
 
 HERE = os.path.join(os.path.dirname(os.path.abspath(__file__)), "page_assets")
-TITLES = {"open": "Opens", "short": "Shorts", "missing": "Points without copper", "gap": "Gaps"}
+TITLES = {"open": "Opens", "short": "Shorts", "missing": "Points without copper", "gap": "Gaps", "cut": "Cut by holes", "outside": "Outside the edge",
+          "neck": "Necks"}
 # As the marks in the picture.
-SIGNS = {"open": "\u2296", "short": "\u2715", "missing": "\u25a1", "gap": "\u21d4"}
+SIGNS = {"open": "\u2296", "short": "\u2715", "missing": "\u25a1", "gap": "\u21d4", "cut": "\u2298", "outside": "\u21f1",
+         "neck": "\u29d6"}
 # So many findings of a kind stand open, the further ones in folds; their suggestions stand in the data alone, which is packed.
 OPEN, FOLD = 300, 500
 FEW = 6             # files that are named

@@ -1,12 +1,11 @@
 """The findings as a marker database of KLayout (*.lyrdb): lengths are micrometres."""
-from boardnet_show.base.statuses import UNDECIDED
-from boardnet_show.extras.requested import GAPS
 from boardnet_show.findings.finding import doubt
 
 from .markup import escaped, for_xml
 
 KINDS = {"open": "Parts of a name that no copper joins", "short": "Names that copper joins", "missing": "Test points without copper",
-         "gap": "Nets that are too close", "wider": "Copper that the upper of two bounds has and the lower one has not",
+         "gap": "Nets that are too close", "cut": "What unplated holes part when the board is made", "outside": "What lies outside the board's edge",
+         "neck": "Joins that are narrower than asked for", "wider": "Copper that the upper of two bounds has and the lower one has not",
          "tie": "Declared ties of names that no test point has", "beside": "What was asked for besides", "board": "Why the board is not judged"}
 # Half the side of the box round a place, in u.
 HALF = 1_000_000
@@ -35,7 +34,7 @@ def values(board, finding):
         yield box(finding.gap.place)
     for meet in finding.meets:
         yield box(meet.place)
-    if finding.kind == "missing" or finding.kind == "short" and not finding.meets:
+    if finding.kind in ("missing", "outside") or finding.kind == "short" and not finding.meets:
         yield from map(box, spots)
     yield quoted(finding.sentence())
 
@@ -54,7 +53,7 @@ def items_of(shown):
     """Every cause of a status that is not 0, and where a board that lies between two bounds is wider above."""
     its, wider = items_of_board(shown) if shown.board else ([], [])
     its += [item("beside", name, [*(box(place[:2]) for place in places), quoted(words)])
-            for beside in shown.besides if beside.what != GAPS or beside.status not in (1, UNDECIDED) for name, words, places in beside.causes()]
+            for beside in shown.besides if not beside.are_findings for name, words, places in beside.causes()]
     return (its if its or not shown.status else [item("board", f"status {shown.status}", [quoted(shown.line)])]) + wider
 
 

@@ -1,7 +1,7 @@
 """What all forms are made of: a board, what is known of it, and what was asked for besides."""
-from typing import Any, Dict, List, NamedTuple, Optional, Sequence
+from typing import Any, Dict, List, NamedTuple, Optional, Sequence, Tuple
 
-from boardnet_show.extras.requested import Beside, Requested, status_with
+from boardnet_show.findings.besides import Beside, Requested, status_with
 from boardnet_show.findings.board import Board
 from boardnet_show.findings.explained import Explained
 from boardnet_show.findings.finding import Finding
@@ -58,12 +58,18 @@ class Shown(NamedTuple):
 
     @property
     def bounds(self) -> Optional[Bounded]:
-        """The answer between two boards, with gaps where they were looked for."""
+        """The answer between two boards, with what was looked for besides."""
         bounds = self.seen.bounds
         if not bounds or not self.requested.findings:
             return bounds
-        gaps = [(it.kind, it.sure, it.words[:-1], [(*it.gap.place, it.gap.layer)]) for it in self.requested.findings if it.gap]
-        return bounds._replace(findings=[*bounds.findings, *gaps])
+        more = [(it.kind, it.sure is not False, it.words[:-1], self.places(it)) for it in self.requested.findings]
+        return bounds._replace(findings=[*bounds.findings, *more])
+
+    def places(self, finding: Finding) -> List[Tuple[int, int, int]]:
+        """Where a finding is, by its gap or by its test points."""
+        if finding.gap:
+            return [(*finding.gap.place, finding.gap.layer)]
+        return [(*self.board.spot(point), self.board.layer(point)) for point in finding.points] if self.board else []
 
     @property
     def besides(self) -> Sequence[Beside]:

@@ -20,7 +20,7 @@ T1
 X0.0Y0.0
 X10.0Y0.0
 T2
-X5.0Y0.0
+X5.0Y5.0
 M30
 """
 TOLD = "p.drl: line 3, `; #@! TF.FileFunction,MixedPlating,1,2`, and each tool says whether it is plated: the holes of the unplated ones (T2) are left out, 1 line"
@@ -48,7 +48,7 @@ class Answers(made.Case):
             self.assertIn("The report was audited: it is true of these files, with copies in place of p.drl (mended). ", page)
             self.assertIn("<td>agrees, after 1 mend (status 0)</td>", page)
             self.assertIn("the record is of these files, and its report passes the audit on the copies that were judged", self.show("board", "--verify", "r.json", program=program)[1])
-        self.board({**BOARD, "p.drl": DRILL.replace("MixedPlating", "Plated").replace("T2\nX5.0Y0.0\n", "")})
+        self.board({**BOARD, "p.drl": DRILL.replace("MixedPlating", "Plated").replace("T2\nX5.0Y5.0\n", "")})
         self.show("board", "--page", "p.html")
         self.assertTrue('<p class="verdict">Agrees. The copper joins ' in self.read("p.html") and "it is true of these files. " in self.read("p.html"))
 
@@ -60,7 +60,7 @@ class Answers(made.Case):
         self.assertEqual((status, out.splitlines()[0]), (1, "board: differs, opens 1, shorts 0, missing 0, after 1 mend (audit true)"))
 
     def test_nothing_to_mend(self):
-        files = {**BOARD, "p.drl": DRILL.replace("MixedPlating", "Plated").replace("T2\nX5.0Y0.0\n", "")}
+        files = {**BOARD, "p.drl": DRILL.replace("MixedPlating", "Plated").replace("T2\nX5.0Y5.0\n", "")}
         self.board(files)
         status, out, _ = self.show("board", "--json", "-")
         told = json.loads(out)["boards"][0]
@@ -71,7 +71,7 @@ class Answers(made.Case):
         for number, program in enumerate(self.over_both()):
             self.board(BOARD)
             self.assertEqual(self.show("board", "--keep", f"kept{number}", program=program)[0], 0)
-            self.assertEqual(self.read(f"kept{number}/p.drl"), DRILL.replace("MixedPlating", "Plated").replace("X5.0Y0.0", ""))
+            self.assertEqual(self.read(f"kept{number}/p.drl"), DRILL.replace("MixedPlating", "Plated").replace("X5.0Y5.0", ""))
             self.assertEqual(self.run_words([program, "audit", "m.json", "report.txt"], self.path(f"kept{number}"))[:2], (0, "audit true\n"))
 
     def test_between_bounds(self):

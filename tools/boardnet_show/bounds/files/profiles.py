@@ -1,7 +1,6 @@
 """Where the board is, for negative files: within the centre lines and contours of the files beside it that say by their own `TF.FileFunction`
 that they are its profile. Its inside is by even and odd of what closes.
 """
-import os
 from collections import defaultdict
 from typing import NamedTuple
 
@@ -9,15 +8,11 @@ from boardnet_show.base.wording import millimetres
 from boardnet_show.bounds.polarity.dark_and_clear import Object, box
 from boardnet_show.bounds.polarity.negative import around
 from boardnet_show.bounds.primitives.rounded_contours import Walked, rounded_contour
-from boardnet_show.formats import gerber_attributes
 from boardnet_show.formats.gerber_machine import ANTICLOCKWISE
 from boardnet_show.geometry.exact import Refused
 from boardnet_show.geometry.segments import Segments, edges, odd_inside, segments_within
-from boardnet_show.intake.file_names import MOST_BYTES
 
 from .bounded_file import Copper
-
-HEAD = 4096         # bytes of a file in which its function is looked for
 
 
 class Outline(NamedTuple):
@@ -26,21 +21,6 @@ class Outline(NamedTuple):
     objects: list
     why: str
     box: tuple
-
-
-def profiles_of(folder):
-    """The texts of the profile files of a folder; a file that cannot be read says nothing."""
-    found = []
-    for path in (os.path.join(folder, name) for name in sorted(os.listdir(folder))):
-        try:
-            if os.path.isfile(path) and os.path.getsize(path) <= MOST_BYTES:
-                with open(path, "rb") as file:
-                    if any(it.fields[1:2] == [b"Profile"] for it in gerber_attributes.functions(file.read(HEAD))):
-                        file.seek(0)
-                        found.append(file.read().decode("latin-1"))
-        except OSError:
-            pass
-    return found
 
 
 def outline_of(profiles, texts):

@@ -139,7 +139,23 @@ function gapShown(f) {
     more() { return f.points.length ? [pointList(f.points)] : []; },
   };
 }
-const makers = {open: openShown, short: shortShown, missing: missingShown, gap: gapShown};
+// A net that a hole or the edge parts, a point that loses its copper when the board is made, or a neck.
+function madeShown(f) {
+  const nets = f.nets.map(net => grouped(piecesOf(net))), place = f.gap?.slice(0, 2);
+  let box = NOTHING;
+  for (const p of f.points) box = around(box, pointXs[p], pointYs[p]);
+  return {
+    f, layers: f.points.map(p => pointLayers[p]), box: place ? around(box, ...place) : box,
+    legend: f.nets.map((net, k) => [k, `${netWords(net)}: ${plural(piecesOf(net).length, "piece")}`]),
+    draw() {
+      nets.forEach((part, k) => drawNet(part, lookOf(k)));
+      f.points.forEach((p, k) => ring(p, k % 2, pinOrVia(p), k % 2 ? 1 : -1));
+      if (place) meet(...place, kindOf(f));
+    },
+    more() { return [pointList(f.points)]; },
+  };
+}
+const makers = {open: openShown, short: shortShown, missing: missingShown, gap: gapShown, cut: madeShown, outside: madeShown, neck: madeShown};
 const numbered = {net: [board.netCount, netShown], piece: [pieceCount, pieceShown], point: [pointCount, pointShown]};
 const byId = new Map(findings.map(f => [f.id, f]));
 function shownBy(id) {

@@ -41,7 +41,7 @@ function drawScale() {
 
 // ---- where the findings are: a mark's form tells the kind, not its colour alone
 const kindOf = f => f.id.split("-")[0];
-const anchorOf = f => f.meets?.length ? [f.meets[0].x, f.meets[0].y] : kindOf(f) === "gap" ? f.gap.slice(0, 2) : [pointXs[f.points[0]], pointYs[f.points[0]]];
+const anchorOf = f => f.meets?.length ? [f.meets[0].x, f.meets[0].y] : ["gap", "cut", "neck"].includes(kindOf(f)) ? f.gap.slice(0, 2) : [pointXs[f.points[0]], pointYs[f.points[0]]];
 const anchors = findings.map(f => { const [x, y] = anchorOf(f); return {f, x, y}; });
 const marks = {
   open(x, y, size) {
@@ -56,6 +56,21 @@ const marks = {
   missing(x, y, size) { marker.rect(x - size, y - size, 2 * size, 2 * size); },
   gap(x, y, size) {
     for (const side of [-0.45, 0.45]) { marker.moveTo(x + side * size, y - size); marker.lineTo(x + side * size, y + size); }
+  },
+  cut(x, y, size) {
+    marker.arc(x, y, size, 0, 2 * Math.PI);
+    marker.moveTo(x - size * 0.7, y + size * 0.7);
+    marker.lineTo(x + size * 0.7, y - size * 0.7);
+  },
+  neck(x, y, size) {
+    for (const side of [-1, 1]) { marker.moveTo(x - size, y + side * size); marker.quadraticCurveTo(x, y, x + size, y + side * size); }
+  },
+  outside(x, y, size) {
+    marker.moveTo(x - size, y + size);
+    marker.lineTo(x + size, y - size);
+    marker.lineTo(x, y - size);
+    marker.moveTo(x + size, y - size);
+    marker.lineTo(x + size, y);
   },
 };
 function kindMark(kind, x, y, size) {

@@ -1,0 +1,93 @@
+"""Copper with every shape drawn in by half a width, so that what is left joins only where a disc of that width goes through.
+
+LOWER draws in each piece by itself: a draw and a flash by their radius, an area by what lies near its edges, but for edges at which
+areas abut. What a disc of the width can run through has all of that and maybe more. UPPER draws in what the pieces of a net make
+together on a layer.
+"""
+from collections import defaultdict
+from typing import Dict, Iterable, Iterator, List, Sequence, Set, Tuple
+
+from boardnet_show.bounds.polarity import dark_and_clear
+from boardnet_show.bounds.polarity.dark_and_clear import Object
+from boardnet_show.geometry.exact import Refused
+from boardnet_show.geometry.segments import edges
+from boardnet_show.geometry.shapes import Shapes
+
+Spot = Tuple[int, int]
+Edge = Tuple[Spot, Spot]
+# Edges of a layer's areas that are drawn in: a sweep of more takes minutes.
+MOST_EDGES = 60_000
+
+
+def key(edge: Edge) -> Edge:
+    """An edge, whichever way it is run along."""
+    return min(edge), max(edge)
+
+
+def own_edges(corners: List[Spot]) -> List[Edge]:
+    return [(a, b) for a, b in edges(corners) if a != b]
+
+
+def abutting(areas: Dict[int, List[Spot]]) -> Tuple[List[List[int]], Set[Edge]]:
+    """Areas in groups of those that have whole edges in common, and these edges."""
+    first: Dict[Edge, int] = {}
+    group, shared = {number: [number] for number in areas}, set()
+    for number, corners in areas.items():
+        for edge in map(key, own_edges(corners)):
+            other = first.setdefault(edge, number)
+            if other == number:
+                continue
+            shared.add(edge)
+            one, two = group[other], group[number]
+            if one is not two:
+                one += two
+                for moved in two:
+                    group[moved] = one
+    return list({id(its): its for its in group.values()}.values()), shared
+
+
+def rims(lines: Iterable[Edge], half: int) -> List[tuple]:
+    """What lies within half a width of edges."""
+    return [("capsule", a, b, half) for a, b in lines]
+
+
+def lower_areas(shapes: Shapes, pieces: Sequence[int], half: int) -> Iterator[tuple]:
+    """What is left for certain of a layer's areas."""
+    areas = {piece: shapes.places(piece) for piece in pieces}
+    if sum(map(len, areas.values())) > MOST_EDGES:
+        raise Refused(f"a layer's areas have over {MOST_EDGES} edges")
+    groups, shared = abutting(areas)
+    for its in groups:
+        lines = [edge for piece in its for edge in own_edges(areas[piece]) if key(edge) not in shared]
+        dark = [("area", areas[piece]) for piece in its]
+        objects = [Object(True, (dark, dark), 0), Object(False, (rims(lines, half),) * 2, 0)]
+        yield from (piece for piece, _ in dark_and_clear.cut(objects)[1])
+
+
+def lower_layer(shapes: Shapes, pieces: Sequence[int], half: int) -> Iterator[tuple]:
+    """What is left for certain of a layer's pieces."""
+    for piece in pieces:
+        if not shapes.is_area(piece) and shapes.radius[piece] > half:
+            _, a, b, radius = shapes.solid(piece)
+            yield "capsule", a, b, radius - half
+    yield from lower_areas(shapes, [piece for piece in pieces if shapes.is_area(piece)], half)
+
+
+def upper_layer(shapes: Shapes, pieces: Sequence[int], half: int) -> Iterator[tuple]:
+    """All that may be left of what some pieces of a layer make together."""
+    darks = [Object(True, ([shapes.solid(piece)],) * 2, 0) for piece in pieces]
+    together = dark_and_clear.cut(darks, {0})[2]
+    lines = [edge for (_, corners), _ in together for edge in own_edges(corners)]
+    if len(lines) > MOST_EDGES:
+        raise Refused(f"a net's copper on a layer has over {MOST_EDGES} edges")
+    dark = [piece for piece, _ in together]
+    yield from (piece for piece, _ in dark_and_clear.cut([Object(True, (dark, dark), 0), Object(False, (rims(lines, half),) * 2, 0)])[2])
+
+
+def by_layers(layer_of: Sequence[int], pieces: Iterable[int]) -> Dict[int, List[int]]:
+    """Pieces by their layers; those of no layer are none."""
+    found: Dict[int, List[int]] = defaultdict(list)
+    for piece in pieces:
+        if layer_of[piece]:
+            found[layer_of[piece]].append(piece)
+    return found

@@ -1,0 +1,28 @@
+"""Which looks at the board as it will be made are wanted: most boards have nothing that takes copper away, and loading them takes
+longer than a small board.
+"""
+from typing import Any
+
+from boardnet_show.base.wording import counted
+from boardnet_show.findings.besides import Requested
+from boardnet_show.findings.explained import Explained
+from boardnet_show.intake import profile_files, unplated_holes
+
+from . import thin_joins
+
+
+def requested(program: Any, judged: Any, seen: Explained, asked: Any) -> Requested:
+    """What unplated holes and the board's edge take away from a judged board, or that this was left away; and its necks."""
+    package, told = judged.package, Requested()
+    holes, profiles = list(unplated_holes.of_package(package)), profile_files.texts(package.around)
+    if asked.no_cuts and (holes or profiles):
+        words = [counted(sum(len(it.lines) for it in holes), "unplated hole")] if holes else []
+        what = " and ".join(words + (["the board's edge"] if profiles else []))
+        told = Requested(notes=[f"not looked at, as --no-cuts asks: the copper that {what} would take away"])
+    elif holes or profiles:
+        from . import looking
+        told = looking.requested(program, judged, seen.board, holes, profiles)
+    if asked.necks is not None:
+        from . import necks
+        return told.joined(necks.requested(program, judged, seen.board, asked.necks))
+    return told.joined(Requested(notes=thin_joins.notes(program, judged, seen.board)))

@@ -1,0 +1,70 @@
+"""What is found or made beside the answer on the netlist: how each part ended, and its findings."""
+from typing import Any, NamedTuple, Optional, Sequence, Tuple
+
+from boardnet_show.base.statuses import UNDECIDED, UNJUDGED
+
+from .finding import Finding, doubt
+
+GAPS, AS_MADE, NECKS = "gaps between nets", "the board as it is made", "necks"
+# What was found in its course: its name, words and places.
+Detail = Tuple[str, str, Any]
+
+
+class Beside(NamedTuple):
+    """What was asked for beside the netlist: its name in lists of cases, its own status, what became of it, and (name, words, places) of
+    each thing that was found."""
+
+    what: str
+    status: int
+    words: str
+    details: Tuple[Detail, ...] = ()
+    # Whether these are findings, which all forms have by themselves.
+    are_findings: bool = False
+
+    def causes(self) -> Sequence[Detail]:
+        """Why its status is not 0, or nothing."""
+        return ([*self.details] or [(self.what, self.words, ())]) if self.status else []
+
+
+class Requested(NamedTuple):
+    """What became of it: findings and notes for the board's, what is told besides in lines, and what there is of each kind."""
+
+    besides: Sequence[Beside] = ()
+    findings: Sequence[Finding] = ()
+    notes: Sequence[str] = ()
+    gap_count: Optional[int] = None
+    like: Any = None
+    tester: Any = None
+    record: Any = None
+
+    def joined(self, other: "Requested") -> "Requested":
+        """Both: lists one behind the other, and of the rest what is there."""
+        lists = ((*one, *two) for one, two in zip(self[:3], other[:3]))
+        return Requested(*lists, *(one if two is None else two for one, two in zip(self[3:], other[3:])))
+
+
+def lacking(what: str, why: str, details: Tuple[Detail, ...] = ()) -> Beside:
+    """Something that was asked for is not known."""
+    return Beside(what, UNJUDGED, why, details)
+
+
+def outcome(what: str, certain: int, possible: int, words: str, details: Tuple[Detail, ...] = ()) -> Beside:
+    """Something that was looked for beside the netlist, and how much of it there is."""
+    return Beside(what, 1 if certain else UNDECIDED if possible else 0, words, details)
+
+
+def found(what: str, findings: Sequence[Finding], words: str) -> Beside:
+    """Findings of a kind that was looked for."""
+    certain = sum(it.sure is not False for it in findings)
+    details = tuple((doubt(it) + it.id, it.sentence(), ()) for it in findings)
+    return outcome(what, certain, len(findings) - certain, words, details)._replace(are_findings=True)
+
+
+def status_with(status: int, besides: Sequence[Beside]) -> int:
+    """The status of a board with what was asked for besides: what is not known counts where all else is right, findings where no board differs."""
+    for it in besides:
+        if it.status == UNJUDGED:
+            status = status or UNJUDGED
+        elif status in (0, UNDECIDED):
+            status = it.status or status
+    return status

@@ -1,0 +1,105 @@
+"""The unplated holes of a board: of tools and of files that say that they are unplated, as they came."""
+import os
+from typing import Iterator, List, NamedTuple, Set
+
+from boardnet_show.base.statuses import BadCopper
+from boardnet_show.formats.drills.drill_lines import BODY, Hit, Pick, Rout, places_of
+from boardnet_show.formats.drills.drill_plating import Plating
+from boardnet_show.formats.drills.drilled_holes import add_drilled
+from boardnet_show.geometry.shapes import Shapes
+
+from . import drill_files, file_kinds
+from .file_names import MOST_BYTES, Refused
+from .package import Package
+
+
+class UnplatedHoles(NamedTuple):
+    """The unplated holes of a drill file, each with its line and its capsule; none where the file's numbers are not known."""
+
+    file: str
+    lines: List[int]
+    shapes: Shapes
+    is_read: bool = True
+
+
+class Source(NamedTuple):
+    """A drill file, and whether all its holes are unplated."""
+
+    name: str
+    data: bytes
+    is_all: bool
+
+
+def read_plain(path: str) -> bytes:
+    """The bytes of a plain file that is no longer than `check` takes, else none."""
+    try:
+        if not os.path.isfile(path) or os.path.getsize(path) > MOST_BYTES:
+            return b""
+        with open(path, "rb") as file:
+            return file.read()
+    except OSError:
+        return b""
+
+
+def is_exact(plating: Plating) -> bool:
+    """Whether every place of a drill file has numbers with a point, and so its places are known."""
+    numbers = (number for line in plating.lines for place in places_of(line.record()) for number in place if number)
+    return all(b"." in number for number in numbers)
+
+
+def unplated_lines(plating: Plating, is_all: bool) -> List[int]:
+    """The lines that make unplated holes."""
+    found, tool, unplated = [], 0, set(plating.unplated())
+    for line in plating.lines:
+        record = line.record() if line.part == BODY else None
+        tool = record.number if isinstance(record, Pick) else tool
+        if isinstance(record, (Hit, Rout)) and (is_all or tool in unplated):
+            found.append(line.number)
+    return found
+
+
+def is_unplated(name: str, data: bytes) -> bool:
+    """Whether a file that the manifest does not name is a drill file of unplated holes."""
+    if file_kinds.look(data).kind != "drill":
+        return False
+    plating = Plating(data)
+    if {fields[0] for _, fields, _ in plating.functions} == {"NonPlated"} or plating.is_unplated_alone():
+        return True
+    try:
+        found, _ = drill_files.of(name, data)
+    except Refused:
+        return False
+    return found is not None and found.span == (0, 0)
+
+
+def sources(package: Package) -> Iterator[Source]:
+    """The drill files that may have unplated holes: those of the manifest as they came, and those that it leaves out."""
+    for name in dict.fromkeys(name for name, _, _ in package.manifest.drills):
+        yield Source(name, read_plain(package.came.get(name, package.path(name))), False)
+    named: Set[str] = {os.path.realpath(os.path.join(package.around, name)) for name in package.manifest.names()}
+    for name in sorted(os.listdir(package.around)):
+        path = os.path.join(package.around, name)
+        data = b"" if os.path.realpath(path) in named else read_plain(path)
+        if is_unplated(name, data):
+            yield Source(name, data, True)
+
+
+def holes_of(source: Source) -> UnplatedHoles:
+    """The unplated holes of a drill file."""
+    plating, shapes = Plating(source.data), Shapes()
+    lines = unplated_lines(plating, source.is_all)
+    try:
+        if lines:
+            add_drilled(shapes, source.data, set(lines))
+        is_read = not lines or is_exact(plating) and len(shapes) == len(lines)
+    except BadCopper:
+        is_read = False
+    return UnplatedHoles(source.name, lines, shapes) if is_read else UnplatedHoles(source.name, [], Shapes(), False)
+
+
+def of_package(package: Package) -> Iterator[UnplatedHoles]:
+    """The unplated holes of each file that has some."""
+    for source in sources(package):
+        found = holes_of(source)
+        if found.lines or not found.is_read:
+            yield found
