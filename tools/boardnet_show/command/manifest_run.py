@@ -20,7 +20,7 @@ import sys
 from boardnet_show.base import writing
 from boardnet_show.base.statuses import Stop
 from boardnet_show.base.wording import printable
-from boardnet_show.intake import archives, gathering
+from boardnet_show.intake import archives, drill_numbers, gathering
 from boardnet_show.intake.file_names import Refused, shown
 from boardnet_show.intake.mends import mended_files as mends
 
@@ -85,7 +85,9 @@ def mended(folder, manifest, is_written):
     """The manifest with mended copies, where they are asked for; else it is said that `show` makes them."""
     copies = {}
     drills = [it["file"] for it in manifest["drills"]]
-    for name, data, told in mends.of_files(lambda name: bytes_of(folder, name), manifest["copper"], drills, manifest["netlist"]):
+    its = mends.of_files(lambda name: bytes_of(folder, name), manifest["copper"], drills, manifest["netlist"],
+                         lambda name, data: drill_numbers.settled(name, data, folder))
+    for name, data, told in its:
         for it in told:
             say(f"{'mended' if is_written else 'to be mended'}: {shown(it.words)}")
         if is_written:

@@ -1,8 +1,8 @@
 """How many decimals a drill file without points may mean, by holes that lie on through points of the netlist."""
 from typing import List, NamedTuple
 
-from boardnet_show.formats.drills.drill_lines import BODY, HEADER, Unit, lines, with_numbers
-from boardnet_show.formats.drills.drill_places import numbers, places
+from boardnet_show.formats.drills.drill_lines import BODY, HEADER, Unit, lines, numbers, with_numbers
+from boardnet_show.formats.drills.drill_places import places
 
 from .changes import DecimalsRead, DigitsRead
 from .layer_order import is_near, near_cells

@@ -7,6 +7,8 @@ from boardnet_show.base.statuses import REFUSED, Stop
 from boardnet_show.formats.drills.drill_plating import unplated_hole, unread_function
 from boardnet_show.intake.mends import mended_files as mends, netlist_mends
 
+from . import drill_numbers
+
 
 def mend(package, progress):
     """Rewrites what `check` refuses and the files say otherwise, in the package's folder; what was mended is noted in it."""
@@ -19,7 +21,9 @@ def mend(package, progress):
     netlist = package.manifest.netlist
     need_names(package, netlist)
     # A copy of a netlist that lies elsewhere cannot stand under its name, which is said where one is wanted.
-    for name, data, told in mends.of_files(lambda name: (read if name == netlist else bytes_of)(package, name), package.manifest.copper, drills, netlist):
+    its = mends.of_files(lambda name: (read if name == netlist else bytes_of)(package, name), package.manifest.copper, drills,
+                         netlist, lambda name, data: drill_numbers.settled(name, data, package.around))
+    for name, data, told in its:
         package.put(name, data)
         package.mends += told
 

@@ -7,7 +7,7 @@ import unittest
 
 from boardnet_show.base import refusals
 from boardnet_show.formats.drills import drill_plating
-from boardnet_show.intake import cad_tools, export_advice
+from boardnet_show.intake import cad_tools, drill_numbers, export_advice
 from boardnet_show.intake.mends import chords, copper_mends, drill_mends, mended_files, netlist_mends, table
 from boardnet_show.judging.answers import STOPPED, Answer
 from boardnet_show.output.sentences import answers as sentences
@@ -89,10 +89,19 @@ DRILLS = [
     (table.FORM, drill(header=("METRIC,000.000",)), HOLES, "line 2, `METRIC,000.000`"),
     (table.FORM, drill(header=("METRIC,TZ,0000.00",)), HOLES, "the unit alone is kept"),
     (table.FORM, drill(header=("M71",)), HOLES, "`M71`, says more than the unit"),
+    (table.NUMBERS, drill("T1", "X0Y0", "X+5000Y-00", header=("METRIC,TZ,000.000",)), HOLES, "line 2, `METRIC,TZ,000.000`, says how numbers without a point are read"),
+    (table.NUMBERS, drill("T1", "X0Y0", "X005Y0", header=(";FILE_FORMAT=3:4", "METRIC,LZ")), HOLES, "(3.4, trailing zeros left out)"),
+    (table.NUMBERS, drill("T1", "X000000Y000000", "X005000", header=("METRIC", "; FORMAT={3:3/ absolute / metric / keep zeros}")), HOLES, "line 3, `; FORMAT={3:3/"),
+    (table.HEADERS, "%\nM71\nT1C0.4F200S100\nX0.0Y0.0\nX5.0Y0.0\nM30\n", HOLES, "line 1, `%`, stands behind a header that is written of what the file says"),
+    (table.HEADERS, "; a comment\nT1C.4\nM71\n%\nT01\nX0.0Y0.0\nX5.0Y0.0\nM30\n", HOLES, "line 2, `T1C.4`, stands behind a header"),
+    (table.HEADERS, drill("T1C0.4", "X0.0Y0.0", "T001C0.4", "X5.0Y0.0", tools=()), HOLES, "line 3, `%`, stands behind a header"),
+    (table.REPEATS, drill("T1", "X0.0Y0.0", "R01X05.0"), HOLES, "repeats a hole: written out as 1 more"),
     (table.ENDS, HOLES.replace("%", "M95"), HOLES, "`M95`, ends the header"),
     (table.MACHINE, drill(tools=("T1F200S65C0.4",)), HOLES, "written as `T1C0.4`"),
     (table.MACHINE, drill("T1", "F200", "M47,drill", "X0.0Y0.0", "X5.0Y0.0", header=("METRIC", "DETECT,ON", "ATC,OFF")), HOLES, "`DETECT,ON` (and 3 more)"),
     (table.LIFT, drill("T1", "G00X0.0Y0.0", "M15", "G01X5.0Y0.0", "M17", "G05"), drill("T1", "G00X0.0Y0.0", "M15", "G01X5.0Y0.0", "M16", "G05"), "written as `M16`"),
+    (table.MACHINE, drill("T1", "X0.0Y0.0", "X5.0Y0.0", "M00", end=("M30",)), HOLES, "`M00`, says how the machine runs"),
+    (table.FORCE, drill("/", header=("METRIC", "R,H", "R,T", "R,C", "/"), end=("T1", "X0.0Y0.0", "X5.0Y0.0", "M30")), HOLES, "line 3, `R,H` (and 4 more)"),
     (table.FORCE, drill("G40", "G93X0Y0.0", "FMAT,2", "M17", "T1", "X0.0Y0.0", "X5.0Y0.0", front=("%", "M48"), header=("ICI,OFF", "VER,1", "METRIC"), end=("M30", "%")), HOLES, "line 1, `%` (and 7 more)"),
 ]
 DRILLS_STAY = {
@@ -100,14 +109,28 @@ DRILLS_STAY = {
     "a tool behind another that is plated": drill(*MIXED, header=("; #@! TF.FileFunction,MixedPlating,1,1", "METRIC"), tools=(*TOOLS[2:], *TOOLS[:2], "T3C0.5")),
     "M71 in a file of inches": drill("M71", "T1", "X0.0Y0.0", header=("INCH",)),
     "digits and a number without a point": drill("T1", "X0.0Y5", header=("METRIC,000.000",)),
-    "zeros and a number without a point": drill("T1", "X0.0Y5", header=("METRIC,LZ,000.000",)),
-    "a unit that only the body says": drill("M71", "T1", "X0.0Y0.0", header=()),
+    "zeros and a number without a point": drill("T1", "X0.0Y5", header=("METRIC,LZ",)),
+    "a unit behind the first hole": drill("T1", "X0.0Y0.0", "M71", "X5.0Y0.0", header=()),
+    "a header without a tool": "%\nM71\nX0.0Y0.0\nM30\n",
+    "a tool of two sizes in the body": "%\nM71\nT1C0.4\nX0.0Y0.0\nT1C0.5\nX5.0Y0.0\nM30\n",
+    "a repeat without a hole": drill("T1", "R3X1.0", "X5.0Y0.0"),
+    "a repeat behind a slot": drill("T1", "X0.0Y0.0G85X1.0Y0.0", "R3X1.0"),
+    "a place that goes on from a repeat": drill("T1", "X0.0Y0.0", "R1X5.0", "Y1.0"),
+    "repeats that a comment counts otherwise": drill("T1", "X0.0Y0.0", "R2X5.0", tools=(
+        ";T01 Holesize 1. = 0.4 Tolerance = +0.0/-0.0 PLATED MM Quantity = 2", "T1C0.4")),
+    "tools cleared": drill(tools=("T1C0.4", "R,T")),
+    "a stop between holes": drill("T1", "X0.0Y0.0", "M00", "X5.0Y0.0"),
     "another zero": drill("G93X0Y1.0", "T1", "X0.0Y0.0"),
     "increments": drill(header=("ICI,ON", "METRIC")),
     "format 1": drill(header=("FMAT,1", "METRIC")),
     "a sign in the body": drill("T1", "X0.0Y0.0", "%"),
     "a tool of two sizes": drill(tools=("T1C0.4C0.5",)),
 }
+
+
+def mended_drill(data):
+    """A drill file as `show` mends it, with nothing beside it."""
+    return drill_mends.mended(data, drill_numbers.settled("f.drl", data, ""))
 
 
 def tables(text):
@@ -159,7 +182,7 @@ class Mends(common.Case):
     def test_same_boards(self):
         """Every mended file with its kind, and one report of all that is the same as that of the files that `check` takes."""
         copper = [self.one(copper_mends.mended, text, kind, words) for kind, text, _, words in COPPER]
-        drills = [self.one(drill_mends.mended, text, kind, words) for kind, text, _, words in DRILLS]
+        drills = [self.one(mended_drill, text, kind, words) for kind, text, _, words in DRILLS]
         status, out, notes = self.report("mended", copper, drills)
         self.assertIn(status, (0, 1), notes)
         plain = self.report("plain", [row[2] for row in COPPER], [row[2] for row in DRILLS])
@@ -171,7 +194,9 @@ class Mends(common.Case):
     def test_places_keep_their_numbers(self):
         """Commands, lines and their counts are those of the file as it was."""
         for kind, text, _, _ in COPPER + DRILLS:
-            mended = copper_mends.mended if text.startswith("%") and "*" in text else drill_mends.mended
+            mended = copper_mends.mended if text.startswith("%") and "*" in text else mended_drill
+            if kind in (table.HEADERS, table.REPEATS):
+                continue
             data = mended(text.encode())[0].decode()
             self.assertEqual(data.count("\n"), text.count("\n"), text)
             if mended is copper_mends.mended and kind != table.TURN:
@@ -275,7 +300,7 @@ class Mends(common.Case):
             for name in names:
                 with open(os.path.join(folder, name), "rb") as file:
                     data = file.read()
-                mended = copper_mends.mended if name.endswith(".gbr") else drill_mends.mended if name.endswith(".drl") else None
+                mended = copper_mends.mended if name.endswith(".gbr") else mended_drill if name.endswith(".drl") else None
                 if mended and b"%AM" not in data:
                     self.assertEqual(mended(data), (data, []), name)
 

@@ -3,7 +3,7 @@
 Nothing is judged. A record has numbers as they are written: what they mean is a matter of unit and digits.
 """
 import re
-from typing import Callable, Dict, Iterator, NamedTuple, Optional, Sequence, Tuple, Union
+from typing import Callable, Dict, Iterator, List, NamedTuple, Optional, Sequence, Tuple, Union
 
 from boardnet_show.formats.units import INCH, MM
 
@@ -159,6 +159,12 @@ def places_of(record: Record) -> Tuple[Place, ...]:
     if isinstance(record, Hit):
         return record.places
     return (record.place,) if isinstance(record, (Move, Rout)) else ()
+
+
+def numbers(record: Record) -> List[bytes]:
+    """The numbers of a line's places, and of the step of repeats."""
+    places = (record.step,) if isinstance(record, Repeat) else places_of(record)
+    return [number for place in places for number in place if number is not None]
 
 
 def text_of(record: Record, places: Sequence[Place]) -> bytes:

@@ -1,8 +1,8 @@
 """The places of a drill file whose numbers have points, in u."""
 from functools import lru_cache
-from typing import Iterator, List, Optional, Tuple
+from typing import Iterator, Optional, Tuple
 
-from .drill_lines import BODY, Record, Unit, lines, places_of
+from .drill_lines import BODY, Unit, lines, places_of
 
 MANY = 20_000
 
@@ -32,8 +32,3 @@ def places(data: bytes) -> Iterator[Tuple[int, int]]:
                     if number is not None:
                         at[axis] = length(number, unit or 0)
                 yield at[0], at[1]
-
-
-def numbers(record: Record) -> List[bytes]:
-    """The numbers of a line's places."""
-    return [number for place in places_of(record) for number in place if number is not None]

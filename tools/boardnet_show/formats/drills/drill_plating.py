@@ -7,6 +7,7 @@ in each form of it.
 import re
 from typing import Dict, Iterator, List, Optional, Set, Tuple
 
+from .drill_headers import headed
 from .drill_lines import BODY, Comment, Hit, Line, Pick, Rout, Tool, lines
 
 # The one form of a file's function that `check` reads; the others are comments to it.
@@ -47,14 +48,16 @@ class Plating:
     `functions` are the fields of each file function, with its line and whether `check` reads it."""
 
     def __init__(self, data: bytes) -> None:
-        self.lines = list(lines(data))
+        self.head = headed(data)
+        self.lines = list(lines(self.head.data))
         self.called: Dict[int, Set[bool]] = {}
         self.unplated_line = 0
         self.said: Set[bool] = set()
         self.types: Set[Kind] = set()
         self.numbered: Dict[int, Set[bool]] = {}
         self.starts: List[Tuple[int, bool]] = []
-        self.functions: List[Function] = list(functions_of(self.lines)) if b"TF.FileFunction" in data else []
+        its = functions_of(self.lines) if b"TF.FileFunction" in data else ()
+        self.functions: List[Function] = [(self.head.line(number), fields, is_read) for number, fields, is_read in its]
         self.own: Kind = None
         self.lasting: Kind = None
         self.behind: Kind = None
@@ -95,7 +98,7 @@ class Plating:
         self.said |= set_of(self.lasting if kind else self.own if attribute else None)
         numbered = [is_plated(it) for it in (size and size[3], start and start[1]) if it]
         if not self.unplated_line and False in (self.own, self.lasting, *numbered):
-            self.unplated_line = number
+            self.unplated_line = self.head.line(number)
 
     def is_mixed(self) -> bool:
         """Whether the file has unplated holes: as it says of itself, or else as its tools say, each word that of a
@@ -130,7 +133,7 @@ class Plating:
                 continue
             record = line.record()
             if isinstance(record, (Hit, Rout)):
-                yield line.number, called
+                yield self.head.line(line.number), called
             elif isinstance(record, (Comment, Pick)):
                 said = TYPE.match(line.text)
                 kind = is_plated(said[1]) if said and said[1] else None if said else kind

@@ -12,6 +12,7 @@ class Row(namedtuple("Row", "kind sees writes why told")):
 
 # Drill files.
 PLATING, UNIT, FORM, ENDS, MACHINE, LIFT, FORCE = "plating", "unit", "unit form", "header's end", "machine", "lift", "in force"
+NUMBERS, HEADERS, REPEATS = "numbers", "header", "repeats"
 # Netlists.
 ALIAS, NAME, CHARACTERS, METRIC, VIA, CONTINUED, NO_POINT, LAYER, PAPER = \
     "alias", "name", "characters", "metric", "via", "continued", "no point", "layer", "paper"
@@ -20,19 +21,24 @@ IDENTITY, STRAIGHT, STATE, FORMAT, END, UNUSED, LINES, TURN, CONTOUR = \
     "identity", "straight", "state", "format", "end", "unused", "macro lines", "macro turn", "contour"
 
 ROWS = (
-    Row(PLATING, "a drill file of plated and unplated holes, or of unplated ones alone (`MixedPlating`, or no file function) where each tool says which it is: by `; #@! TA.AperFunction,Plated,..` "
-        "or `NonPlated,..` before it, `;TYPE=PLATED` or `NON_PLATED` before tools, or comments of Allegro or Fritzing",
+    Row(PLATING, "a drill file with unplated holes (`MixedPlating`, or no file function) where each tool says which it is: by "
+        "`; #@! TA.AperFunction,..` or `;TYPE=..` before it, or in comments of Allegro or Fritzing",
         "the holes of plated tools alone; `Plated` for `MixedPlating`; a place that went on from a hole that goes gets both coordinates",
         "an unplated hole joins nothing", "each tool says whether it is plated"),
     Row(UNIT, "`M71`, `M72`, `METRIC` or `INCH` again, where it says the header's unit", "an empty line", "the unit is in force", "says the unit that the header says: left out"),
     Row(FORM, "`METRIC` or `INCH` with digits (`,000.000`, `,TZ,0000.00`), or in their place `M71` or `M72` in the header, where every number of the file has a point",
         "the unit alone", "a number with a point needs no word on its zeros", "says more than the unit, and every number has a point: the unit alone is kept"),
+    Row(NUMBERS, "numbers without a point, where the file says their digits (`;FILE_FORMAT=2:5`, `FORMAT={3:3/`, `,000.000`) "
+        "and zeros (`LZ`, `TZ`, or all stand), or nc_param.txt or its .dri beside it does", "each number with its point", "no number contradicts them", ""),
+    Row(HEADERS, "no `M48`, but tools in Allegro's comments or lines such as `T1C0.028F200S100`; a unit behind the tools, before any hole",
+        "a header of these; later lines count more", "the file says them", ""),
+    Row(REPEATS, "`R<n>X..Y..` behind a hole", "the holes; later lines count more", "each is a step further", "repeats a hole: written out"),
     Row(ENDS, "`M95` in the header", "`%`", "both end the header", "ends the header: written as `%`"),
     Row(MACHINE, "feed, speed, retract, hits and depth of a tool (`F`, `S`, `B`, `H`, `Z`); lines of `F` and `S`; `ATC`, `BLKD`, `DETECT`, `OSTOP`, `SBK`, `SG`, `TCST` "
-        "with `,ON` or `,OFF`; `M47` with a message", "the tool's diameter alone; an empty line", "they say how the machine runs, and not where a hole is",
+        "with `,ON` or `,OFF`; `M47` with a message; `M00` before a tool or the end", "the tool's diameter alone; an empty line", "they say how the machine runs, and not where a hole is",
         "says how the machine runs: left out"),
     Row(LIFT, "`M17` with the tool down", "`M16`", "both lift the tool", "lifts the tool: written as `M16`"),
-    Row(FORCE, "`ICI,OFF`, `VER,1`, `G40`, `G93X0Y0`; `FMAT,2` in the body; `G05` in the header; `M17` with the tool up; `%` before `M48` or behind `M30`",
+    Row(FORCE, "`ICI,OFF`, `VER,1`, `G40`, `G93X0Y0`, `/`; `FMAT,2` in the body; `G05`, `R,H`, `R,C` in the header, `R,T` before its tools; `M17` with the tool up; `%` before `M48` or behind `M30`",
         "an empty line", "it is in force without it", "says what is in force anyway: left out"),
     Row(IDENTITY, "`OF`, `MI`, `IR` of 0 and `SF` of 1, however written (`OFA0.00000B0.00000`); `SRX1Y1` without steps; a hole of size 0 in an aperture",
         "the same as `check` takes it (`OFA0B0`)", "it moves, mirrors, turns, scales and repeats nothing", "changes nothing, by its value: written as `check` takes it"),

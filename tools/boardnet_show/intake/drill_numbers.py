@@ -1,0 +1,90 @@
+"""How the numbers of drill files without points are read: as the file itself says, or one that its tool writes beside
+it."""
+import os
+import re
+from typing import List, Optional, Tuple
+
+from boardnet_show.base.statuses import REFUSED, Stop
+from boardnet_show.formats.drills.drill_lines import BODY, FRONT, Mode, Tool, Unit, lines
+from boardnet_show.formats.drills.number_forms import Contradiction, Said, Settled, bare_numbers, said_of
+
+from .file_names import MOST_BYTES
+
+BARE = re.compile(rb"^[^;\n]*[XY][+-]?[0-9]+(?![0-9.])", re.M)
+
+
+def says_unit_first(data: bytes) -> bool:
+    """Whether the header says the unit before its tools."""
+    for line in lines(data):
+        record = line.record() if line.text[:1] in b"MIT" else None
+        if isinstance(record, (Unit, Mode)) and line.part != FRONT:
+            return line.part != BODY
+        if isinstance(record, Tool) or line.part == BODY:
+            return False
+    return False
+
+
+def needs_reading(data: bytes) -> bool:
+    """Whether a drill file has numbers without a point, or no unit where it is looked for."""
+    return bool(BARE.search(data)) or not says_unit_first(data)
+
+
+class Folder:
+    """The files that lie in one folder, for those that are asked after beside another."""
+
+    def __init__(self, home: str) -> None:
+        self.home = home
+
+    def names(self, name: str) -> List[str]:
+        """The names of the files beside one."""
+        try:
+            return sorted(os.listdir(os.path.join(self.home, os.path.dirname(name))))
+        except OSError:
+            return []
+
+    def read(self, name: str) -> bytes:
+        try:
+            with open(os.path.join(self.home, name), "rb") as file:
+                return file.read(MOST_BYTES)
+        except OSError:
+            return b""
+
+
+def said(name: str, data: bytes, home: str) -> Tuple[Said, str]:
+    """What a drill file says of its numbers, with what is said beside it, in words; a Contradiction where it says two
+    things."""
+    from boardnet_show.formats.drills.companions import agreed, companion_of    # few boards want them
+    folder, base = Folder(home), os.path.basename(name)
+    inside = os.path.dirname(name)
+    beside = companion_of(base, data, folder.names(name), lambda other: folder.read(os.path.join(inside, other)))
+    its = said_of(data)
+    return (agreed(its, beside), f"{beside.name} beside it says {beside.words}") if beside else (its, "")
+
+
+def read_by(data: bytes, its: Said, why: str) -> Optional[Settled]:
+    """How a file is read by what is said, where that is enough; a Contradiction where its numbers are no such
+    numbers."""
+    bare = bare_numbers(data) if BARE.search(data) else []
+    form = its.form(bare) if bare else None
+    if its.unit is None or bare and form is None:
+        return None
+    wrong = form.wrong_number(bare) if form else None
+    if wrong and form:
+        number = wrong[1].decode("latin-1")
+        raise Contradiction(f"line {wrong[0]} has the number {number}, which is none of {form.words()}"
+                            + (f", as {why}" if why else ""))
+    return Settled(its.unit, form, its.line if not why else 0, why)
+
+
+def settled(name: str, data: bytes, home: str) -> Optional[Settled]:
+    """How a drill file is read; nothing where nothing is to be settled, or too little is said. One that contradicts
+    itself or what lies beside it is refused."""
+    if not needs_reading(data):
+        return None
+    try:
+        return read_by(data, *said(name, data, home))
+    except Contradiction as why:
+        if not BARE.search(data):
+            return None
+        raise Stop(REFUSED, f"{name}: its numbers have no one meaning: {why}; to export: drill files with a decimal "
+                            "point in each number") from None
