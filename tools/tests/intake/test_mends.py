@@ -26,6 +26,16 @@ def macro(words, more="", flash="%ADD11M*%\nD11*\nX0Y5000000D03*\n"):
     return HEAD + PADS + f"%AMM*\n{words}*%\n" + more + flash + END
 
 
+# Numbers of six digits, all of them or without trailing zeros, and a region between contours that enclose nothing.
+DIGITS = "%FSLAX24Y24*%\n%MOIN*%\n%ADD10C,0.04*%\nD10*\nX000000Y000000D03*\nX-012000Y000500D02*\nX000000D01*\n" + END
+SHORT = ["X0Y0D02*\nX0Y0D01*\n", "X0Y0D02*\nX9Y5D01*\nX0Y0D01*\n"]
+SQUARE = "X0Y0D02*\nX5000000D01*\nY5000000D01*\nX0Y0D01*\n"
+
+
+def region(*contours):
+    return PLAIN.replace(END, "G36*\n" + "".join(contours) + "G37*\nD10*\nX9Y9D03*\n" + END)
+
+
 # The kind, a file as a tool writes it, a file of the same copper that `check` or `flatten` takes, and what the sentence has.
 COPPER = [
     (table.IDENTITY, HEAD + ALLEGRO + PADS + DRAW + END, PLAIN, "line 3, `OFA0.00000B0.00000` (and 1 more)"),
@@ -37,6 +47,19 @@ COPPER = [
     (table.STRAIGHT, PLAIN.replace("X5000000Y0D01", "G01X5000000I0J-00D01"), PLAIN, "is straight"),
     (table.STATE, PLAIN.replace("D10*\nX0Y0D02", "G03*\nD10*\nX0Y0D02*\nG01*\nX0Y0D02"), PLAIN, "line 7, `G03`, has no effect"),
     (table.STATE, PLAIN.replace("X5000000Y0D03", "G55X5000000Y0D03").replace("M02", "M01*\nM02"), PLAIN, "`G55X5000000Y0D03` (and 1 more)"),
+    (table.STATE, PLAIN.replace("M02", "M00*\n*\nG04 end*\nM02"), PLAIN, "line 10, `M00`, has no effect"),
+    (table.STATE, PLAIN.replace("%MOMM", "%ICAS*MOMM"), PLAIN, "line 2, `ICAS`, has no effect"),
+    (table.DIGITS, DIGITS.replace("FSLA", "FSA"), DIGITS, "line 1, `FSAX24Y24`, says another thing of zeros"),
+    (table.DIGITS, DIGITS.replace("FSLAX", "FSAN2X").replace("24*", "24D2*"), DIGITS, "FSAN2X24Y24D2"),
+    (table.DIGITS, DIGITS.replace("FSLA", "FSTA"), DIGITS, "`FSTAX24Y24`"),
+    (table.DIGITS, DIGITS.replace("FSLA", "FSTA").replace("X-012000Y000500", "X-012Y0005").replace("000000", "0"), DIGITS, "`FSTAX24Y24`"),
+    (table.FURTHER_MOVE, PLAIN.replace("X0Y0D02*", "X7Y7D02*\nX0Y5*\nG04 x*\n*\nY0*"), PLAIN, "line 9, `X0Y5` (and 1 more), has no code behind a move"),
+    (table.FURTHER_MOVE, PLAIN.replace("X0Y0D02*", "D2*X0Y0*"), PLAIN, "line 8, `X0Y0`, has no code"),
+    (table.COMMENT_LINES, PLAIN.replace("D10*\nX0Y0D02", "G04 words\r\n  of two lines\n*\nD10*\nX0Y0D02"), PLAIN, "line 7, `G04 words of two lines`, is a comment over several lines"),
+    (table.NO_AREA, region(SHORT[0], SQUARE), region(SQUARE), "line 12, `X0Y0D01`, begins a contour of one or two edges"),
+    (table.NO_AREA, region(SQUARE, SHORT[1]), region(SQUARE), "line 16, `X9Y5D01`, begins a contour"),
+    (table.NO_AREA, region(*SHORT, SQUARE, *SHORT), region(SQUARE), "`X0Y0D01` (and 3 more)"),
+    (table.NO_AREA, region("X0Y0D01*\n").replace("G36*", "X0Y0D02*\nG36*"), region(""), "line 12, `X0Y0D01`"),
     (table.FORMAT, PLAIN.replace("%FSLAX46Y46*", "%FSLAN2X46Y46D2M2*"), PLAIN, "FSLAN2X46Y46D2M2"),
     (table.END, PLAIN.replace("M02", "M00"), PLAIN, "`M00`, ends the file"),
     (table.UNUSED, HEAD + "%AMOC8*\n5,1,8,0,0,1.08239X$1,22.5*\n%\n" + PADS + DRAW + END, PLAIN, "line 3, `AMOC8`, is used by no draw"),
@@ -67,6 +90,29 @@ COPPER_STAYS = {
     "a turn of 45": macro("21,1,1.0,0.5,0,0,$1", flash="%ADD11M,90*%\n%ADD12M,45*%\nD11*\nX0Y5000000D03*\nD12*\nX5000000D03*\n"),
     "a turn of nearly 90": macro("21,1,1.0,0.5,0,0,$1", flash=f"%ADD11M,90.{'0' * 30}1*%\nD11*\nX0Y5000000D03*\n"),
     "a name for two macros": macro("5,1,8,0,0,1.0,22.5", "%AMM*\n1,1,1.0,0,0*%\n"),
+    "zeros that are not said": DIGITS.replace("FSLA", "FSA").replace("X000000D01", "X00000D01"),
+    "more digits than the format has": DIGITS.replace("FSLA", "FSTA").replace("X000000D01", "X0000001D01"),
+    "more digits, and nothing said of zeros": DIGITS.replace("FSLA", "FSA").replace("X000000D01", "X0000001D01"),
+    "zeros of incremental places": DIGITS.replace("FSLA", "FSTI"),
+    "two formats": DIGITS.replace("%MOIN*%", "%MOIN*%\n%FSTAX24Y24*%").replace("FSLA", "FSTA", 1).replace("FSTAX24Y24*%\n%MOIN", "FSTAX25Y25*%\n%MOIN"),
+    "axes of several formats": DIGITS.replace("FSLAX24Y24", "FSTAX24Y25"),
+    "a format without numbers": "%FSAX24Y24*%\n%MOIN*%\n" + END,
+    "coordinates behind a flash": PLAIN.replace("D10*\nX0Y0D02", "X1Y1D03*\nX3Y3*\nD10*\nX0Y0D02"),
+    "coordinates behind a move and an aperture": PLAIN.replace("X5000000Y0D01", "D10*\nX5000000Y0"),
+    "coordinates behind a move and a mode": PLAIN.replace("X5000000Y0D01", "G01X5000000Y0"),
+    "coordinates behind a move and a word of a mode": PLAIN.replace("X5000000Y0D01", "G01*\nX5000000Y0"),
+    "coordinates behind a move in a region": region("X0Y0D02*\nX5*\nY5*\nX0Y0*\n"),
+    "coordinates before all": PLAIN.replace("D10*\nX0Y0D03*\nX5000000Y0D03*\n", "G91*\nX0Y0*\n"),
+    "a comment without its star": PLAIN.replace("D10*\nX0Y0D02", "G04 words\nD10*\nX0Y0D02"),
+    "a comment without its star before a draw": PLAIN.replace("X5000000Y0D01", "G04 words\n more words\n  X5000000Y0D01"),
+    "an attribute in a comment of two lines": PLAIN.replace("D10*\nX0Y0D02", "G04 #@! TO.N,\nA*\nD10*\nX0Y0D02"),
+    "a stop before copper": PLAIN.replace("D10*\nX0Y0D02", "M00*\nD10*\nX0Y0D02"),
+    "two stops": PLAIN.replace("M02", "M00*\nM00*\nG91*\nM02"),
+    "another code of characters": PLAIN.replace("%MOMM", "%ICEB*MOMM"),
+    "an open contour of one edge": region("X0Y0D02*\nX9Y5D01*\n", SQUARE),
+    "a contour of two edges that ends elsewhere": region("X0Y0D02*\nX9Y5D01*\nX1Y0D01*\n", SQUARE),
+    "a contour of a circle": region("X0Y0D02*\nG75*\nG03X0Y0I5J0D01*\nG01*\n"),
+    "a contour of an arc and its chord": region("X0Y0D02*\nG75*\nG03X10Y0I5J0D01*\nG01X0Y0D01*\n"),
     "a sign without a partner": PLAIN.replace("%MOMM*%", "%MOMM*%\nG04 100% of it*\n%OFA0.0B0.0*%"),
 }
 

@@ -1,10 +1,11 @@
-"""The mends of a copper file. Words that go leave others without an effect behind, so that commands keep their numbers."""
+"""The mends of a copper file. Words that go leave others without an effect behind, so that commands keep their
+numbers."""
 from typing import List, Set, Tuple
 
 from boardnet_show.formats.gerber_lexer import Broken
 from boardnet_show.formats.gerber_machine import MOST_EDGES
 
-from . import definitions, identities
+from . import coordinate_forms, definitions, identities
 from .edits import Edits
 
 
@@ -20,13 +21,17 @@ def seldom(edits, macros, names):
 
 def mended(data):
     """A copper file as it is mended, and its mends; the same bytes where there are none."""
-    edits = Edits(data)
+    forms = Edits(data)
     try:
+        coordinate_forms.coordinates(forms)
+        edits = Edits(forms.mended_bytes() if forms.edits else data)
         identities.extended(edits)
         identities.plain(edits)
+        identities.comments(edits)
+        coordinate_forms.contours(edits)
         found = definitions.Definitions(edits)
         seldom(edits, found.rewrite(), {macro.name for macro in found.macros})
     except Broken:
         return data, []
-    mends = list(edits.mends())
+    mends = sorted([*forms.mends(), *edits.mends()], key=lambda mend: mend.line)
     return (edits.mended_bytes(), mends) if mends else (data, [])

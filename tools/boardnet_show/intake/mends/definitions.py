@@ -1,4 +1,5 @@
-"""Apertures and macros of a copper file: which are used, and those outside the profile that are not; words of macros broken over lines."""
+"""Apertures and macros of a copper file: which are used, and those outside the profile that are not; words of macros
+broken over lines."""
 import re
 from collections import defaultdict
 from typing import List, Optional, Set, Tuple
@@ -34,7 +35,8 @@ class Aperture:
 
     def is_whole(self) -> bool:
         """Whether it is a definition at all, and not a damaged word."""
-        return self.number >= LEAST_APERTURE and all(re.fullmatch(DECIMAL, value) for value in self.values) and len(self.values) >= SIZES.get(self.name, 0)
+        is_known = all(re.fullmatch(DECIMAL, value) for value in self.values)
+        return self.number >= LEAST_APERTURE and is_known and len(self.values) >= SIZES.get(self.name, 0)
 
     def is_taken(self, scale: int) -> bool:
         """Whether `check` takes the definition."""
@@ -94,7 +96,8 @@ class Definitions:
         return gone
 
     def rewrite(self) -> List[Tuple[Macro, List[Aperture]]]:
-        """Unused definitions go, and words of macros that are left are joined. The macros that are left, each with its apertures."""
+        """Unused definitions go, and words of macros that are left are joined. The macros that are left, each with
+        its apertures."""
         gone, by_name = set(self.unused()), defaultdict(list)
         left: List[Tuple[Macro, List[Aperture]]] = []
         for it in self.apertures:
@@ -115,7 +118,8 @@ class Definitions:
         self.edits.note(*macro.words[0][:2], UNUSED)
 
     def join(self, macro: Macro) -> None:
-        """Words over several lines in one; a break elsewhere than beside a comma or at the end, as in a number, stays."""
+        """Words over several lines in one; a break elsewhere than beside a comma or at the end, as in a number,
+        stays."""
         for at, (start, end, word) in enumerate(macro.words[1:], 1):
             if BLANK.search(word) and not word.startswith(b"0"):
                 joined = b",".join(part.strip(BLANKS) for part in word.split(b","))
@@ -125,7 +129,8 @@ class Definitions:
 
 
 class Use(Reading):
-    """The numbers of apertures that a draw outside regions or a flash has, also where a word is not known to be none."""
+    """The numbers of apertures that a draw outside regions or a flash has, also where a word is not known to be
+    none."""
 
     RUNS = PLAIN = True
 

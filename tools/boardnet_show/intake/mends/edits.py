@@ -12,7 +12,8 @@ SIZES = {b"C": 1, b"R": 2, b"O": 2}     # of a standard aperture
 
 
 class Reading(Machine):
-    """A file as mends read it: one that is not cut into words is left as it is, what has no star at its end is no word."""
+    """A file as mends read it: one that is not cut into words is left as it is, what has no star at its end is no
+    word."""
 
     def broken(self, data: bytes, broken: Broken) -> None:
         if broken.end < len(data):
@@ -45,7 +46,8 @@ class Edits:
         at[2] += 1
 
     def mended_bytes(self) -> bytes:
-        """The file as it is mended; line feeds of a word that has none any more stand behind it, so that lines keep their numbers."""
+        """The file as it is mended; line feeds of a word that has none any more stand behind it, so that lines keep
+        their numbers."""
         parts, at = [], 0
         for start in sorted(self.edits):
             end, text = self.edits[start]

@@ -1,13 +1,13 @@
 """Words of a copper file that change nothing, written as `check` takes them."""
 import re
 
-from typing import Optional
+from typing import Optional, cast
 
-from boardnet_show.formats.gerber_lexer import DECIMAL, OPERATION, Parts, Token, Word, has, in_u, pairs
-from boardnet_show.formats.gerber_machine import MODES, STRAIGHT
+from boardnet_show.formats.gerber_lexer import DECIMAL, OPERATION, Parts, Token, Word, has, holding, in_u, pairs
+from boardnet_show.formats.gerber_machine import ENDS, MODES, STRAIGHT
 
-from .edits import COMMENT, SIZES, Edits, Reading
-from .table import END, FORMAT, IDENTITY, STATE
+from .edits import COMMENT, NOTHING, SIZES, Edits, Reading
+from .table import COMMENT_LINES, END, FORMAT, FURTHER_MOVE, IDENTITY, STATE
 from .table import STRAIGHT as STRAIGHT_LINE
 
 TAKEN = (b"OFA0B0", b"MIA0B0", b"SFA1B1", b"SFA1.0B1.0", b"IR0")
@@ -22,6 +22,11 @@ NO_DRAWS = (b"2", b"3")
 STOPS = (b"M00", b"M0")
 # What a look at the words' states is for, beside centres of 0.
 SIGNS = (b"G02*", b"G2*", b"G03*", b"G3*", b"G55", b"M00*", b"M0*", b"M01*", b"M1*")
+# Coordinates alone behind a move; each expression begins with a text that is searched fast.
+COMMENTS = rb"\*[\t\n\r ]*(?:G04[^*%]*\*[\t\n\r ]*)*"
+BEHIND_MOVES = tuple(re.compile(move + COMMENTS + rb"[XY][0-9XY+-]*\*") for move in (b"D02", b"D2"))
+# What a comment's further lines may not begin with: as where its star is missing.
+LIKE_COMMAND = re.compile(rb"[GDMNXYIJ][+-]?[0-9]")
 LENGTH = re.compile(rb"[0-9+-]*")
 
 
@@ -40,6 +45,8 @@ def extended(edits: Edits) -> None:
             match = re.fullmatch(LENGTHS, word)
             if match:
                 edits.put(start, end, b"FSLA" + match[1], FORMAT)
+        elif word == b"ICAS":
+            edits.put(start, end, NOTHING, STATE)
         elif lead == b"AD":
             whole = without_holes(word)
             if whole != word:
@@ -53,22 +60,26 @@ def without_holes(word: bytes) -> bytes:
     if len(parts) == 1:
         return word
     most = SIZES.get(re.sub(rb"ADD[0-9]+", b"", head), len(parts))
-    if most < len(parts) <= most + 2 and all(re.fullmatch(DECIMAL, part) and in_u(part, 1) == 0 for part in parts[most:]):
+    holes = parts[most:]
+    if 0 < len(holes) <= 2 and all(re.fullmatch(DECIMAL, part) and in_u(part, 1) == 0 for part in holes):
         return head + comma + b"X".join(parts[:most])
     return word
 
 
 class States(Reading):
-    """Plain words whose state says nothing: a centre of 0 where lines are straight, a mode that no draw has."""
+    """Plain words whose state says nothing: a centre of 0 where lines are straight, a mode that no draw has, a stop
+    before the end. Coordinates behind a move are one more, where nothing stands between them."""
 
     def __init__(self, edits: Edits) -> None:
         super().__init__()
         self.edits = edits
         self.waiting: Optional[Token] = None
-        self.last: Optional[Token] = None
+        self.last: Optional[Word] = None
+        self.stop: Optional[Word] = None
+        self.has_moved = False
         self.read(edits.data)
         self.let_go()
-        if isinstance(self.last, Word) and self.last.text in STOPS:
+        if self.last and self.last.text in STOPS:
             edits.put(self.last.start, self.last.end, b"M02", END)
 
     def extended(self, word: Word) -> None:
@@ -76,6 +87,11 @@ class States(Reading):
 
     def plain(self, word: Word) -> None:
         self.last = word
+        if word.text and not word.text.startswith(COMMENT):
+            self.has_moved = False
+            stop, self.stop = self.stop, word if word.text in STOPS else None
+            if stop and word.text in ENDS:
+                self.edits.put(stop.start, stop.end, COMMENT, STATE)
         super().plain(word)
 
     def mode_word(self) -> None:
@@ -83,16 +99,20 @@ class States(Reading):
         self.waiting = None if self.mode is STRAIGHT else self.word
 
     def operation(self, parts: Parts) -> None:
-        self.last = self.word
+        word = self.last = cast(Word, self.word)
+        self.stop = None
         mode, x, y, centre, code = parts
         if mode:
             self.let_go()
             self.mode = MODES[mode]
         if code not in NO_DRAWS:
             self.waiting = None
-        is_centred = centre and self.mode is STRAIGHT and not centre.strip(b"IJ+-0")
-        if is_centred and (x or y or code) and isinstance(self.word, Word):
-            self.edits.put(self.word.start, self.word.end, self.word.text.replace(centre, b"", 1), STRAIGHT_LINE)
+        if centre and self.mode is STRAIGHT and not centre.strip(b"IJ+-0") and (x or y or code):
+            self.edits.put(word.start, word.end, word.text.replace(centre, b"", 1), STRAIGHT_LINE)
+        is_further = self.has_moved and not (mode or centre or code or self.in_region)
+        if is_further:
+            self.edits.put(word.start, word.end, word.text + b"D02", FURTHER_MOVE)
+        self.has_moved = is_further or code == b"2"
 
     def other(self, text: bytes) -> None:
         if text.startswith(b"G55"):
@@ -111,7 +131,8 @@ class States(Reading):
 
 
 def has_zero_centre(data: bytes) -> bool:
-    """Whether all that follows an I or a J is 0, and a J or an I behind that: faster than an expression, since few letters are one."""
+    """Whether all that follows an I or a J is 0, and a J or an I behind that: faster than an expression, since few
+    letters are one."""
     centre = b""
     for part in [*data.replace(b"J", b"I").split(b"I")[1:], b"*"]:
         length = LENGTH.match(part)[0]
@@ -124,5 +145,17 @@ def has_zero_centre(data: bytes) -> bool:
 
 
 def plain(edits: Edits) -> None:
-    if has(edits.data, SIGNS) or has_zero_centre(edits.data):
+    data = edits.data
+    if has(data, SIGNS) or has_zero_centre(data) or any(form.search(data) for form in BEHIND_MOVES):
         States(edits)
+
+
+def comments(edits: Edits) -> None:
+    """Comments that are broken over lines, none of which is like a command; those that say attributes stay."""
+    for it in holding(edits.data, COMMENT):
+        lines = it.text.splitlines()
+        if it.inside or len(lines) < 2 or not it.text.startswith(COMMENT) or b"#@!" in it.text:
+            continue
+        parts = [line.strip() for line in lines]
+        if not any(LIKE_COMMAND.match(part) for part in parts[1:]):
+            edits.put(it.start, it.end, b" ".join(filter(None, parts)), COMMENT_LINES)

@@ -19,6 +19,7 @@ ALIAS, NAME, CHARACTERS, METRIC, VIA, CONTINUED, NO_POINT, LAYER, PAPER = \
 # Copper files.
 IDENTITY, STRAIGHT, STATE, FORMAT, END, UNUSED, LINES, TURN, CONTOUR = \
     "identity", "straight", "state", "format", "end", "unused", "macro lines", "macro turn", "contour"
+DIGITS, FURTHER_MOVE, COMMENT_LINES, NO_AREA = "digits", "further move", "comment lines", "no area"
 
 ROWS = (
     Row(PLATING, "a drill file with unplated holes (`MixedPlating`, or no file function) where each tool says which it is: by "
@@ -41,20 +42,26 @@ ROWS = (
     Row(FORCE, "`ICI,OFF`, `VER,1`, `G40`, `G93X0Y0`, `/`; `FMAT,2` in the body; `G05`, `R,H`, `R,C` in the header, `R,T` before its tools; `M17` with the tool up; `%` before `M48` or behind `M30`",
         "an empty line", "it is in force without it", "says what is in force anyway: left out"),
     Row(IDENTITY, "`OF`, `MI`, `IR` of 0 and `SF` of 1, however written (`OFA0.00000B0.00000`); `SRX1Y1` without steps; a hole of size 0 in an aperture",
-        "the same as `check` takes it (`OFA0B0`)", "it moves, mirrors, turns, scales and repeats nothing", "changes nothing, by its value: written as `check` takes it"),
+        "the same as `check` takes it (`OFA0B0`)", "by its value it changes nothing", "changes nothing, by its value: written as `check` takes it"),
     Row(STRAIGHT, "`I` and `J` of 0 where lines are straight", "the word without them", "a straight line has no centre", "has a centre of 0 and is straight: written without it"),
-    Row(STATE, "`G02`, `G03` alone before no draw; `G55` before a flash; `M01`", "an empty comment; the word without `G55`", "no draw is one of their arcs; the others are without effect",
+    Row(STATE, "`G02`, `G03` alone before no draw; `G55` before a flash; `M01`; `M00` before `M02`; `ICAS`", "an empty comment or attribute; the word without `G55`", "no draw is one of their arcs, and the others do nothing",
         "has no effect: left out"),
     Row(FORMAT, "`FS` with the lengths of codes (`N2`, `G2`, `D2`, `M2`)", "`FS` without them", "they say nothing of places", "has lengths of codes: written without them"),
+    Row(DIGITS, "`FSA..` without `L` where each coordinate has all its digits; `FSTA..`", "`FSLA..`; zeros behind the numbers", "no zero is left out, or it is known which",
+        "says another thing of zeros: written as `check` takes it, each number with all its digits"),
+    Row(FURTHER_MOVE, "coordinates alone behind a move, outside of regions", "`D02` behind them", "a code is in force until another comes", "has no code behind a move: written as one more"),
+    Row(COMMENT_LINES, "a comment over several lines, none of which begins like a command", "the comment in one line", "it says nothing of copper", "is a comment over several lines: joined"),
+    Row(NO_AREA, "a contour of one or two edges that ends where it begins", "empty comments for its edges", "it encloses nothing",
+        "begins a contour of one or two edges, which encloses nothing: left out"),
     Row(END, "`M00` as the last word", "`M02`", "both end the file", "ends the file: written as `M02`"),
     Row(UNUSED, "an aperture outside the profile that no draw and no flash has, with its selections; a macro that no other aperture names",
         "an attribute without a meaning; an empty comment", "it makes no copper", "is used by no draw and no flash: left out"),
     Row(LINES, "a macro's word that is broken over lines beside a comma or at its end, or has blanks there", "the word in one line", "a blank there ends no number",
         "is a macro's word over several lines, or with blanks: joined"),
-    Row(TURN, "a macro's rotation that is a parameter, where its apertures say multiples of 90 for it", "one macro for each value, with the value in the parameter's place",
-        "the value is what the parameter stands for", "has a rotation by its apertures' parameters: written by their values"),
-    Row(CONTOUR, "a contour of more than 100,000 edges, in a file without clear polarity and steps", "several contours, parted by chords between two corners; the first in its place, "
-        "the others at the file's end, with the net name of the contour", "a chord lies in the copper and meets no edge, and of two parts none enters the other", ""),
+    Row(TURN, "a macro's rotation by a parameter, where its apertures say multiples of 90", "one macro for each value, with the value there",
+        "the parameter stands for it", "has a rotation by its apertures' parameters: written by their values"),
+    Row(CONTOUR, "a contour of over 100,000 edges, where no word takes copper away or repeats it", "several, parted by chords; the first in its place, "
+        "the others at the file's end, with its net name", "a chord lies in the copper and meets no edge, and no part enters another", ""),
     Row(ALIAS, "a netlist's names that stand for one whole name (`P  NNAME1 A`, `P  NNAME2 A`)", "one of them in all records", "equal whole names are one net", ""),
     Row(NAME, "a name with blanks or letters outside ASCII in its columns",
         "an alias, `P  NNAME<n>` before `999`", "the columns are the name's", "is no name for `check`: written as an alias"),
