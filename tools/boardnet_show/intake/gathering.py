@@ -3,6 +3,7 @@ import json
 import os
 
 from boardnet_show.formats import gerber_attributes
+from boardnet_show.formats.layer_names import is_named_otherwise
 from boardnet_show.formats.manifest import is_name
 from boardnet_show.intake.mends import mended_files as mends
 
@@ -67,7 +68,7 @@ class Package:
             if guess:
                 self.guesses.append((name, *guess))
             else:
-                self.leave_out(name, OTHERWISE if copper_layers.is_named_otherwise(name, data) else NO_COPPER)
+                self.leave_out(name, OTHERWISE if is_named_otherwise(name, data) else NO_COPPER)
             return
         function, layer = said[0], copper_layers.one_layer(name, said)
         if layer:

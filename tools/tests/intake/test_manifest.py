@@ -209,6 +209,15 @@ class Manifest(common.Case):
             (["layer_1.ger", "layer_2.ger"], []),
             (["copper_top.gbr", "copper_bottom.gbr"], ["soldermask_top.gbr"]),
             (["board.top.gbr", "board.bottom.gbr"], ["board.topsilk.gbr"]),
+            (["EtchLayer1Top.gdo", "EtchLayer2.gdo", "EtchLayer3Bottom.gdo"], ["SoldermaskTop.gdo", "BoardOutline.gdo"]),
+            (["TOP.art", "L2_GND.art", "L3_PWR.art", "BOTTOM.art"], ["SMT.art", "SST.art"]),
+            (["art001.pho", "art002.pho", "art003.pho"], ["sm001021.pho", "sst001026.pho"]),
+            (["copper_top.gbr", "copper_inner_l2.gbr", "copper_bottom.gbr"], ["silkscreen_top.gbr"]),
+            (["copper_top_l1.gbr", "copper_inner_l2.gbr", "copper_bottom_l3.gbr"], []),
+            (["x.cmp", "x.ly2", "x.l15", "x.sol"], ["x.stc"]),
+            (["x.TOP", "x.IN1", "x.IN2", "x.BOT"], []),
+            (["mini - CADCAM Top Copper.GBR", "mini - CADCAM Bottom Copper.GBR"], ["mini - CADCAM Top Solder Resist.GBR", "mini - CADCAM Mechanical 1.GBR"]),
+            (["resistor-board.top.gbr", "resistor-board.bottom.gbr"], []),
         ]
         for layers, others in rows:
             files = {file: copper() for file in [*layers, *others]}
@@ -229,6 +238,14 @@ class Manifest(common.Case):
             (["x.gtl", "y.gtl"], "both look like the same copper layer"),
             (["l1.gbr", "l3.gbr"], "are not layers 1 to 2 by their names"),
             (["l1.gbr", "x.gbl"], "are not layers 1 to 2 by their names"),
+            (["TOP.art", "L3.art", "BOTTOM.art"], "are not layers 1 to 3 by their names"),
+            (["TOP.art", "L1.art", "BOTTOM.art"], "are not layers 1 to 3 by their names"),
+            (["EtchLayer1Bottom.gdo", "EtchLayer2Top.gdo"], "EtchLayer1Bottom.gdo looks like layer 1 of 2, and its name says another side"),
+            (["EtchLayer1Top.gdo", "EtchLayer2Bottom.gdo", "EtchLayer3.gdo"], "looks like layer 2 of 3, and its name says another side"),
+            (["art001.pho", "art003.pho"], "are not layers 1 to 2 by their names"),
+            (["x.cmp", "x.ly2", "inner3.gbr", "x.sol"], "are of different kinds"),
+            (["x.ly2", "x.l15"], "no top or no bottom one"),
+            (["x.TOP", "x.IN2", "x.BOT"], "so one is missing"),
             (["x-F_Cu.gbr", "x-In1_Cu.gbr"], "no top or no bottom one"),
             (["x.gtl", "x.gp1", "x.gbl"], "looks like an inner plane"),
             (["some.gbr"], "no file says or looks like a copper layer"),
@@ -265,6 +282,38 @@ class Manifest(common.Case):
                 self.refused(files, word, words=["--yes"])
         other = {"a.GTL": copper("", "G04 see Layer_Physical_Order=2*\n"), "b.GBL": copper("", "%INLayer_Physical_Order=1*%\n"), "n.ipc": SURFACE}
         self.taken(other, {"copper": ["a.GTL", "b.GBL"], "drills": [], "netlist": "n.ipc"}, "b.GBL: its name looks so", words=["--yes"])
+
+    def test_copper_by_comments(self):
+        """Films of Allegro say their layers and their name, EasyEDA and Xpedition a layer, titles of gEDA pcb the side of a group; two of a file's
+        names that say different layers are refused, and so are copper of no known layer and a film that only its comment calls negative."""
+        film = "G04 Film Name:    {}*\nG04 Layer:  VIA CLASS/{}*\nG04 Layer:  ETCH/{}*\n"
+        named = lambda *names: film.format(*names[:1] * 3) if len(names) == 1 else film.format(*names)
+        for heads, why in [
+            ([named("TOP"), named("L2_GND"), named("BOTTOM")], "its comment says Layer: ETCH/"),
+            ([f"G04 Film Name: {name} *\n" for name in ("TOP", "LAYER_2", "BOTTOM")], "its comment says Film Name: "),
+            (["G04 Layer: TopLayer*\n", "G04 Layer: InnerLayer1*\n", "G04 Layer: BottomLayer*\n"], "its comment says the layer "),
+            ([f"G04 Layer : EtchLayer{number}.gdo*\n" for number in ("1Top", "2", "3Bottom")], "its comment says the layer EtchLayer"),
+            (["G04 Title: (unknown), component *\n%LNGROUP0*%\n", "%LNGROUP1*%\n", "G04 Title: x, solder side*\n%LNGROUP2*%\n"], ""),
+        ]:
+            files = {**{f"{name}.ger": copper("", head) for name, head in zip("cab", heads)}, "n.ipc": SURFACE}
+            with self.subTest(heads=heads):
+                self.assertIn(f"would be taken as copper layer 1: c.ger: {why}", self.refused(files, "say --yes"))
+                self.taken(files, {"copper": ["c.ger", "a.ger", "b.ger"], "drills": [], "netlist": "n.ipc"}, words=["--yes"])
+        mask = named("SMT").replace("ETCH/", "PIN/SOLDERMASK_TOP")
+        two = {"TOP.art": copper("", named("TOP")), "BOTTOM.art": copper("", named("BOTTOM")), "n.ipc": SURFACE}
+        self.taken({**two, "x_top.art": copper("", mask)}, {"copper": ["TOP.art", "BOTTOM.art"], "drills": [], "netlist": "n.ipc"}, words=["--yes"])
+        for name, head, word in [
+            ("TOP.art", named("BOTTOM"), "TOP.art: its comment says Layer: ETCH/BOTTOM, and it says another layer by TOP.art"),
+            ("L2.art", named("TOP"), "and it says another layer by L2.art"),
+            ("x.art", named("TOP", "BOTTOM", "BOTTOM"), "says Layer: ETCH/BOTTOM, and it says another layer by TOP"),
+            ("x.art", named("TOP") + "G04 Layer: ETCH/BOTTOM*\n", "and it says another layer by ETCH/BOTTOM"),
+            ("GND.art", named("GND"), "GND.art: its comment says Layer: ETCH/GND, which is copper, and no name says which layer"),
+            ("L2.art", named("L2") + "G04 Mode:      Negative*\n", "L2.art: its comment says that its film is negative"),
+            ("other_top.art", named("TOP"), "both look like the same copper layer"),
+        ]:
+            with self.subTest(name=name, head=head):
+                self.refused({**two, name: copper("", head)}, word, words=["--yes"])
+        self.assertIn("L2.art: its layer name is L2", self.refused({**two, "L2.art": copper("", "G04 Mode: Negative*\n%IPNEG*%\n%LNL2*%\n")}, "say --yes"))
 
     def test_inner_layers_without_a_gap(self):
         """A gap between the numbers of inner layers is a layer that is missing; a group of layers of gEDA pcb is one."""
