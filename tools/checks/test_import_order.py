@@ -10,8 +10,8 @@ from tests.fixtures import common
 PACKAGE = "boardnet_show"
 HOME = os.path.join(common.TOOLS, PACKAGE)
 # The rooms, the lowest first; tools/README.md has the same table.
-ROOMS = ("base", "geometry", "formats", "formats.drills", "intake.mends", "intake", "bounds.polarity", "bounds.primitives", "bounds.apertures", "bounds.files", "judging",
-         "findings", "fitting", "netlists", "output.sentences", "extras.as_made", "extras", "output", "command")
+ROOMS = ("base", "geometry", "formats", "formats.drills", "intake.mends", "intake.evidence", "intake", "bounds.polarity", "bounds.primitives", "bounds.apertures",
+         "bounds.files", "judging", "findings", "fitting", "netlists", "output.sentences", "extras.as_made", "extras", "output", "command")
 MOST_MODULES = 14
 # Names that say nothing to who does not know them.
 FORBIDDEN = {"beside", "aims", "bundles", "strands", "runs", "swaps", "seldom", "unlike", "side", "joint", "told", "rounds", "implied", "spots"}

@@ -21,6 +21,7 @@ from boardnet_show.base import writing
 from boardnet_show.base.statuses import Stop
 from boardnet_show.base.wording import printable
 from boardnet_show.intake import archives, drill_numbers, gathering
+from boardnet_show.intake.evidence import readings
 from boardnet_show.intake.file_names import Refused, shown
 from boardnet_show.intake.mends import mended_files as mends
 
@@ -67,7 +68,7 @@ def write(asked):
         say(f"{'taken' if asked.yes else 'would be taken'} as {what}: {shown(name)}: {why}")
     if plan.guessed and not asked.yes:
         raise Refused("the attributes do not say all of this: if it is right, say --yes; else export Gerber X2 and XNC files with attributes, or write m.json by hand")
-    plan.manifest = mended(folder, plan.manifest, asked.mend)
+    plan.manifest = mended(folder, plan.manifest, asked)
     path = os.path.join(folder, "m.json")
     writing.write(path, plan.manifest_text())
     if not plan.has_points:
@@ -81,21 +82,24 @@ def bytes_of(folder, name):
         return file.read()
 
 
-def mended(folder, manifest, is_written):
+def mended(folder, manifest, asked):
     """The manifest with mended copies, where they are asked for; else it is said that `show` makes them."""
-    copies = {}
-    drills = [it["file"] for it in manifest["drills"]]
+    drills, made = [it["file"] for it in manifest["drills"]], {}
     its = mends.of_files(lambda name: bytes_of(folder, name), manifest["copper"], drills, manifest["netlist"],
                          lambda name, data: drill_numbers.settled(name, data, folder))
     for name, data, told in its:
+        made[name] = data
         for it in told:
-            say(f"{'mended' if is_written else 'to be mended'}: {shown(it.words)}")
-        if is_written:
-            copies[name] = mends.name_beside(name)
-            writing.write(os.path.join(folder, copies[name]), data)
-        else:
-            copies[name] = name
-    if copies and not is_written:
+            say(f"{'mended' if asked.mend else 'to be mended'}: {shown(it.words)}")
+    for it in readings.of_files(lambda name: made.get(name) or bytes_of(folder, name), manifest["copper"], manifest["netlist"]):
+        made[it.file] = it.data
+        say(f"{'taken' if asked.yes else 'would be taken'}: {shown(it.sentence())}")
+        if not asked.yes:
+            raise Refused(readings.ASK)
+    copies = {name: mends.name_beside(name) if asked.mend else name for name in made}
+    for name in made if asked.mend else ():
+        writing.write(os.path.join(folder, copies[name]), made[name])
+    if copies and not asked.mend:
         say("manifest: `boardnet show` makes these mends; `boardnet manifest FOLDER --mend` writes mended copies, which `check` takes")
     return mends.renamed(manifest, copies)
 

@@ -4,7 +4,7 @@ from boardnet_show.extras import requested
 from boardnet_show.findings.board import Board
 from boardnet_show.findings.explained import Explained, title_of
 from boardnet_show.formats import gerber_attributes, ipc356, report
-from boardnet_show.intake import mending, package
+from boardnet_show.intake import mending, netlist_files, package
 from boardnet_show.judging import answers, judged, net_ties, nothing_judged
 from boardnet_show.netlists import own_names
 from boardnet_show.output.shown import Shown
@@ -45,7 +45,8 @@ def package_notes(files):
         notes.append(f"left out, {len(files.left_out)} of the folder's files: " + "; ".join(files.left_out))
     notes += [f"{name} has macros and was flattened: commands are those of the flattened file, which --keep keeps" for name in sorted(files.flattened)]
     notes += [f"{name} could not be flattened: {why}" for name, why in files.outside.items()]
-    return notes
+    passed_over = netlist_files.note(files.manifest.netlist, mending.read(files, files.manifest.netlist)) if files.manifest else ""
+    return notes + ([passed_over] if passed_over else [])
 
 
 def by_own_names(files, asked):
@@ -171,7 +172,7 @@ def show(path, asked, program, scratch):
         package.need_netlist(files, asked)
         own = by_own_names(files, asked)
         shown = shown._replace(seen=shown.seen._replace(ties=net_ties.declared(asked.tie, files)))
-        mending.mend(files, program.progress)
+        mending.mend(files, program.progress, asked.yes)
         told = judged.judge(program, files)
         shown = shown._replace(seen=shown.seen._replace(answer=shown.seen.ties.answer(told), audit=told.audit, report=told.text or b"",
                                                         notes=own + package_notes(files)))

@@ -172,7 +172,7 @@ def reference(program, path, asked, scratch, board):
     files = package.opened(path, asked, folder)
     if files.manifest and not files.manifest.netlist:
         pad_names.use(files, asked.no_drills)
-    mending.mend(files, program.progress)
+    mending.mend(files, program.progress, asked.yes)
     theirs = judged.judge(program, files)
     two_bounds.bounded(program, theirs)
     known = board_copper.Known(board) if board and board.shapes else None

@@ -2,24 +2,20 @@
 
 A vote decides what is tried, and nothing else: what is told is what `check` says of the changed copy.
 """
-import re
 from collections import Counter
 from fractions import Fraction as Q
 from typing import Callable, List, Optional, Sequence, Tuple
 
 from boardnet_show.formats import ipc356
 from boardnet_show.formats.drills.drill_places import places
-from boardnet_show.formats.gerber_machine import Machine
 from boardnet_show.formats.units import UNIT_WORDS
-from boardnet_show.geometry.exact import Refused
+from boardnet_show.intake.evidence import pad_middles
 
 from .changes import NetlistPlaced
 
 SAMPLE = 40             # records that vote
 FEW, MANY = 8, 20_000   # centres
 ENOUGH = Q(3, 4)        # of the votes: no other centres are asked
-# The format of a copper file.
-FORMAT = re.compile(r"FSLAX\d(\d)Y\d\d")
 Form = Callable[[int, int], Tuple[int, int]]
 FORMS = [("", lambda x, y: (x, y)), ("mirrored left to right", lambda x, y: (-x, y)), ("mirrored upside down", lambda x, y: (x, -y)),
          ("turned by half", lambda x, y: (-x, -y)), ("turned by a quarter", lambda x, y: (-y, x)), ("turned by three quarters", lambda x, y: (y, -x)),
@@ -61,48 +57,9 @@ def moved(text: str, form: Form, by: Sequence[int]) -> Optional[str]:
 
 # ---- centres
 
-class Flashes(Machine):
-    """The places of a copper file's flashes, as its numbers; its unit and its format, None before they are said."""
-
-    PLAIN = True
-
-    def __init__(self, data):
-        super().__init__()
-        self.digits, self.spots, self.scale, self.decimals = (b"0", b"0"), set(), None, None
-        self.read(data)
-
-    def unit_word(self, scale, text):
-        self.scale = self.scale or scale
-
-    def format_word(self, text):
-        found = FORMAT.match(text)
-        self.decimals = self.decimals or (int(found[1]) if found else None)
-
-    def plain_words(self, plain):
-        for x, y, code, aperture in plain.words:
-            if not aperture:
-                self.digits = x or self.digits[0], y or self.digits[1]
-                if code == b"3":
-                    self.spots.add(self.digits)
-
-    def operation(self, parts):
-        _, x, y, _, code = parts
-        self.digits = x or self.digits[0], y or self.digits[1]
-        if code == b"3":
-            self.spots.add(self.digits)
-
-
 def flashes(package, index):
-    """Centres of the flashes of a copper file, in u; none without one format and unit. Copies of blocks have no vote."""
-    try:
-        found = Flashes(package.read(package.manifest.copper[index]))
-    except Refused:
-        return set()
-    if not found.scale or not found.decimals:
-        return set()
-    found, step = found.spots, Q(found.scale, 10 ** found.decimals)
-    in_u = {v: round(int(v) * step) for v in {v for place in found for v in place}}
-    return {(in_u[x], in_u[y]) for x, y in found}
+    """Centres of the flashes of a copper file, in u."""
+    return pad_middles.of_file(package.read(package.manifest.copper[index]))
 
 
 def all_flashes(package):

@@ -3,15 +3,16 @@ import os
 from typing import Optional
 
 from boardnet_show.base.refusals import Advice, Refusal
-from boardnet_show.base.statuses import REFUSED, Stop
+from boardnet_show.base.statuses import REFUSED, UNCLEAR, Stop
 from boardnet_show.formats.drills.drill_plating import unplated_hole, unread_function
 from boardnet_show.intake.mends import mended_files as mends, netlist_mends
 
 from . import drill_numbers
 
 
-def mend(package, progress):
-    """Rewrites what `check` refuses and the files say otherwise, in the package's folder; what was mended is noted in it."""
+def mend(package, progress, is_yes=False):
+    """Rewrites what `check` refuses and the files say otherwise, in the package's folder; what was mended is noted in it. What
+    the board alone says of a file is taken where that was said to be right."""
     if not package.manifest:
         return
     progress.begin("looking for what to mend")
@@ -26,6 +27,25 @@ def mend(package, progress):
     for name, data, told in its:
         package.put(name, data)
         package.mends += told
+    take(package, is_yes)
+
+
+def take(package, is_yes):
+    """Has files read as the board says, or asks."""
+    if not wants_readings(package):
+        return
+    from .evidence import readings      # few boards want them
+    found = list(readings.of_files(lambda name: bytes_of(package, name), package.manifest.copper, package.manifest.netlist))
+    if found and not is_yes:
+        raise Stop(UNCLEAR, readings.ASK + "".join(f"\n  would be taken: {it.sentence()}" for it in found))
+    for it in found:
+        package.put(it.file, it.data)
+        package.guessed.append(it.sentence())
+
+
+def wants_readings(package):
+    """Whether a file may not say how it is read."""
+    return netlist_mends.may_be_open(bytes_of(package, package.manifest.netlist), package.manifest.layers)
 
 
 def need_functions(package):

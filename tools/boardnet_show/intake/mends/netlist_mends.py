@@ -85,6 +85,12 @@ def mended(data: bytes, layers: int = MOST_LAYERS, last: int = 0) -> Tuple[bytes
     return text, sorted(found + aliases, key=lambda mend: mend.line)
 
 
+def may_be_open(data: bytes, layers: int) -> bool:
+    """Whether a mended netlist may leave open how it is read: without a unit that `check` takes, or with codes over the
+    board's layers."""
+    return ipc356.unit_of(data) is None or bool(netlist_forms.codes_over(data, layers))
+
+
 def with_one_name(data: bytes) -> Tuple[bytes, List[Mend]]:
     """A netlist with one name for each whole name."""
     new, why = renamed(data) if b"NNAME" in data else ({}, "")
