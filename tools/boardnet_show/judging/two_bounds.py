@@ -78,8 +78,7 @@ class Sides(NamedTuple):
 
 def outline_of(package):
     """The outline of a board with negative files, looked for once."""
-    from boardnet_show.bounds.files import profiles
-    from boardnet_show.intake import profile_files
+    from boardnet_show.bounds.files import profile_files, profiles
     if not package.outline:
         texts = [package.read(name).decode("latin-1") for name in dict.fromkeys(package.manifest.copper)]
         package.outline = profiles.outline_of(profile_files.texts(package.around), texts)

@@ -4,9 +4,10 @@ longer than a small board.
 from typing import Any
 
 from boardnet_show.base.wording import counted
+from boardnet_show.bounds.files import profile_files
 from boardnet_show.findings.besides import Requested
 from boardnet_show.findings.explained import Explained
-from boardnet_show.intake import profile_files, unplated_holes
+from boardnet_show.intake import unplated_holes
 
 from . import thin_joins
 
