@@ -1,7 +1,7 @@
 """The caller's words as they are written, before anything is asked of them."""
 from types import SimpleNamespace
 
-FLAGS = ("-q", "--all", "--labels", "--yes", "--no-drills", "--no-cuts", "--help", "-h")
+FLAGS = ("-q", "--all", "--labels", "--yes", "--no-drills", "--no-cuts", "--audit-board", "--help", "-h")
 WITH_VALUES = ("--page", "--svg", "--at", "--json", "--junit", "--sarif", "--rdb", "--format", "--keep", "--netlist", "--ipc", "--like", "--gaps", "--necks", "--record", "--verify")
 OFTEN = ("--tie",)
 USAGE = "boardnet show PATH.. [OPTION ..]; boardnet show --help prints all"

@@ -5,7 +5,7 @@ from boardnet_show.base.statuses import UNDECIDED, UNJUDGED
 
 from .finding import Finding, doubt
 
-GAPS, AS_MADE, NECKS = "gaps between nets", "the board as it is made", "necks"
+GAPS, AS_MADE, NECKS, BOARD_AUDIT = "gaps between nets", "the board as it is made", "necks", "holes by the netlist"
 # What was found in its course: its name, words and places.
 Detail = Tuple[str, str, Any]
 

@@ -11,6 +11,7 @@ from .units import CODES, CUSTOM
 # ---- columns
 
 CODE, NAME, COMPONENT, PIN, PLATING = slice(0, 3), slice(3, 17), slice(20, 26), slice(27, 31), slice(37, 38)
+DIAMETER = slice(32, 37)        # with its letter
 PIN_COLUMNS, LAYER, PLACE = slice(20, 31), slice(38, 41), slice(38, 57)     # with dash and letters
 ACCESS, X, Y = slice(39, 41), slice(41, 49), slice(49, 57)
 MASK_COLUMNS = slice(71, 80)
@@ -60,6 +61,13 @@ class Record(NamedTuple):
     pin: str
     x: Optional[int]
     y: Optional[int]
+
+
+class HoleColumns(NamedTuple):
+    """What a record says of its hole: the diameter in the netlist's unit and whether it is plated, None where it is not said."""
+
+    diameter: Optional[int]
+    plated: Optional[bool]
 
 
 class Place(NamedTuple):
@@ -173,6 +181,13 @@ def place_of(line: bytes) -> Place:
     """Where a test record is; ValueError where its columns have no numbers."""
     x, y = (int(line[its][1:].replace(b" ", b"")) for its in (X, Y))
     return Place(line[CODE] == THROUGH, int(line[ACCESS].strip() or b"0"), x, y)
+
+
+def hole_of(line: bytes) -> HoleColumns:
+    """The columns of a record that say of its hole."""
+    digits = line[DIAMETER][1:].strip()
+    said = line[DIAMETER][:1] == b"D" and digits.isdigit()
+    return HoleColumns(int(digits) if said else None, {b"P": True, b"U": False}.get(line[PLATING]))
 
 
 def places(data: bytes) -> List[Place]:

@@ -13,7 +13,7 @@ from . import thin_joins
 
 
 def requested(program: Any, judged: Any, seen: Explained, asked: Any) -> Requested:
-    """What unplated holes and the board's edge take away from a judged board, or that this was left away; and its necks."""
+    """What unplated holes and the board's edge take away from a judged board, or that this was left away; its necks, and its holes by the netlist."""
     package, told = judged.package, Requested()
     holes, profiles = list(unplated_holes.of_package(package)), profile_files.texts(package.around)
     if asked.no_cuts and (holes or profiles):
@@ -23,6 +23,9 @@ def requested(program: Any, judged: Any, seen: Explained, asked: Any) -> Request
     elif holes or profiles:
         from . import looking
         told = looking.requested(program, judged, seen.board, holes, profiles)
+    if asked.audit_board:
+        from . import board_audit
+        told = told.joined(board_audit.requested(program, judged, seen.board))
     if asked.necks is not None:
         from . import necks
         return told.joined(necks.requested(program, judged, seen.board, asked.necks))

@@ -1,8 +1,8 @@
 """What unplated holes and the board's edge part when the board is made, over the stand-in and over the built program."""
 import json
-import math
 import random
 
+from tests.extras.as_made.raster import CELL, Raster, cell_of
 from tests.fixtures import made
 from tests.fixtures.made import draw, drill, flash, gerber, manifest, netlist, record, region
 
@@ -159,44 +159,6 @@ class AsMade(made.Case):
 
 # ---- random boards against a raster
 
-CELL = 1 / 20      # mm
-
-
-class Raster:
-    """Copper of discs and tracks on a fine raster: which cells surely have copper, and which may have."""
-
-    def __init__(self, tracks, holes, slack):
-        self.tracks, self.holes, self.slack = tracks, holes, slack
-
-    @staticmethod
-    def away(p, a, b):
-        """How far a place is from a line."""
-        dx, dy = b[0] - a[0], b[1] - a[1]
-        length = dx * dx + dy * dy
-        t = max(0, min(1, ((p[0] - a[0]) * dx + (p[1] - a[1]) * dy) / length)) if length else 0
-        return math.hypot(p[0] - a[0] - t * dx, p[1] - a[1] - t * dy)
-
-    def has(self, p):
-        return any(self.away(p, a, b) <= r + self.slack for a, b, r in self.tracks) and all(self.away(p, c, c) >= r - self.slack for c, r in self.holes)
-
-    def nets(self, size):
-        """The number of each cell's net, by flooding neighbours."""
-        count = round(size / CELL)
-        cells = {(i, j) for i in range(count + 1) for j in range(count + 1) if self.has((i * CELL, j * CELL))}
-        net, left = {}, set(cells)
-        while left:
-            start = left.pop()
-            net[start], todo = start, [start]
-            while todo:
-                i, j = todo.pop()
-                for step in ((i + a, j + b) for a in (-1, 0, 1) for b in (-1, 0, 1)):
-                    if step in left:
-                        left.remove(step)
-                        net[step] = start
-                        todo.append(step)
-        return net
-
-
 class Random(made.Case):
     def test_against_a_raster(self):
         """Where copper wider or slimmer by two cells gives one answer, it is that of the made board."""
@@ -213,8 +175,8 @@ class Random(made.Case):
             answers = set()
             for slack in (-2 * CELL, 2 * CELL):
                 nets = Raster(tracks, holes, slack).nets(9)
-                answers.add(int(len({nets.get((round(x / CELL), round(y / CELL)), (x, y, "bare")) for x, y in spots}) > 1
-                                or any((round(x / CELL), round(y / CELL)) not in nets for x, y in spots)))
+                its = [nets.get(cell_of(spot)) for spot in spots]
+                answers.add(int(None in its or len(set(its)) > 1))
             if len(answers) == 1:
                 decided += 1
                 self.assertEqual({status}, answers, (spots, holes))

@@ -1,6 +1,8 @@
 """Joins that are narrower than a width, over the stand-in and over the built program."""
 import json
+import random
 
+from tests.extras.as_made.raster import CELL, Raster, cell_of
 from tests.fixtures import made
 from tests.fixtures.made import draw, flash, gerber, manifest, netlist, record, region
 
@@ -63,3 +65,26 @@ class Necks(made.Case):
         for width, status in (("-1", 2), ("11", 2), ("0.1.2", 2), ("0", 0)):
             self.board({"m.json": manifest(), "top.gbr": gerber(*TRACK), "n.ipc": ENDS})
             self.assertEqual(self.show("board", "--necks", width)[0], status, width)
+
+
+class Random(made.Case):
+    def test_against_a_raster(self):
+        """Where copper wider or slimmer by two cells gives one answer, a neck is told for certain or not at all; what is not told is none."""
+        draws, decided = random.Random(3), 0
+        for _ in range(16):
+            spots = [(draws.randrange(1, 8), draws.randrange(1, 8)) for _ in range(3)]
+            wide, half = draws.choice((0.3, 0.5, 0.8)), draws.choice((0.2, 0.4, 0.6))
+            tracks = [(a, b, wide) for a, b in zip(spots, spots[1:])] + [(a, a, 1.0) for a in spots]
+            copper = ["%ADD20C,2.0*%", f"%ADD21C,{2 * wide:.1f}*%", *draw(21, *spots), *flash(20, *spots)]
+            points = netlist(*(record("A", f"J1.{k}", *spot) for k, spot in enumerate(dict.fromkeys(spots), 1)))
+            self.board({"m.json": manifest(), "top.gbr": gerber(*copper), "n.ipc": points})
+            status, _, _ = self.show("board", "--necks", f"{2 * half:.1f}")
+            answers = set()
+            for slack in (-2 * CELL, 2 * CELL):
+                nets = Raster(tracks, [], slack, half).nets(9)
+                its = [nets.get(cell_of(spot)) for spot in spots]
+                answers.add(int(None in its or len(set(its)) > 1))
+            if len(answers) == 1:
+                decided += 1
+                self.assertIn(status, {11, *answers} if answers == {0} else answers, (spots, wide, half))
+        self.assertGreater(decided, 8)
