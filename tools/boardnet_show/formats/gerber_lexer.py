@@ -30,6 +30,7 @@ MOST_DIGITS = 100           # of a decimal
 MOST_COORDINATE_DIGITS = 13
 FEW = 40                    # bytes that are taken word by word
 DRAW_CODE, MOVE_CODE = 1, 2
+ARC_WORD, QUADRANTS_WORD = re.compile(rb"G0?[23](?![0-9])"), re.compile(rb"G7[45]\*")
 NEW = tuple.__new__         # of a named tuple: without a call of Python for each word
 
 
@@ -274,6 +275,12 @@ def has(data: bytes, signs: Sequence[bytes]) -> bool:
         if letter in data and any(head.startswith(behind) for head in {part[:most] for part in data.split(letter)[1:]}):
             return True
     return False
+
+
+def may_lack_quadrants(data: bytes) -> bool:
+    """Whether an arc may come before a word that says of which quadrants arcs are."""
+    arc, said = ARC_WORD.search(data), QUADRANTS_WORD.search(data)
+    return arc is not None and (said is None or arc.start() < said.start())
 
 
 # ---- numbers

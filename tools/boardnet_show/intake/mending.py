@@ -5,6 +5,7 @@ from typing import Optional
 from boardnet_show.base.refusals import Advice, Refusal
 from boardnet_show.base.statuses import REFUSED, UNCLEAR, Stop
 from boardnet_show.formats.drills.drill_plating import unplated_hole, unread_function
+from boardnet_show.formats.gerber_lexer import may_lack_quadrants
 from boardnet_show.intake.mends import mended_files as mends, netlist_mends
 
 from . import drill_numbers
@@ -45,7 +46,9 @@ def take(package, is_yes):
 
 def wants_readings(package):
     """Whether a file may not say how it is read."""
-    return netlist_mends.may_be_open(bytes_of(package, package.manifest.netlist), package.manifest.layers)
+    its = package.manifest
+    return (netlist_mends.may_be_open(bytes_of(package, its.netlist), its.layers)
+            or any(may_lack_quadrants(bytes_of(package, name)) for name in its.copper))
 
 
 def need_functions(package):

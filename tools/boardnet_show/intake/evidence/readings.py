@@ -1,7 +1,7 @@
 """Readings that only the board tells, of all its files: each with its words and the copy that `check` takes."""
 from typing import Callable, Iterator, List, NamedTuple, Sequence
 
-from . import netlist_readings
+from . import arc_readings, netlist_readings
 from .pad_middles import Middles
 
 FEWEST = 8          # places that decide
@@ -40,3 +40,7 @@ def of_files(read: Callable[[str], bytes], copper: Sequence[str], netlist: str) 
     found = netlist_readings.reading(data, len(copper), pads, is_clear)
     if found:
         yield Reading(netlist, *found)
+    for name in dict.fromkeys(copper):
+        of_arcs = arc_readings.reading(read(name))
+        if of_arcs:
+            yield Reading(name, *of_arcs)
