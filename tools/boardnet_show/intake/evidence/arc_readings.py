@@ -45,7 +45,7 @@ class Arc(NamedTuple):
         """Whether it turns about a centre by at most a right angle, but for rounding."""
         (ax, ay), (bx, by) = ((spot[0] - centre[0], spot[1] - centre[1]) for spot in (self.start, self.end))
         turn = (ax * by - ay * bx) * (1 if self.is_anticlockwise else -1)
-        reach = sum(map(abs, (ax, ay, bx, by)))
+        reach = abs(ax) + abs(ay) + abs(bx) + abs(by)
         return turn >= 0 and ax * bx + ay * by >= -(reach + 1)
 
 
