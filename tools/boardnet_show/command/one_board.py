@@ -3,6 +3,7 @@ from boardnet_show.base.statuses import FAULT, UNDECIDED, BadCopper, fault_of
 from boardnet_show.extras import requested
 from boardnet_show.findings.board import Board
 from boardnet_show.findings.explained import Explained, title_of
+from boardnet_show.findings.finding import with_short_names
 from boardnet_show.formats import gerber_attributes, ipc356, report
 from boardnet_show.intake import mending, netlist_files, package
 from boardnet_show.judging import answers, judged, net_ties, nothing_judged
@@ -146,6 +147,9 @@ def explained(program, told, seen, asked):
             widthless_contours
         )
         seen = seen.noted(*widthless_contours.notes(told.package))
+    if seen.board:
+        names, short = seen.board.report.names, seen.board.report.short_names
+        seen = seen._replace(findings=with_short_names(seen.findings, names, short))
     return of_files(told.package, seen)
 
 
@@ -171,6 +175,7 @@ def show(path, asked, program, scratch):
         files = package.opened(path, asked, scratch)
         package.need_netlist(files, asked)
         own = by_own_names(files, asked)
+        own_names.take_whole(files)
         shown = shown._replace(seen=shown.seen._replace(ties=net_ties.declared(asked.tie, files)))
         mending.mend(files, program.progress, asked.yes)
         told = judged.judge(program, files)

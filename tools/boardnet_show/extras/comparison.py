@@ -19,7 +19,7 @@ from boardnet_show.geometry.distances import from_line
 from boardnet_show.geometry.segments import box_of_line
 from boardnet_show.intake import mending, package
 from boardnet_show.judging import board_copper, judged, two_bounds
-from boardnet_show.netlists import pad_names, tester
+from boardnet_show.netlists import own_names, pad_names, tester
 from boardnet_show.output.sentences import changes, hints
 
 from .spacing import STEP, Lines, least
@@ -172,6 +172,7 @@ def reference(program, path, asked, scratch, board):
     files = package.opened(path, asked, folder)
     if files.manifest and not files.manifest.netlist:
         pad_names.use(files, asked.no_drills)
+    own_names.take_whole(files)
     mending.mend(files, program.progress, asked.yes)
     theirs = judged.judge(program, files)
     two_bounds.bounded(program, theirs)

@@ -7,7 +7,7 @@ from typing import Any, Callable, Iterator
 from boardnet_show.base.statuses import UNDECIDED
 from boardnet_show.findings.besides import Requested, lacking
 from boardnet_show.findings.explained import Explained
-from boardnet_show.findings.finding import GAP
+from boardnet_show.findings.finding import GAP, with_short_names
 
 
 def wants_copper(asked) -> Any:
@@ -19,7 +19,7 @@ def made(program, judged, seen: Explained, asked, scratch: str) -> Requested:
     its = Requested()
     for step in steps(program, judged, seen, asked, scratch):
         its = its.joined(step(its))
-    return its
+    return its._replace(findings=with_short_names(its.findings, seen.board.report.names, seen.board.report.short_names)) if its.findings else its
 
 
 def steps(program, judged, seen: Explained, asked, scratch: str) -> Iterator[Callable[[Requested], Requested]]:

@@ -61,6 +61,15 @@ class Finding(NamedTuple):
         return its if self.kind != SHORT or self.is_labelled else its._replace(meets=[], sides={})
 
 
+def with_short_names(findings: Sequence[Finding], names: Sequence[str], short: Dict[str, str]) -> Sequence[Finding]:
+    """The findings with what the netlist has in the place of whole names that the copper's labels say."""
+    if not short:
+        return findings
+    told = ((it, [names[number] for number in it.names if names[number] in short]) for it in findings)
+    return [it._replace(clues=[*it.clues, *(Clue(KNOWN, f"The netlist has {short[name]} for {name}.") for name in whole)])
+            for it, whole in told]
+
+
 def doubt(finding: Finding) -> str:
     """The word before a finding between two bounds that is not certain."""
     return "undecided " if finding.sure is False else ""

@@ -6,10 +6,25 @@ The standard takes both for the same (Gerber Layer Format Specification, 5.1). `
 import re
 from typing import Dict, Iterator, List, NamedTuple
 
+from boardnet_show.base.wording import printable
+
 from .gerber_lexer import holding
 
 COMMENT = re.compile(rb"G04[ \t]*#@![ \t]*(T[AFOD].*)", re.S)
 NEGATIVE = b"negative"
+
+
+# A character by its number (Gerber Layer Format Specification, 3.4.3).
+ESCAPED = re.compile(r"\\u([0-9A-Fa-f]{4})")
+
+
+def printable_field(text: str) -> str:
+    """A field as it can be printed: fields that differ stay different, in files of UTF-8 and of Latin-1."""
+    try:
+        told = text.encode("latin-1").decode("utf-8")
+    except UnicodeDecodeError:
+        told = text
+    return printable(ESCAPED.sub(lambda found: chr(int(found[1], 16)), told))
 
 
 class Attribute(NamedTuple):

@@ -34,6 +34,7 @@ ANY_UNITS = re.compile(rb"^P[ \t]*UNITS", re.M)
 ANY_END = re.compile(rb"^999", re.M)
 ANY_PASSED_OVER = re.compile(rb"^(?:%s)" % b"|".join(PASSED_OVER), re.M)
 ANY_NAME = re.compile(rb"^3[12]7(.{14})", re.M)
+FULL_NAME = re.compile(rb"^3[012]7[!-~]{14}", re.M)
 # A name that fills its columns and runs on behind them.
 LONG_NAME = re.compile(rb"^3[12]7(.{13}[!-~]{2,4})", re.M)
 
@@ -211,6 +212,11 @@ def names(data: bytes) -> List[bytes]:
     return [name for name in dict.fromkeys(field.strip() for field in found) if name]
 
 
+def has_full_name(data: bytes) -> bool:
+    """Whether a name fills its columns, and so may be cut."""
+    return FULL_NAME.search(data) is not None
+
+
 def alias_lines(data: bytes) -> Iterator[AliasLine]:
     for found in ALIAS_LINE.finditer(data):
         yield AliasLine(found[1], found[2].strip(), found.end() - found.start() >= FULL)
@@ -229,9 +235,8 @@ def aliases(data: bytes) -> Dict[str, str]:
     return {it.alias.decode(): text_of(it.name).strip() for it in alias_lines(data)}
 
 
-def spoken(names: Sequence[str], data: bytes) -> List[str]:
-    """The names of a report, aliases of the netlist as what they stand for, as long as all are distinct."""
-    whole = aliases(data)
+def spoken(names: Sequence[str], whole: Dict[str, str]) -> List[str]:
+    """The names of a report as the whole names that they stand for, as long as all are distinct."""
     taken, told = set(names), []
     for name in names:
         said = whole.get(name) or name

@@ -15,6 +15,8 @@ class Report:
     """
 
     def __init__(self, text):
+        # What the netlist has in the place of whole names that the copper's labels say.
+        self.short_names = {}
         self.rows = iter(text.decode("ascii", "replace").split("\n"))
         try:
             if next(self.rows) != "boardnet 2":

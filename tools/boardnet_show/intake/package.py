@@ -40,6 +40,8 @@ class Package:
         # The netlist of the copper's own names, where they are judged by one, and the one that it stands for, or nothing; the ties
         # that pads of several nets declare.
         self.own, self.theirs, self.ties = "", "", []
+        # Whole names by those that the netlist has in their place.
+        self.whole = {}
 
     def path(self, name):
         return os.path.join(self.folder, name)
@@ -91,7 +93,7 @@ class Package:
         copy = Package(told or self.manifest, folder, self.name)
         copy.flattened, copy.home, copy.around = set(self.flattened) - set(files or ()), self.home, self.around
         copy.before = {name: data for name, data in self.before.items() if name in copy.flattened}
-        copy.own, copy.mends, copy.made = self.own, self.mends, self.made
+        copy.own, copy.mends, copy.made, copy.whole = self.own, self.mends, self.made, self.whole
         os.makedirs(folder)
         for name, data in (files or {}).items():
             copy.put(name, data)

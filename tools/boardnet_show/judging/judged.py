@@ -66,7 +66,9 @@ def judge(program, package):
         report = Report(answer.out)
     except BadReport as fault:
         raise Stop(UNJUDGED, f"NOTHING WAS JUDGED: {fault}") from None
-    report.names = ipc356.spoken(report.names, package.read(package.manifest.netlist))
+    names = ipc356.spoken(report.names, ipc356.aliases(package.read(package.manifest.netlist)))
+    report.names = ipc356.spoken(names, package.whole)
+    report.short_names = {whole: name for whole, name in zip(report.names, names) if whole != name}
     return Judged(package, answer.status, answer.line, report, answer.out, told)
 
 

@@ -12,6 +12,7 @@ from boardnet_show.intake.package import TIES
 
 from .answers import EXACT, STOPPED, Answer, Counts, Tied
 
+NONE_WHOLE = {}
 # A line of ties.txt that begins with the sign, or what comes behind it with blanks round it: names may have it.
 COMMENT = re.compile(r"\A\s*#.*|\s#(\s.*)?\Z")
 
@@ -34,21 +35,21 @@ def parts_of(text):
     return tuple(part.strip() for part in text.split("="))
 
 
-def tie(text, source):
-    names = parts_of(text)
+def tie(text, source, whole=NONE_WHOLE):
+    names = tuple(whole.get(name, name) for name in parts_of(text))
     if len(names) != 2 or not all(names) or names[0] == names[1] or NO_NET in names:
         raise Stop(NOT_UNDERSTOOD, f"{source}: `{text.strip()}` is no tie: two net names as GND=AGND")
     return Tie(names, source)
 
 
 def declared(asked, package):
-    """The ties of the command, of the file beside the manifest and of the copper's own names, each once."""
-    found = [tie(text, "--tie") for text in asked]
+    """The ties of the command, of the file beside the manifest and of the copper's own names, each once, by whole names."""
+    found = [tie(text, "--tie", package.whole) for text in asked]
     try:
         lines = [COMMENT.sub("", line) for line in package.read(TIES).decode("utf-8-sig", "replace").splitlines()]
     except OSError:
         lines = []
-    found += [tie(line, f"{TIES}, line {number}") for number, line in enumerate(lines, 1) if line.strip()]
+    found += [tie(line, f"{TIES}, line {number}", package.whole) for number, line in enumerate(lines, 1) if line.strip()]
     return Ties({frozenset(it.names): it for it in reversed([*found, *package.ties])}.values())
 
 

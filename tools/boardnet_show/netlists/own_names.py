@@ -2,6 +2,7 @@
 import os
 
 from boardnet_show.base.statuses import UNDECIDED
+from boardnet_show.formats import ipc356
 
 MADE = "C made by boardnet show of the copper's own attributes"
 # Statuses of an answer: agrees, differs, undecided.
@@ -12,3 +13,11 @@ def made_before(package):
     """The package's netlist, where it was made here, as --keep keeps it; else nothing."""
     name = package.manifest.netlist
     return name if os.path.exists(package.path(name)) and package.read(name).startswith(MADE.encode()) else ""
+
+
+def take_whole(package):
+    """Has the names of a netlist that cuts them told as the copper's own labels have them, where those say which they are."""
+    name = package.manifest.netlist if package.manifest and not package.own else ""
+    if name and os.path.exists(package.path(name)) and ipc356.has_full_name(package.read(name)):
+        from . import whole_names           # most boards want none
+        package.whole = whole_names.of_package(package)

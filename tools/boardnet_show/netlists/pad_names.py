@@ -9,7 +9,7 @@ import re
 from typing import NamedTuple
 
 from boardnet_show.base.statuses import UNCLEAR, UNREADABLE, Stop
-from boardnet_show.base.wording import at_most, counted, printable, spoken, with_ends
+from boardnet_show.base.wording import at_most, counted, spoken, with_ends
 from boardnet_show.bounds.files import bounded_file
 from boardnet_show.bounds.polarity import dark_and_clear
 from boardnet_show.formats import gerber_attributes, ipc356
@@ -23,7 +23,6 @@ from . import pad_places
 from .own_names import MADE
 from .pad_parts import parts
 
-ESCAPED = re.compile(r"\\u([0-9A-Fa-f]{4})")
 NO_NAMES = "the copper files do not say of which pins or nets their pads are (TO.P, TO.N): export Gerber X2 with net attributes"
 
 
@@ -62,19 +61,9 @@ CLEAR = "it takes copper away"
 NO_COPPER = "it makes no copper"
 
 
-def field(text):
-    """A field of an attribute as it can be printed: fields that differ stay different, in files of UTF-8 and of Latin-1. `\\uXXXX` is a
-    character (Gerber Layer Format Specification, 3.4.3)."""
-    try:
-        told = text.encode("latin-1").decode("utf-8")
-    except UnicodeDecodeError:
-        told = text
-    return printable(ESCAPED.sub(lambda found: chr(int(found[1], 16)), told))
-
-
 def label_in_force(attributes):
     """The label of the next object."""
-    its = {name: [*map(field, fields)] for name, fields in attributes.of_objects.items()}
+    its = {name: [*map(gerber_attributes.printable_field, fields)] for name, fields in attributes.of_objects.items()}
     part, pin, *_ = [*its.get(".P", []), "", ""]
     pin = pin if pin.strip() or not part.strip() else UNKNOWN
     names = tuple(name for name in dict.fromkeys(its.get(".N", [])) if name.strip() not in ("", ipc356.NO_NET))

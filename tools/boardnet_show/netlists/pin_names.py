@@ -11,9 +11,10 @@ from boardnet_show.base.wording import counted, spoken
 from boardnet_show.formats import ipc356
 from boardnet_show.intake.package import Package
 
+from .whole_names import Pin, cut
+
 FEW = 6
-# A component with a pin, the names of each, and the names that are a pair, with how many pins have both.
-Pin = Tuple[str, str]
+# The names of each pin, and the names that are a pair, with how many pins have both.
 Names = Dict[Pin, Set[str]]
 Pairs = Dict[str, Tuple[str, int]]
 Item = TypeVar("Item")
@@ -65,11 +66,6 @@ def is_respelled(a: str, b: str) -> bool:
     return a == b or len(a) >= 4 and (b.startswith(a) or b.endswith(a))
 
 
-def cut_pin(pin: Pin) -> Pin:
-    """A pin as a netlist's columns have it."""
-    return pin[0][:ipc356.COMPONENT_WIDTH], pin[1][:ipc356.PIN_WIDTH]
-
-
 def listed(some: Sequence[Item], said: Callable[[Item], str]) -> str:
     more = [f"{len(some) - FEW} more"] if len(some) > FEW else []
     words: str = spoken([said(it) for it in some[:FEW]] + more, FEW + 1)
@@ -89,7 +85,7 @@ def differences(package: Package) -> List[str]:
     theirs = whole_names(package, package.theirs, pins)
     ours = whole_names(package, package.own, pins_of(package, package.own))
     # Where columns cut a pin, its whole name stands in our comments alone.
-    short = {cut_pin(pin): pin for pin in ours}
+    short = {cut(pin): pin for pin in ours}
     theirs = {short.get(pin, pin): names for pin, names in theirs.items()}
     both = theirs.keys() & ours.keys()
     theirs_of, ours_of = ({pin: its[pin] for pin in both} for its in (theirs, ours))

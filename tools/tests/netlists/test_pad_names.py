@@ -53,7 +53,7 @@ class Labels(made.Case):
         self.assertEqual(sorted(os.listdir(self.path("kept"))), ["bot.gbr", "m.json", "names.ipc", "p.drl", "report.txt", "top.gbr"])
         records = read.records(self.read("kept/names.ipc").encode())
         self.assertEqual([(it.component, it.pin) for it in records], [("R1", "1"), ("R1", "2"), ("J1000001", "GATE1"), ("R1", "1"), ("U1", "1"), ("U1", "2")])
-        self.assertEqual(read.spoken(["GND", "NNAME2", "VCC"], self.read("kept/names.ipc").encode()), ["GND", LONG, "VCC"])
+        self.assertEqual(read.spoken(["GND", "NNAME2", "VCC"], read.aliases(self.read("kept/names.ipc").encode())), ["GND", LONG, "VCC"])
 
     def test_differs(self):
         """A track that is lost, and one that joins too much, with whole names."""
