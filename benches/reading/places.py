@@ -13,6 +13,8 @@ U = 10_000
 MILLIMETRE, INCH = 1_000 * U, 25_400 * U
 # Micrometres from a border, to both sides; of places at random how far past the outermost piece.
 STEPS, MARGIN = (2, 3, 5, 15, 30, 60), 1_000
+# Corners of an area that may be a pad.
+FEW = 8
 # Lengths of short vectors are taken in these parts.
 AREA, FINE = -1, 1_000
 PART = re.compile(rb"%ADD(\d+)C,([\d.]+)\*%|X(-?\d+)Y(-?\d+)D0([12])\*|(G36|G37)\*|D(\d+)\*")
@@ -104,13 +106,30 @@ def beside(rng: random.Random, piece: Piece) -> Spot:
     return micrometres(end[0] + x * far * FINE // length, end[1] + y * far * FINE // length)
 
 
+def in_corner(rng: random.Random, piece: Piece) -> Spot:
+    """A place within a corner of an area, off both of its edges; outside where it turns inwards."""
+    k = rng.randrange(len(piece.corners))
+    (px, py), (x, y), (nx, ny) = piece.corners[k - 1], piece.corners[k], piece.corners[(k + 1) % len(piece.corners)]
+    one, two = distance((px, py), (x, y)) or 1, distance((x, y), (nx, ny)) or 1
+    far = rng.choice(STEPS) * U // 2 * (1 if is_anticlockwise(piece.corners) else -1)
+    across = (py - y) * far // one + (y - ny) * far // two
+    up = (x - px) * far // one + (nx - x) * far // two
+    return micrometres(x + across, y + up)
+
+
+def is_anticlockwise(corners: List[Spot]) -> bool:
+    return sum(a[0] * b[1] - b[0] * a[1] for a, b in zip(corners, corners[1:] + corners[:1])) > 0
+
+
 def near(rng: random.Random, pieces: List[Piece], count: int) -> List[Spot]:
-    """Places near borders: of pieces one by one, and of all length alike."""
+    """Places near borders: of pieces one by one, of all length alike, and within corners of figures, which are few."""
     if not pieces:
         return []
-    lengths = [piece.length + 1 for piece in pieces]
-    chosen = rng.choices(pieces, k=count - count // 2) + rng.choices(pieces, lengths, k=count // 2)
-    return told([beside(rng, piece) for piece in chosen])
+    figures = [piece for piece in pieces if piece.radius == AREA and len(piece.corners) <= FEW]
+    found = [in_corner(rng, piece) for piece in rng.sample(figures, min(len(figures), count // 4))]
+    lengths, rest = [piece.length + 1 for piece in pieces], count - len(found)
+    chosen = rng.choices(pieces, k=rest - rest // 2) + rng.choices(pieces, lengths, k=rest // 2)
+    return told(found + [beside(rng, piece) for piece in chosen])
 
 
 def box_of(pieces: List[Piece]) -> Tuple[int, int, int, int]:

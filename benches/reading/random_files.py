@@ -1,6 +1,6 @@
 """Random lawful files that mix the words of all forms, each the same for the same seed. Lengths are in last places."""
 import random
-from typing import List, Tuple
+from typing import List, Sequence, Tuple
 
 # Forms: those of `check`; pads by macros; clear polarity, arcs, holes and polygons; changed objects too; drills.
 FORMS = ("plain", "macros", "clear", "changed", "drill")
@@ -14,6 +14,7 @@ IDLE = ("G04 a comment X1Y1D03*", "*", "%TA.AperFunction,Conductor*%", "%TD*%", 
 HEADS = ("%IPPOS*%", "%INx*%", "%OFA0B0*%", "G75*", "G01*", "%LPD*%")
 CHANGES = ("%LMX*%", "%LMXY*%", "%LR90*%", "%LR30*%", "%LS1.5*%")
 UNCHANGED = "%LMN*%\n%LR0*%\n%LS1*%"
+AXES = ((1, 0), (0, 1), (-1, 0), (0, -1))
 Spot = Tuple[int, int]
 
 
@@ -54,6 +55,9 @@ class Copper(Random):
         self.form, self.made, self.chosen, self.number = form, {}, 0, 10
         self.at, self.last, self.mode, self.is_in_block = (0, 0), 0, 0, False
         self.head()
+        self.every_aperture()
+        if form in ("clear", "changed"):
+            self.arc(self.rng.sample(AXES, 2))
         self.objects(rng.randint(5, 15))
         if self.chance(50) and form != "changed" or self.chance(20):
             self.block()
@@ -115,9 +119,22 @@ class Copper(Random):
 
     # ---- apertures
 
-    def define(self) -> None:
-        names = {"plain": "CCCRRO", "macros": "CROMMMM"}.get(self.form, "CROHP")
-        name = "C" if not self.made else self.rng.choice(names)
+    def every_aperture(self) -> None:
+        """Each kind of aperture of the form is flashed in a row below all else, so that a rule of any shows in every file."""
+        for name in sorted(set(self.names) - set(self.made.values())):
+            self.define(name)
+        for place, number in enumerate(sorted(self.made)):
+            self.chosen = number
+            self.word(f"D{number}*")
+            self.operation((self.length((5 * place - SPAN) * 1_000), self.length(-2 * SPAN * 1_000)), 3)
+
+    @property
+    def names(self) -> str:
+        """Kinds of apertures, the oftener the likelier."""
+        return {"plain": "CCCRRO", "macros": "CROMMMM"}.get(self.form, "CROHP")
+
+    def define(self, name: str = "") -> None:
+        name = name or ("C" if not self.made else self.rng.choice(self.names))
         self.number += self.rng.choice((1, 1, 1, 5))
         zero = "0" if self.chance(7) else ""
         how = {"C": self.circle, "H": self.holed, "P": self.polygon, "M": self.macro}.get(name)
@@ -228,12 +245,13 @@ class Copper(Random):
             if self.chance(10):
                 self.choose("C")
 
-    def arc(self) -> None:
-        """A quarter, a half, three quarters or the whole of a circle."""
+    def arc(self, sides: Sequence[Spot] = ()) -> None:
+        """A quarter, a half, three quarters or the whole of a circle, from one of its sides to another."""
+        sides = sides or [self.rng.choice(AXES) for _ in "ab"]
         self.choose("C")
         self.word("G75*")
         (x, y), r = self.place(), self.length(self.rng.randint(500, 4_000))
-        ends = [(x + i * r, y + j * r) for i, j in (self.rng.choice(((1, 0), (0, 1), (-1, 0), (0, -1))) for _ in "ab")]
+        ends = [(x + i * r, y + j * r) for i, j in sides]
         self.operation(ends[0], 2, True)
         self.mode = self.rng.choice((2, 3))
         self.word(f"G0{self.mode}X{ends[1][0]}Y{ends[1][1]}I{x - ends[0][0]}J{y - ends[0][1]}D01*")
@@ -290,6 +308,7 @@ class Drill(Random):
             self.rows.append(self.tool(it))
             for _ in range(rng.randint(1, 8)):
                 self.hole()
+        self.slot()
         self.rows += ["T0"] * self.chance(50) + ["M30", ""]
         self.lines = ["\n".join(self.rows)]
 
@@ -307,12 +326,15 @@ class Drill(Random):
     def place(self, is_whole: bool = False) -> str:
         return "".join(map(self.axis, "XY" if is_whole else self.rng.choice(("XY", "XY", "X", "Y"))))
 
+    def slot(self) -> None:
+        self.rows.append(f"{self.place(True)}G85{self.place()}")
+
     def hole(self) -> None:
         how = self.rng.randrange(100)
         if how < 70 or self.is_first:
             self.rows.append(self.place(self.is_first or how < 50))
         elif how < 85:
-            self.rows.append(f"{self.place(True)}G85{self.place()}")
+            self.slot()
         elif how < 95:
             along = ["G01" + self.place() for _ in range(self.rng.randint(1, 3))]
             self.rows += ["G00" + self.place(True), "M15", *along, "M16", "G05"]

@@ -120,6 +120,18 @@ class Plants(common.Case):
             seen, = table.rows_of([every[name]], ours.Ours(program, plant), [])
             self.assertFalse(seen.is_kept, (plant, name, seen.ours))
 
+    def test_random_files_show_each(self):
+        """Each random file of a form that knows the rule has places at which a faulty rule says otherwise."""
+        reader = ours.Ours(common.program())
+        for plant, form in (("radius", "plain"), ("radius", "drill"), ("turn", "clear"), ("turn", "changed"), ("obround", "plain"), ("obround", "macros"), ("obround", "drill")):
+            file = files.File("n", "drill" if form == "drill" else "copper", random_files.of(form, "1 0"))
+            spoilt = ours.Ours(common.program(), plant)
+            work = compare.Work(file, spoilt.reading(file.data, file.kind), spoilt, compare.Asked(200, 1))
+            work.ask_ours()
+            true = reader.states(reader.reading(file.data, file.kind), file.kind, work.places)
+            other = [one for one, two in zip(work.bounds, true) if one[0] == one[1] != two[0] == two[1]]
+            self.assertTrue(other, (plant, form))
+
 
 class Places(common.Case):
     def test_pieces(self):
@@ -143,6 +155,13 @@ class Places(common.Case):
             on += off < .0015
         self.assertLess(on, 30, "beside a corner one may lie on the next edge")
         self.assertEqual(places.near(random.Random(1), [], 5), [])
+
+    def test_within_corners(self):
+        """Off both edges of a corner, by half a step each, whichever way the contour runs."""
+        for corners in ([(0, 0), (10 ** 7, 0), (10 ** 7, 10 ** 7), (0, 10 ** 7)], [(0, 10 ** 7), (10 ** 7, 10 ** 7), (10 ** 7, 0), (0, 0)]):
+            for _ in range(40):
+                off = [min(v, 1_000 - v) for v in places.in_corner(random.Random(_), places.Piece(places.AREA, corners))]
+                self.assertTrue(all(1 <= v <= 30 for v in off), off)
 
     def test_anywhere(self):
         pieces = places.pieces_of(FLAT)
@@ -185,6 +204,10 @@ class Files(common.Case):
         for word in (rb"G0[23]X", rb"%LPC", rb"%SRX", rb"%LR30", rb"G36", rb",[\d.]+X[\d.]+X[\d.]+\*", rb"%ADD\d+P,", rb"%MOIN", rb"G54D"):
             self.assertRegex(text, word)
         self.assertRegex(b"".join(random_files.of("drill", str(seed)) for seed in range(20)), rb"(?s)G85.*M15\nG01")
+        # Each file flashes each kind of aperture of its form, or has a slot.
+        for form, words in (("plain", (rb",", rb"R,", rb"O,")), ("macros", (rb"O,", rb"Mac")), ("clear", (rb"O,", rb"P,", rb"G0[23]X")), ("changed", (rb"P,",)), ("drill", (rb"G85",))):
+            for word, seed in itertools.product(words, range(12)):
+                self.assertRegex(random_files.of(form, str(seed)), word, (form, seed))
 
     def test_random_ones_are_taken(self):
         reader = ours.Ours(common.program())

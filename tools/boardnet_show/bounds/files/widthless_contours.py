@@ -8,6 +8,8 @@ from boardnet_show.formats.gerber_machine import MOVE, STRAIGHT, Machine
 from boardnet_show.geometry.exact import Refused
 from boardnet_show.geometry.segments import Bands, dot, edges, place_beside, point_within
 
+from .wound_contours import wound_twice
+
 MOST_CORNERS = 10_000   # of a contour that is looked at
 FEW_EDGES = 200         # of one whose edges are parted where corners lie on them
 
@@ -81,26 +83,43 @@ def hair(corners):
 
 
 def told_of(data):
-    """What is told of a copper file's bytes, or nothing."""
+    """What is told of copper without width in a copper file's bytes, or nothing."""
     walk = Contours(data)
-    if not walk.scale or not walk.decimals:
-        return ""
-    found = [(number, spot) for number, spot in ((number, hair(corners)) for number, corners in walk.found if len(corners) > 2) if spot]
-    if not found:
-        return ""
+    return widthless(walk, data) if walk.scale and walk.decimals else ""
+
+
+def place_of(data, found):
+    """Where the first of some contours is told, by the number of the word that closes it and a spot in u, and how many more there are."""
     number, spot = found[0]
     more = f", and of {len(found) - 1} more contours" if len(found) > 1 else ""
-    return (f"copper without width at {', '.join(map(millimetres, walk.spot_in_u(spot)))} mm, command {number}, line {line_numbers(data, [number])[number]}{more}: "
+    return f"{', '.join(map(millimetres, spot))} mm, command {number}, line {line_numbers(data, [number])[number]}{more}"
+
+
+def widthless(walk, data):
+    found = [(number, walk.spot_in_u(spot)) for number, spot in ((number, hair(corners)) for number, corners in walk.found if len(corners) > 2) if spot]
+    if not found:
+        return ""
+    return (f"copper without width at {place_of(data, found)}: "
             "the contour runs along itself with no copper on its sides, and joins what it touches there")
 
 
+def wound(walk, data):
+    found = [(number, it) for number, it in ((number, wound_twice(corners)) for number, corners in walk.found) if it]
+    if not found:
+        return ""
+    # The place is beside a border: whole micrometres are near enough.
+    spots = [(number, tuple(round(v, -4) for v in walk.spot_in_u(it.place))) for number, it in found]
+    return (f"readers differ on it: a contour goes {found[0][1].times} times round what lies at {place_of(data, spots)}: "
+            "there is no copper here, by even and odd, and some where turns are counted")
+
+
 def notes(package):
-    """A note for each copper file that has such copper; what cannot be read says nothing here."""
+    """Notes on each copper file that has such contours; what cannot be read says nothing here."""
     for name in dict.fromkeys(package.manifest.copper):
         try:
             data = package.read(name)
-            told = told_of(data) if b"G36" in data else ""
+            walk = Contours(data) if b"G36" in data else None
         except (OSError, Refused, ValueError):
             continue
-        if told:
-            yield f"{name}: {told}"
+        if walk and walk.scale and walk.decimals:
+            yield from (f"{name}: {told}" for told in (widthless(walk, data), wound(walk, data)) if told)
