@@ -1,12 +1,14 @@
 #!/usr/bin/env python3
-"""Builds the program of a checkout and then runs a command: build.py TOP COMMAND [WORD ..]
+"""Proves and builds the program of a checkout and then runs a command: build.py TOP COMMAND [WORD ..]
 
 The program is taken where it stands for the very same sources: in the checkout, where the gate left it, or among the
 programs that this user's earlier builds and gates kept. Else every crate is proved, as many at a time as processors
-and memory serve, and the program is built. What was proved stays, so an interrupted call goes on where it was. Meanwhile
-the words are tried, in the folder of the call, and the trial's answer is told as one that is not proved.
+and memory serve, and the program is built. What was proved stays, so an interrupted call goes on where it was.
 
-    build.py --only TOP [WORD ..]   the same, and then runs nothing
+    build.py --only TOP             the same, and then runs nothing
+    build.py --find TOP             what there is without a proof: `proved`, the path of a kept trial build, or nothing
+    build.py --trial TOP [COMMAND [WORD ..]]
+                                    the same, and where there is nothing makes a trial build first; then runs the command
     build.py --keep TOP SOURCES     keeps a program that the gate built of sources of this sum, for other checkouts of the same
 """
 import os
@@ -22,18 +24,16 @@ try:
     import children  # noqa: E402
     import kept  # noqa: E402
     import order  # noqa: E402
+    import trial  # noqa: E402
     from progress import Progress  # noqa: E402
     from proof import Failed, Proof  # noqa: E402
-    from trial import Trial  # noqa: E402
 except Exception as fault:
     print(f"boardnet: the program cannot be built: Python 3.8 or later with its whole library is wanted ({type(fault).__name__} {fault})", file=sys.stderr)
     sys.exit(127)
 
 INTERRUPTED, FAILED = 130, 70
-# A check takes one to four gigabytes, as does a trial.
+# A check takes one to four gigabytes.
 MEMORY_OF_A_CHECK = 3 << 30
-# Seconds in which a trial has more than one place.
-FIRST = 90
 # Seconds between two looks at what runs.
 LOOK = 0.1
 
@@ -70,12 +70,12 @@ def why(log):
 
 
 class Build:
-    """Proves the crates, tries the words meanwhile, and gives the checkout its program."""
+    """Proves the crates, and gives the checkout its program."""
 
-    def __init__(self, top, made, words):
-        self.top, self.made, self.words = top, made, words
+    def __init__(self, top, made):
+        self.top, self.made = top, made
         self.log = os.path.join(os.path.dirname(kept.program_of(top)), "build.log")
-        self.proof = self.trial = self.progress = None
+        self.proof = self.progress = None
 
     def begin(self):
         with open(self.log, "wb"):
@@ -83,29 +83,15 @@ class Build:
         self.proof.read(self.made.toolchain)
         if not self.proof.left:
             return
-        self.places = places()
-        self.trial = Trial()
-        if self.places > 1:
-            self.trial.begin(self.proof.sources, os.getcwd(), self.words)
         self.progress = Progress(self.proof.left, sys.stderr)
-        self.progress.begin(self.trial.is_running())
-
-    def free(self):
-        """A trial compiles and checks side by side, so it has two of four places at first, and one of fewer; then one."""
-        if not self.trial.is_running():
-            return self.places
-        is_first = time.monotonic() < self.progress.started + FIRST
-        return self.places - (min(2, self.places // 2) if is_first else 1)
+        self.progress.begin()
 
     def work(self):
+        room = places()
         while self.proof.left:
-            self.proof.step(self.free())
+            self.proof.step(room)
             self.progress.left, self.progress.at_work = len(self.proof.left), list(self.proof.running)
             self.progress.tell()
-            told = self.trial.told()
-            if told:
-                self.progress.end()
-                say(told)
             time.sleep(LOOK)
 
     def run(self):
@@ -131,8 +117,6 @@ class Build:
                 self.end()
 
     def end(self):
-        if self.trial:
-            self.trial.end()
         if self.proof:
             self.proof.end()
         if self.progress:
@@ -151,20 +135,45 @@ def warn_of_other_kit(top, found):
         say(f"rt version prints {found or 'nothing'}; these sources are made for {wanted}")
 
 
-def build(top, words):
+def is_proved(top, made):
+    """Whether the program stands for these sources, or did in another checkout, from which it is taken."""
+    if kept.is_same(top, made):
+        return True
+    is_taken = kept.take(top, made)
+    if is_taken:
+        say("taking the program that this machine built of the same sources")
+    return is_taken
+
+
+def build(top):
     """Returns once the program stands for these sources."""
     toolchain = line_of_rt()
     warn_of_other_kit(top, toolchain)
     while True:
         made = kept.Made(toolchain, kept.sum_of_sources(top))
-        if kept.is_same(top, made):
+        if is_proved(top, made):
             return
-        if kept.take(top, made):
-            say("taking the program that this machine built of the same sources")
-            return
-        if Build(top, made, words).run():
+        if Build(top, made).run():
             kept.keep(top, made)
         # The next turn looks at the sources again: they are the caller's, and may have changed.
+
+
+def found(top, is_made):
+    """`proved`, the path of a trial build of the sources, or nothing where none is kept and none is to be made."""
+    toolchain, path = line_of_rt(), None
+    while True:
+        made = kept.Made(toolchain, kept.sum_of_sources(top))
+        if is_proved(top, made):
+            return "proved"
+        path = trial.take(made)
+        if path or not is_made:
+            return path or ""
+        warn_of_other_kit(top, toolchain)
+        say("the program is not proved yet: making a trial build, in about a minute; `boardnet prove` proves it, in up to "
+            "an hour")
+        path = trial.build(top, made, say)
+        if path:
+            return path
 
 
 def keep(top, sources):
@@ -176,35 +185,59 @@ def keep(top, sources):
     kept.keep(top, made)
 
 
-def call(top, command, words):
-    """Builds, and then runs the command where there is one, which begins again with the launcher."""
+def interruptible(work, words):
+    """Does some work; an interrupt ends it with these words, once nothing is left behind."""
     for number in children.heard():
         signal.signal(number, children.interrupt)
     try:
-        build(top, words)
+        return work()
+    except KeyboardInterrupt:
+        raise Stop(INTERRUPTED, f"interrupted; {words}") from None
+
+
+def call(top, command, words):
+    """Builds, and then runs the command where there is one, which begins again with the launcher."""
+    def work():
+        build(top)
         if command:
             # Where the program's time could not be set, the launcher would call again for ever.
             os.execve(command, [command, *words], dict(os.environ, BOARDNET_BUILT=top))
-    except KeyboardInterrupt:
-        raise Stop(INTERRUPTED, "interrupted; what was proved is kept, and the next call goes on there") from None
+    interruptible(work, "what was proved is kept, and the next call goes on there")
+
+
+def tell(top, is_made, command=None, words=()):
+    """Prints what there is without a proof, or runs the command, which begins again with the launcher."""
+    def work():
+        path = found(top, is_made)
+        if command:
+            os.execv(command, [command, *words])
+        print(path)
+    try:
+        interruptible(work, "there is no trial build yet, and the next call makes it")
+    except trial.NoTrial as why:
+        raise Stop(FAILED, f"there is no trial build of these sources ({why}); `boardnet prove` proves them") from None
 
 
 def main(words):
-    flag = words[0] if words[:1] in (["--only"], ["--keep"]) else None
-    if len(words) < 2 or flag == "--keep" and len(words) != 3:
+    flag = words[0] if words[:1] and words[0] in ("--only", "--find", "--trial", "--keep") else None
+    if len(words) < 2 or flag in ("--only", "--find", "--keep") and len(words) != (3 if flag == "--keep" else 2):
         sys.exit(__doc__)
-    top, command = (words[1], None) if flag else words[:2]
     try:
         if flag == "--keep":
-            keep(top, words[2])
+            keep(*words[1:])
+        elif flag in ("--find", "--trial"):
+            tell(words[1], flag == "--trial", *words[2:3], words[3:])
+        elif flag:
+            call(words[1], None, [])
+            say("the program is proved and built: every command answers by it")
         else:
-            call(top, command, words[2:])
+            call(words[0], words[1], words[2:])
         return 0
     except Stop as stop:
         say(stop)
         return stop.status
     except OSError as error:
-        say(f"{error.filename or top}: {error.strerror}")
+        say(f"{error.filename or words[1]}: {error.strerror}")
         return FAILED
     except Exception as fault:
         say(f"a fault of the launcher, which is no answer on the board ({type(fault).__name__} {fault})")

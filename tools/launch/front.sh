@@ -2,7 +2,12 @@
 # of manifests, and a loud word where nothing was judged. It changes no status and no byte of the program's output.
 #
 # The caller sets home (where help.txt and the tools lie), sets program, and has the functions version and ready: ready sees
-# to it that the program is there, or for show that it knows where to have it built.
+# to it that the program is there, or for show that it knows where to have it built. It sets is_trial where that is a trial build.
+
+# What the caller asks for before the command: to wait for the proved program; a trial's text, and its status.
+waits='' trial='' is_trial=''
+# The status of a trial's yes or no, on which nothing rests.
+not_proved=75
 
 say() { printf 'boardnet: %s\n' "$*" >&2; }
 
@@ -202,8 +207,29 @@ go_and_run() {
     fi
   fi
   ready "$@"
-  run "$@"
+  if [ -n "$is_trial" ]; then try_out "$@"; else run "$@"; fi
   exit "$status"
+}
+
+# Says what an answer is that no proof stands behind.
+tell_trial() { say "NOT PROVED YET: a trial build of these sources, with run-time checks and no proof, says: $1. \`boardnet prove\` proves the program"; }
+
+# Sets the status of a trial: a yes or a no of it is none, where the caller did not ask for it.
+judge_trial() { [ -n "$trial" ] || case $status in 0 | 1 | 11) status=$not_proved ;; esac; }
+
+# Runs a trial build with these words. Its line is told as what it is; its text goes to where nobody reads it, unless the caller
+# asked for it.
+try_out() {
+  if [ -n "$trial" ] && { : >&1; } 2>/dev/null; then exec 9>&1; else exec 9>/dev/null; fi
+  notes=$({ run "$@" >&9 9>&-; exit "$status"; } 2>&1)
+  status=$?
+  line=
+  while IFS= read -r rest; do
+    if [ -n "$line" ]; then printf '%s\n' "$rest" >&2; else line=${rest#boardnet: }; tell_trial "${line:-nothing}"; fi
+  done <<END
+$notes
+END
+  judge_trial
 }
 
 # Whether the command is a tool, which lies beside the help text. That text is not asked: a shell reads it byte by byte.
@@ -219,11 +245,16 @@ need_python() {
     { say "\`boardnet $1\` wants Python 3.8 or later, and the python3 on the PATH is older or does not start"; exit 127; }
 }
 
-# Runs a tool with Python, which alone wants it; nothing but its own library, so that it starts sooner.
+# Runs a tool with Python, which alone wants it; nothing but its own library, so that it starts sooner. What one says by a trial
+# build goes to standard error, unless the caller asked for it, and it knows then that its yes or no is none.
 tool() {
   need_python "$1"
   tool=$home/$1
   shift
+  if [ -n "$is_trial" ]; then
+    export BOARDNET_TRIAL="${trial:-unasked}"
+    [ -n "$trial" ] || exec >&2
+  fi
   exec python3 -S "$tool" "$@"
 }
 
@@ -245,6 +276,7 @@ same_as() {
 # Runs the program over a board that agrees and one that does not, and audits a right report and a wrong one.
 selftest() {
   ready selftest
+  [ -z "$is_trial" ] || [ -n "$trial" ] || exec >&2
   boards=$home/examples amiss=
   [ -d "$boards" ] || boards=${home%/*}/examples
   scratch=$(mktemp -d) || exit 70
@@ -259,12 +291,26 @@ selftest() {
   tried 1 'check of a board with opens and shorts' check m.json
   tried 1 'audit of a report of another board' audit m.json ../two_layer/report.txt
   [ -z "$amiss" ] || { say "selftest: something is wrong with this installation; nothing that it says is to be trusted"; exit 70; }
+  if [ -n "$is_trial" ]; then
+    tell_trial 'selftest: all as it must be'
+    status=0
+    judge_trial
+    exit "$status"
+  fi
   printf 'selftest: all as it must be\n'
   exit 0
 }
 
 # Judges the words.
 front() {
+  while :; do
+    case ${1-} in
+      --wait) waits=1 ;;
+      --trial) trial=1 ;;
+      *) break ;;
+    esac
+    shift
+  done
   case ${1-} in
     --help | -h) help; exit 0 ;;
     --version) version; exit 0 ;;

@@ -25,9 +25,9 @@ class Progress:
         self.left, self.at_work, self.width = len(crates), [], 0
         self.started = self.told = time.monotonic()
 
-    def begin(self, is_tried):
-        first = "a first answer, not proved, comes meanwhile; " if is_tried else ""
-        print(f"boardnet: the program is not built yet: proving {self.crates} crates and building it; {first}it can be interrupted, and goes on there", file=self.out, flush=True)
+    def begin(self):
+        print(f"boardnet: proving {self.crates} crates, and then building the program; it can be interrupted, and goes on there. "
+              "Other calls answer by a trial build meanwhile", file=self.out, flush=True)
 
     def text(self):
         what = "proving " + ", ".join(self.at_work) if self.at_work else "reading the sources"

@@ -31,7 +31,7 @@ def commands():
 
 def is_of_the_installed(head):
     """Whether the command is there where only the program and its tools are."""
-    return head.split()[0] not in ("install", "package")
+    return head.split()[0] not in ("prove", "install", "package")
 
 
 def installed():

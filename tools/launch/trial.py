@@ -1,135 +1,141 @@
-"""The caller's command tried before anything is proved: the toolchain compiles the sources with run-time checks, and runs them once.
+"""A trial build: the program as the toolchain compiles it with run-time checks and no proof, kept by the sum of its sources.
 
-Its answer is told as what it is, on standard error, and nothing rests on it. A trial that gives none says nothing.
+`rt try` compiles the sources, runs the program once and throws it away. So it is given words that keep the program at work for some
+seconds, and its file is copied meanwhile. What is kept so is told apart from what is proved by its folder, and nothing rests on it.
 """
-import json
+import contextlib
+import fcntl
+import hashlib
 import os
 import re
 import shutil
-import tempfile
+import subprocess
+import time
+from typing import Iterator, Optional
 
 import kept
+import proved
 from children import Child, end_inside
 
-# Commands whose first word is a manifest.
-OF_MANIFEST = ("check", "audit", "write", "x2", "gaps")
-# Commands of the launcher that want the program.
-NOT_TRIED = ("install",)
-# Names that the toolchain keeps for itself in the folder of a trial.
-TAKEN = ("program", "stdin", "stdout", "stderr")
-ENDED = re.compile(rb"^run=ended status=(\d+) .*proved=no\n\Z", re.M)
-# Lines of a text whose test points cannot contradict one another: none, one alone, or all without net.
-FEW_POINTS = re.compile(rb"^(?:points [01]|names 1\nname 0 N/C)$", re.M)
+# The words: they read no file, and the largest board that they make takes the program longest.
+WORDS = ("trial", "1", "10000")
+# What the toolchain calls the program.
+PROGRAM = "program"
 NICE = "5"
-
-
-def names_of(manifest):
-    """The files that a manifest names; none where it is no manifest, for then the program reads no other."""
-    if not os.path.isfile(manifest):
-        # What a pipe gives is the program's.
-        return []
-    try:
-        with open(manifest, "rb") as file:
-            told = json.loads(file.read().decode("utf-8"))
-        return [*told["copper"], *(it["file"] for it in told["drills"]), told["netlist"]]
-    except (OSError, ValueError, TypeError, KeyError, RecursionError):
-        return []
-
-
-def files_of(words, folder):
-    """The files that the words are about, by their names in the folder, and where each lies."""
-    names = []
-    if words[0] in OF_MANIFEST and len(words) > 1:
-        names = [words[1], *names_of(os.path.join(folder, words[1]))]
-    elif words[0] == "between":
-        names = [*words[1:5], *(it for word in words[1:4] for it in names_of(os.path.join(folder, word)))]
-    elif words[0] == "flatten":
-        names = words[1:2]
-    return [(name, os.path.join(folder, name)) for name in names if isinstance(name, str)]
+# So many are kept.
+MOST = 2
+# Seconds between two looks at what runs.
+LOOK = 0.05
 
 
 class NoTrial(Exception):
-    """The toolchain's trial cannot give the program what the caller gives it."""
+    """The toolchain gave no program that could be copied."""
 
 
-def asked_of(words, folder):
-    """The words to try, and the files to give, each under its name with its path. A report that lies elsewhere is given under its own name."""
-    files, words = files_of(words, folder), list(words)
-    if words[0] == "audit" and len(words) > 2:
-        report, words[2] = os.path.join(folder, words[2]), os.path.basename(words[2])
-        files.append((words[2], report))
-    data = {}
-    for name, path in files:
-        plain, path = os.path.normpath(name), os.path.abspath(path)
-        if set(name) & {"=", "\0"} or os.path.isabs(name) or plain.split("/")[0] in ("..", *TAKEN) or data.get(plain, path) != path:
-            raise NoTrial
-        if os.path.isfile(path):
-            data[plain] = path
-        elif os.path.exists(path):
-            raise NoTrial
-    return words, data
+def folder() -> str:
+    return proved.own_folder(os.path.join(proved.base(), "boardnet-trials"))
 
 
-class Trial:
-    """A trial of the words in a folder; `told` gives its line once."""
+def take(made: kept.Made) -> Optional[str]:
+    """The trial build that is kept of these sources, whole; then it counts as used now."""
+    for name in os.listdir(folder()):
+        path = os.path.join(folder(), name)
+        if name.startswith(made.sum()) and name == f"{made.sum()}-{kept.sum_of_file(path)}":
+            os.utime(path)
+            return path
+    return None
 
-    def __init__(self):
-        self.scratch = self.child = self.report = None
 
-    def begin(self, sources, folder, words):
-        """Begins it, where the toolchain can try such words and there is room for a copy of the sources."""
-        if not words or words[0] in NOT_TRIED:
-            return
+def keep(made: kept.Made, data: bytes) -> str:
+    """Keeps a trial build; the oldest of too many go."""
+    path = os.path.join(folder(), f"{made.sum()}-{hashlib.sha256(data).hexdigest()}")
+    kept.write_whole(path, data, 0o755)
+    if not starts(path):
+        os.remove(path)
+        raise NoTrial("it does not run on this system")
+    found = sorted((os.path.join(folder(), name) for name in os.listdir(folder())), key=os.path.getmtime)
+    for old in found[:-MOST]:
+        os.remove(old)
+    return path
+
+
+@contextlib.contextmanager
+def alone(says) -> Iterator[None]:
+    """One trial build at a time for a user; another call waits for it, and then has it."""
+    handle = os.open(folder(), os.O_RDONLY)
+    try:
         try:
-            words, data = asked_of(words, folder)
-            self.report = data.get(words[2]) if words[0] == "audit" and len(words) > 2 else None
-            self.scratch = tempfile.mkdtemp(prefix="boardnet-trial-")
-            kept.copy_sources(sources, self.scratch)
-            given = [word for name, path in data.items() for word in ("--data", f"{name}={path}")]
-            self.start(["nice", "-n", NICE, "rt", "try", *given, "--", *words])
-        except (NoTrial, OSError):
-            self.end()
-
-    def start(self, asked):
-        crate = os.path.join(self.scratch, "crates", "boardnet")
-        self.child = Child(asked, crate, self.path("out"), dict(os.environ, TMPDIR=self.scratch), self.path("err"))
-
-    def path(self, name):
-        return os.path.join(self.scratch, name)
-
-    def is_running(self):
-        return self.child is not None
-
-    def told(self):
-        """The line to tell, once the trial has given an answer."""
-        if self.child is None or self.child.status() is None:
-            return None
-        try:
-            with open(self.path("err"), "rb") as notes, open(self.report or self.path("out"), "rb") as text:
-                return line_of(notes.read(), text.read())
+            fcntl.flock(handle, fcntl.LOCK_EX | fcntl.LOCK_NB)
         except OSError:
-            return None
+            says("another call makes a trial build: waiting for it")
+            fcntl.flock(handle, fcntl.LOCK_EX)
+        yield
+    finally:
+        os.close(handle)
+
+
+def running(scratch: str) -> Optional[bytes]:
+    """The bytes of the program that runs from a scratch folder, or nothing. The toolchain runs it by a loader of its own, so it is known by what
+    a process has mapped as code; a file that is so is whole."""
+    inside = re.escape(os.fsencode(os.path.realpath(scratch) + os.sep))
+    code = re.compile(rb"^\S+ r-xp .* (" + inside + rb"(?:.*/)?" + os.fsencode(PROGRAM) + rb")$", re.M)
+    for number in filter(str.isdigit, os.listdir("/proc")):
+        with contextlib.suppress(OSError):
+            with open(f"/proc/{number}/maps", "rb") as maps:
+                found = code.search(maps.read())
+            if found:
+                with open(found[1], "rb") as file:
+                    return file.read()
+    return None
+
+
+def starts(path: str) -> bool:
+    """Whether the system's own loader runs a copy: without words the program says that it does not understand them."""
+    done = subprocess.run([path], stdin=subprocess.DEVNULL, stdout=subprocess.PIPE, stderr=subprocess.PIPE, check=False)
+    return done.returncode == 2 and done.stderr.startswith(b"boardnet: ")
+
+
+def first_error(path: str) -> str:
+    with open(path, encoding="utf-8", errors="replace") as file:
+        return next((line.strip()[:200] for line in file if re.search(r"\berror\b|^rt: ", line)), "it says nothing")
+
+
+def compiled(sources: str, scratch: str) -> bytes:
+    """The program of a copy of the sources, while it runs."""
+    notes = os.path.join(scratch, "notes")
+    words = ["nice", "-n", NICE, "rt", "try", "--", *WORDS]
+    child = Child(words, os.path.join(sources, "crates", "boardnet"), os.path.join(scratch, "out"), dict(os.environ, TMPDIR=scratch), notes)
+    try:
+        while True:
+            has_ended = child.status() is not None
+            data = running(scratch)
+            if data:
+                return data
+            if has_ended:
+                raise NoTrial(first_error(notes))
+            time.sleep(LOOK)
+    finally:
+        child.end()
+        end_inside(scratch)
+
+
+def build(top: str, made: kept.Made, says) -> Optional[str]:
+    """Makes and keeps the trial build of a checkout's sources, and answers its path; nothing where they are no more those that were asked
+    for."""
+    with alone(says):
+        path = take(made)
+        if path:
+            return path
+        scratch = os.path.join(proved.base(), "boardnet-trial-work")
+        # A call that was killed left it.
+        end_inside(proved.own_folder(scratch))
+        shutil.rmtree(scratch)
+        proved.own_folder(scratch)
+        try:
+            sources = os.path.join(scratch, "sources")
+            kept.copy_sources(top, sources)
+            if kept.sum_of_sources(sources) != made.sources:
+                return None
+            return keep(made, compiled(sources, scratch))
         finally:
-            self.end()
-
-    def end(self):
-        """Ends it and all that it started, and leaves nothing behind."""
-        if self.child:
-            self.child.end()
-        if self.scratch:
-            end_inside(self.scratch)
-            shutil.rmtree(self.scratch, ignore_errors=True)
-        self.scratch = self.child = None
-
-
-def line_of(notes, text):
-    """What is told of a trial that ended, by its notes and its text or the report that it audited, or None where it gave no answer of the
-    program."""
-    said = re.search(rb"^boardnet: (.*)$", notes, re.M)
-    ended = ENDED.search(notes)
-    if not said or not ended:
-        return None
-    answer = said.group(1).decode("utf-8", "replace")
-    if ended[1] == b"0" and FEW_POINTS.search(text):
-        answer += ", BUT NOTHING WAS JUDGED, since no two test points could contradict one another"
-    return f"NOT PROVED YET: a trial build of these sources, with run-time checks and no proof, says: {answer}. The proved answer follows"
+            shutil.rmtree(scratch, ignore_errors=True)

@@ -6,7 +6,7 @@ from boardnet_show.findings.explained import Explained, title_of
 from boardnet_show.findings.finding import with_short_names
 from boardnet_show.formats import gerber_attributes, ipc356, report
 from boardnet_show.intake import mending, netlist_files, package
-from boardnet_show.judging import answers, judged, net_ties, nothing_judged
+from boardnet_show.judging import answers, building, judged, net_ties, nothing_judged
 from boardnet_show.netlists import own_names
 from boardnet_show.output.shown import Shown
 
@@ -156,7 +156,7 @@ def explained(program, told, seen, asked):
 def of_files(files, seen):
     """The same with what was made of the files first: mends, and a netlist of the copper's own names."""
     answer = seen.answer._replace(mends=len(files.mends), advice=mending.way_out(files, seen.answer.refusal),
-                                  is_by_own_names=bool(files.own) and seen.answer.status in own_names.ANSWERS)
+                                  is_by_own_names=bool(files.own) and seen.answer.status in own_names.ANSWERS, is_trial=building.is_trial())
     return seen._replace(answer=answer, mends=files.mends, notes=[*(f"mended: {it.words}" for it in files.mends), *seen.notes])
 
 

@@ -36,7 +36,8 @@ class Both(NamedTuple):
 
 
 class Answer(NamedTuple):
-    """`said` is the program's own line, or why the board is not judged; `no_bounds` why there are no bounds of a board that is refused."""
+    """`said` is the program's own line, or why the board is not judged; `no_bounds` why there are no bounds of a board that is refused;
+    `is_trial` whether a trial build said it, which is not proved."""
 
     status: int
     kind: str
@@ -47,6 +48,7 @@ class Answer(NamedTuple):
     no_bounds: str = ""
     mends: int = 0
     is_by_own_names: bool = False
+    is_trial: bool = False
     advice: Advice = Advice(0, "")
 
     def is_between(self) -> bool:

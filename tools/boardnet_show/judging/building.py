@@ -1,4 +1,4 @@
-"""A program that is not built yet: what the files say without it is told, and then it is built, while its first command is tried."""
+"""A program that is not built yet: what the files say without it is told, and then a trial build is made."""
 import os
 import subprocess
 import sys
@@ -16,6 +16,11 @@ def checkout():
     return os.environ.get("BOARDNET_BUILDS")
 
 
+def is_trial():
+    """Whether the launcher says that a trial build answers, which no proof stands behind."""
+    return bool(os.environ.get("BOARDNET_TRIAL"))
+
+
 def known(package):
     """What the files say before anything is judged."""
     told = package.manifest
@@ -31,17 +36,21 @@ def known(package):
     return lines + [f"left out: {word}" for word in package.left_out]
 
 
-def build(package, words):
-    """Builds the program; meanwhile the words are tried in the package's folder."""
+def build(package):
+    """Has a trial build made, or the proved program taken, and names it for all that runs it."""
     for line in known(package):
         print(printable(f"boardnet: {package.home or package.name}: {line}"), file=sys.stderr, flush=True)
-    running = subprocess.Popen([sys.executable, BUILDER, "--only", checkout(), *words], cwd=package.folder, stdin=subprocess.DEVNULL)
+    running = subprocess.Popen([sys.executable, BUILDER, "--trial", checkout()], stdin=subprocess.DEVNULL, stdout=subprocess.PIPE)
     try:
-        status = running.wait()
+        out, _ = running.communicate()
     except BaseException:
         running.terminate()
         running.wait()
         raise
+    status = running.returncode
     if status:
         # Signals as a shell says them; what else it ends with by a fault of its own is no status of a board.
         raise Stop(128 - status if status < 0 else status if status >= FAULT else FAULT, "the program is not built")
+    path = os.fsdecode(out).strip()
+    if path != "proved":
+        os.environ["BOARDNET"] = path

@@ -31,7 +31,7 @@ def found():
             return os.path.abspath(path)
     if named:
         raise Stop(NO_PROGRAM, f"BOARDNET names {named}, which is no program that can be run")
-    raise Stop(NO_PROGRAM, "the program is not built; `boardnet show` builds it, and BOARDNET names one that lies elsewhere")
+    raise Stop(NO_PROGRAM, "the program is not built; `boardnet show` has one made, and BOARDNET names one that lies elsewhere")
 
 
 class Program:
@@ -41,13 +41,13 @@ class Program:
         self.path, self.progress = path, progress
         self.running = self.unbuilt = None
 
-    def built(self, package, words):
+    def built(self, package):
         """Has the program built; that is tried once."""
         if self.unbuilt:
             raise self.unbuilt
         try:
             self.progress.end()
-            building.build(package, words)
+            building.build(package)
             self.path = found()
         except Stop as stop:
             self.unbuilt = stop
@@ -56,7 +56,7 @@ class Program:
     def run(self, package, *words):
         """Runs a command on a package's files."""
         if not self.path:
-            self.built(package, words)
+            self.built(package)
         how = {"cwd": package.folder, "stdin": subprocess.DEVNULL, "stdout": subprocess.PIPE, "stderr": subprocess.PIPE}
         try:
             self.running = subprocess.Popen([self.path, *words], **how)

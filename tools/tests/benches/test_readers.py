@@ -402,3 +402,5 @@ class Command(common.Case):
             self.assertIn(f"  {name}", out)
         status, _, notes = self.run_words([bench, "--program", "none/there"])
         self.assertEqual((status, "wants the built program" in notes), (1, True))
+        # A path that is not there is told before minutes have gone.
+        self.assertEqual(self.run_words([bench, "none", "--program", sys.executable])[::2], (1, "benches/readers: none is not there\n"))

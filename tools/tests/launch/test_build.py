@@ -1,15 +1,16 @@
 """The first call, over a stand-in for the toolchain."""
 import io
 import os
+import re
 import shutil
 import signal
 import subprocess
 import sys
 import time
-import types
 from unittest import mock
 
-from tests.fixtures import common
+from tests.fixtures import common, made
+from tests.fixtures.made import flash, gerber, manifest, netlist, record
 
 sys.path.insert(0, os.path.join(common.TOOLS, "launch"))
 import build  # noqa: E402
@@ -19,29 +20,26 @@ import proved  # noqa: E402
 import times  # noqa: E402
 import trial  # noqa: E402
 
+FIRST = "NOT PROVED YET (trial build): "
 # Seconds for what takes a moment: the machine may be busy.
 PATIENCE = 100
-# A trial answers, or does what RT_TRIAL says.
+# A trial runs a program of its own until it is ended, or does what RT_TRIAL says.
 RT = """#!/bin/sh
 echo "$PWD: rt $*" >>"$RT_CALLS"
 case "$1" in
   version) echo "${RT_LINE-@LINE@}" ;;
   ci) eval "$RT_CI" ;;
   try)
-    [ "$RT_TRIAL" != slow ] || sleep 300
-    [ "$RT_TRIAL" != refused ] || { echo "error: it does not compile" >&2; echo "run=none proved=no" >&2; exit 1; }
-    while [ "$1" != -- ]; do [ "$1" != --data ] || echo "given ${2%%=*}" >>"$RT_CALLS.data"; shift; done
-    shift
     echo "tried $*" >>"$RT_CALLS.data"
-    printf 'boardnet 2\\npoints %s\\n' "${RT_POINTS-2}"
-    echo "boardnet: tried" >&2
-    [ "$RT_TRIAL" != fault ] || { echo "run=fault proved=no" >&2; touch "$RT_CALLS.tried"; exit 4; }
-    echo "checked: ended status=0" >&2
-    echo "run=ended status=0 runners=1 proved=no" >&2
-    touch "$RT_CALLS.tried" ;;
+    [ "$RT_TRIAL" != slow ] || sleep 300
+    while [ "$RT_TRIAL" = held ] && [ ! -e "$RT_CALLS.hold" ]; do sleep 0.05; done
+    [ "$RT_TRIAL" != refused ] || { echo "error: it does not compile" >&2; echo "run=none proved=no" >&2; exit 1; }
+    mkdir -p "$TMPDIR/rt-try/native"
+    cp "$(readlink -f "$(command -v sleep)")" "$TMPDIR/rt-try/native/program"
+    "$TMPDIR/rt-try/native/program" 300 ;;
 esac
 """
-# It makes a library where those that it is told of are whole. The crate high waits for the trial, or for ever, where RT_PROOF says so; where
+# It makes a library where those that it is told of are whole. The crate high waits to be let go, or for ever, where RT_PROOF says so; where
 # memory does not last, it is killed unless it has one job.
 RATTLE = """#!/bin/sh
 name=$3 root=$4 words=$*
@@ -58,11 +56,11 @@ while [ $# -gt 0 ]; do
 done
 touch "$TMPDIR/scratch"
 case "$RT_PROOF $name" in
-  "after high" | "refused-after high") while [ ! -e "$RT_CALLS.tried" ]; do sleep 0.05; done; sleep 0.3 ;;
+  "held high") while [ ! -e "$RT_CALLS.proof" ]; do sleep 0.05; done ;;
   "slow high") sleep 300 ;;
   "large high") [ "$jobs" = 1 ] || { [ ! -e "$RT_CALLS.large" ] && touch "$RT_CALLS.large" && kill -9 $$; } ;;
 esac
-case "$RT_PROOF $name" in "refused "* | "refused-after high" | "refused-last boardnet") echo "error: $name is not proved"; exit 1 ;; esac
+case "$RT_PROOF $name" in "refused "* | "refused-last boardnet") echo "error: $name is not proved"; exit 1 ;; esac
 case "$words" in
   *" --statements "*) mkdir "$made" && echo "$name" >"$made/format" ;;
   *" --toolchain "*) printf '#!/bin/sh\\necho built "$@"\\n' >"$made" ;;
@@ -75,8 +73,18 @@ while [ "$1" != -o ]; do shift; done
 [ -z "$RT_FAILS" ] || { echo "error: not linked"; exit 1; }
 cp "$3" "$2" && chmod +x "$2"
 """
+# What the trial build is, once it was copied while it ran.
+TRIAL = """#!/bin/sh
+[ $# -gt 0 ] || { echo "boardnet: words not understood" >&2; exit "${TRIAL_STARTS-2}"; }
+[ -z "$TRIAL_POINTS" ] || printf 'boardnet 2\\npoints %s\\n' "$TRIAL_POINTS"
+printf 'tried %s\\n' "$*"
+echo "boardnet: ${TRIAL_SAYS-agrees}" >&2
+exit "${TRIAL_ENDS-0}"
+"""
 ALL = ["low", "high", "boardnet"]
-NOT_PROVED = "boardnet: NOT PROVED YET: a trial build of these sources, with run-time checks and no proof, says: tried. The proved answer follows"
+NOT_PROVED = "boardnet: NOT PROVED YET: a trial build of these sources, with run-time checks and no proof, says: agrees. `boardnet prove` proves the program\n"
+MADE = "boardnet: the program is not proved yet: making a trial build, in about a minute; `boardnet prove` proves it, in up to an hour\n"
+PROVED = "boardnet: the program is proved and built: every command answers by it\n"
 
 
 def toolchain():
@@ -84,7 +92,9 @@ def toolchain():
         return file.read().strip()
 
 
-class Build(common.Case):
+class Checkout(common.Case):
+    """A checkout whose toolchain is a stand-in."""
+
     def setUp(self):
         super().setUp()
         self.write("kit/bin/rt", RT.replace("@LINE@", toolchain()), 0o755)
@@ -103,6 +113,9 @@ class Build(common.Case):
         # Memory that other work leaves is no matter here.
         build = f"{name}/tools/launch/build.py"
         self.write(build, self.read(build).replace("MEMORY_OF_A_CHECK = 3 << 30", "MEMORY_OF_A_CHECK = 1"), 0o755)
+        # A program that is copied while it runs is no script: this one answers in its place.
+        module = f"{name}/tools/launch/trial.py"
+        self.write(module, self.read(module).replace("return data", f"return open({self.write('trial', TRIAL)!r}, 'rb').read()"))
         self.write(f"{name}/crates.txt", "# lowest first\nlow:\nhigh: low thiserror\nboardnet: high low\nlow_tests: low\n")
         for crate in ("low", "high", "boardnet", "low_tests"):
             self.write(f"{name}/crates/{crate}/src/{'main' if crate == 'boardnet' else 'lib'}.rt", "// a source\n")
@@ -114,6 +127,28 @@ class Build(common.Case):
 
     def launch(self, *words, top="top", **more):
         return self.run_words([self.path(top, "boardnet"), *words], environment=self.environment(**more))
+
+    def waited(self, *words, **more):
+        """A call that waits for the proved program."""
+        return self.launch("--wait", *words, **more)
+
+    def begun(self, *words, folder="", **more):
+        """A call that runs by itself."""
+        how = {"env": dict(os.environ, **self.environment(**more)), "stdout": subprocess.PIPE, "stderr": subprocess.PIPE, "start_new_session": True}
+        running = subprocess.Popen([self.path("top", "boardnet"), *words], cwd=self.path(folder) if folder else self.scratch, **how)
+        self.addCleanup(running.stdout.close)
+        self.addCleanup(running.stderr.close)
+        return running
+
+    def tries(self):
+        """How often the toolchain made a trial build."""
+        return sum(": rt try" in line for line in self.calls_so_far())
+
+    def forget(self):
+        """Nothing is proved and nothing kept."""
+        self.calls()
+        for path in (self.path("cache"), self.path("top", "crates", "boardnet", "out")):
+            shutil.rmtree(path, ignore_errors=True)
 
     def calls(self):
         """The crates that were proved since, in the order in which they were begun."""
@@ -135,7 +170,7 @@ class Build(common.Case):
 
     def nothing_is_left(self):
         self.assertEqual(os.listdir(self.path("tmp")), [])
-        self.assertEqual([name for name in os.listdir(self.path("cache")) if name not in ("boardnet", "boardnet-proved", "boardnet-python")], [])
+        self.assertEqual([name for name in os.listdir(self.path("cache")) if name not in ("boardnet", "boardnet-proved", "boardnet-python", "boardnet-trials")], [])
         inside = [name for name in os.listdir("/proc") if name.isdigit() and self.works_here(name)]
         self.assertEqual(inside, [])
 
@@ -150,20 +185,24 @@ class Build(common.Case):
         except OSError:
             return False
 
+
+class Build(Checkout):
+    """Calls that wait for the proof."""
+
     def test_first_call_and_later_ones(self):
-        status, out, notes = self.launch("trial", "1", "2", BOARDNET_TELLS_EVERY="0")
+        status, out, notes = self.waited("trial", "1", "2", BOARDNET_TELLS_EVERY="0")
         self.assertEqual((status, out), (0, "built trial 1 2\n"))
-        self.assertIn("proving 3 crates", notes)
+        self.assertIn("boardnet: proving 3 crates, and then building the program; it can be interrupted", notes)
         self.assertIn(" of 3 crates proved, 0:0", notes)
         self.assertIn("proving boardnet", notes)
         self.assertEqual(self.calls(), ALL)
         self.assertEqual(self.proved(), ["boardnet", "high.rlib", "low.rlib"])
         self.nothing_is_left()
-        self.assertEqual(self.launch("check", "x")[1:], ("built check x\n", ""))
+        self.assertEqual(self.waited("check", "x")[1:], ("built check x\n", ""))
         self.assertEqual(self.calls(), [])
 
     def test_only_what_is_changed_is_proved_again(self):
-        self.launch("x")
+        self.waited("x")
         self.calls()
         rows = [
             # what is written, the toolchain, what is proved then
@@ -177,46 +216,46 @@ class Build(common.Case):
         for at, (name, toolchain_is, wanted) in enumerate(rows):
             with self.subTest(name=name):
                 self.write(f"top/{name}", f"// text {at}\n")
-                self.assertEqual(self.launch("x", **toolchain_is)[1], "built x\n")
+                self.assertEqual(self.waited("x", **toolchain_is)[1], "built x\n")
                 self.assertEqual(self.calls(), wanted)
         # What was proved in one checkout is proved in another.
         shutil.rmtree(self.path("cache", "boardnet"))
         self.checkout("other")
         self.write("other/crates/high/src/lib.rt", "// a text of its own\n")
-        self.assertEqual((self.launch("x", top="other")[1], self.calls()), ("built x\n", ["high", "boardnet"]))
+        self.assertEqual((self.waited("x", top="other")[1], self.calls()), ("built x\n", ["high", "boardnet"]))
 
     def test_so_many_are_kept(self):
         kept = [self.path(f"cache/boardnet-proved/{k:064}") for k in range(proved.MOST)]
         for k, path in enumerate(kept):
             os.makedirs(path)
             os.utime(path, (k, k))
-        self.launch("x")
+        self.waited("x")
         self.assertEqual([k for k, path in enumerate(kept) if not os.path.exists(path)], [0, 1, 2])
 
     def test_a_call_waits_for_another(self):
-        how = {"env": dict(os.environ, **self.environment(RT_PROOF="after", RT_TRIAL="slow")), "stdout": subprocess.PIPE, "stderr": subprocess.PIPE}
-        calls = [subprocess.Popen([self.path("top", "boardnet"), "x"], cwd=self.scratch, **how)]
+        how = {"env": dict(os.environ, **self.environment(RT_PROOF="held")), "stdout": subprocess.PIPE, "stderr": subprocess.PIPE}
+        calls = [subprocess.Popen([self.path("top", "boardnet"), "--wait", "x"], cwd=self.scratch, **how)]
         self.wait_for(": build high")
-        calls.append(subprocess.Popen([self.path("top", "boardnet"), "y"], cwd=self.scratch, **how))
+        calls.append(subprocess.Popen([self.path("top", "boardnet"), "--wait", "y"], cwd=self.scratch, **how))
         said = calls[1].stderr.readline().decode()
         self.assertEqual(said, "boardnet: another call proves the crates of this checkout: waiting for it\n")
-        self.write("calls.tried", "")
+        self.write("calls.proof", "")
         self.assertEqual([it.communicate(timeout=PATIENCE)[0] for it in calls], [b"built x\n", b"built y\n"])
         self.assertEqual(self.calls(), ALL)
         self.nothing_is_left()
 
     def test_killed(self):
-        how = {"env": dict(os.environ, **self.environment(RT_PROOF="slow", RT_TRIAL="slow")), "stderr": subprocess.DEVNULL}
-        running = subprocess.Popen([self.path("top", "boardnet"), "x"], cwd=self.scratch, **how)
+        how = {"env": dict(os.environ, **self.environment(RT_PROOF="slow")), "stderr": subprocess.DEVNULL}
+        running = subprocess.Popen([self.path("top", "boardnet"), "--wait", "x"], cwd=self.scratch, **how)
         self.wait_for(": build high")
         running.kill()
         running.wait()
-        self.assertEqual(self.launch("x")[1], "built x\n")
+        self.assertEqual(self.waited("x")[1], "built x\n")
         self.assertEqual(self.calls(), ["low", "high", "high", "boardnet"])
         self.assertEqual([name for name in os.listdir(self.path("cache")) if "proof" in name], [])
 
     def test_memory_does_not_last(self):
-        self.assertEqual((self.launch("x", RT_PROOF="large")[1], self.calls()), ("built x\n", ["low", "high", "high", "boardnet"]))
+        self.assertEqual((self.waited("x", RT_PROOF="large")[1], self.calls()), ("built x\n", ["low", "high", "high", "boardnet"]))
 
     def test_another_user(self):
         """What lies in a folder of another user does not count as proved."""
@@ -224,28 +263,28 @@ class Build(common.Case):
             self.skipTest("only root can give a folder away")
         os.makedirs(self.path("cache", "boardnet-proved"))
         os.chown(self.path("cache", "boardnet-proved"), 1, 1)
-        status, _, notes = self.launch("x")
+        status, _, notes = self.waited("x")
         self.assertEqual((status, "boardnet-proved: it belongs to another user: nothing can be proved" in notes, self.calls()), (70, True, []))
 
     def test_touched_and_changed(self):
-        self.launch("x")
+        self.waited("x")
         self.calls()
         source = self.path("top", "crates", "low", "src", "lib.rt")
         later = time.time() + 10
         os.utime(source, (later, later))
         # The bytes are those that were proved: nothing is built.
-        self.assertEqual(self.launch("x")[1:], ("built x\n", ""))
+        self.assertEqual(self.waited("x")[1:], ("built x\n", ""))
         self.assertEqual(self.calls(), [])
         self.write("top/crates/low/src/lib.rt", "// another\n")
         os.utime(source, (later + 10, later + 10))
-        self.assertEqual(self.launch("x")[0], 0)
+        self.assertEqual(self.waited("x")[0], 0)
         self.assertEqual(self.calls(), ALL)
 
     def test_another_checkout_takes_it(self):
-        self.launch("x")
+        self.waited("x")
         self.calls()
         self.checkout("other")
-        status, out, notes = self.launch("x", top="other")
+        status, out, notes = self.waited("x", top="other")
         self.assertEqual((status, out), (0, "built x\n"))
         self.assertIn("taking the program", notes)
         self.assertEqual(self.calls(), [])
@@ -253,13 +292,13 @@ class Build(common.Case):
             self.write(f"cache/boardnet/{name}", "#!/bin/sh\necho bad\n", 0o755)
         # One that is not whole is not taken, nor such a library.
         self.checkout("third")
-        self.assertEqual((self.launch("x", top="third")[1:], self.calls()), (("built x\n", ""), []))
+        self.assertEqual((self.waited("x", top="third")[1:], self.calls()), (("built x\n", ""), []))
         shutil.rmtree(self.path("cache", "boardnet"))
         for at, _, files in os.walk(self.path("cache", "boardnet-proved")):
             for name in set(files) & {"boardnet", "format"}:
                 self.write(os.path.join(at, name), "")
         self.checkout("fourth")
-        self.assertEqual((self.launch("x", top="fourth")[1], self.calls()), ("built x\n", ALL))
+        self.assertEqual((self.waited("x", top="fourth")[1], self.calls()), ("built x\n", ALL))
 
     def gate(self, **more):
         """The status of the gate, and what it says, over a program that is there."""
@@ -272,9 +311,9 @@ class Build(common.Case):
 
     def test_what_the_gate_left(self):
         self.assertEqual(self.gate(), (0, ""))
-        self.assertEqual(self.launch("x")[1:], ("gate\n", ""))
+        self.assertEqual(self.waited("x")[1:], ("gate\n", ""))
         self.checkout("other")
-        self.assertEqual(self.launch("x", top="other")[1], "gate\n")
+        self.assertEqual(self.waited("x", top="other")[1], "gate\n")
         self.assertEqual(self.calls(), [])
 
     def test_what_the_gate_notes(self):
@@ -295,114 +334,42 @@ class Build(common.Case):
 
     def test_times_that_cannot_be_set(self):
         """A checkout that one may not write: the program runs, as its note says what it is of."""
-        self.launch("x")
+        self.waited("x")
         self.calls()
         module = "top/tools/launch/kept.py"
         self.write(module, self.read(module).replace("os.utime(program_of(top), ns=(now, now))", "raise PermissionError"))
         ahead = time.time() + 1000
         os.utime(self.path("top", "crates", "low", "src", "lib.rt"), (ahead, ahead))
-        self.assertEqual((self.launch("x")[:2], self.calls()), ((0, "built x\n"), []))
+        self.assertEqual((self.waited("x")[:2], self.calls()), ((0, "built x\n"), []))
 
     def test_failed(self):
         for how, error in (({"RT_PROOF": "refused-last"}, "error: boardnet is not proved"), ({"RT_FAILS": "1"}, "error: not linked")):
-            status, out, notes = self.launch("x", **how)
+            status, out, notes = self.waited("x", **how)
             self.assertEqual((status, out), (70, ""))
             self.assertIn("the build failed; ", notes)
             self.assertIn(error, notes)
             self.assertIn(error, self.read("top/crates/boardnet/out/build.log"))
         self.assertEqual((self.calls(), self.proved()), (ALL + ["boardnet"], ["high.rlib", "low.rlib"]))
         shutil.rmtree(self.path("cache"))
-        status, _, notes = self.launch("x", RT_PROOF="refused")
+        status, _, notes = self.waited("x", RT_PROOF="refused")
         self.assertEqual((status, "error: low is not proved" in notes, self.calls()), (70, True, ["low"]))
         self.nothing_is_left()
 
-    def test_orders_of_trial_and_proof(self):
-        self.write("board/m.json", '{"copper":["t.gbr"],"drills":[{"file":"p.drl","from":1,"to":1}],"netlist":"n.ipc"}')
-        for name in ("t.gbr", "p.drl", "n.ipc"):
-            self.write(f"board/{name}", "")
-        rows = [
-            # what the trial does, what the proof does, the status, whether the trial's line is told
-            ("answers", "after", 0, True),
-            ("slow", "", 0, False),
-            ("refused", "", 0, False),
-            ("fault", "after", 0, False),
-            ("answers", "refused-after", 70, True),
-            ("slow", "refused", 70, False),
-        ]
-        for trial, proof, wanted, is_told in rows:
-            with self.subTest(trial=trial, proof=proof):
-                self.calls()
-                shutil.rmtree(self.path("cache"), ignore_errors=True)
-                shutil.rmtree(self.path("top", "crates", "boardnet", "out"), ignore_errors=True)
-                status, out, notes = self.launch("check", "board", RT_TRIAL=trial, RT_PROOF=proof)
-                self.assertEqual((status, out), (wanted, "built check m.json\n" if wanted == 0 else ""))
-                self.assertEqual(notes.count(NOT_PROVED), int(is_told), notes)
-                self.assertNotIn("tried", notes.replace(NOT_PROVED, ""))
-                self.nothing_is_left()
-        self.calls()
-
-    def test_what_is_tried(self):
-        manifest = '{"copper":["t.gbr"],"drills":[],"netlist":"sub/n.ipc"}'
-        for name, text in (("m.json", manifest), ("bad.json", manifest.replace("t.gbr", "a=b")), ("t.gbr", ""), ("sub/n.ipc", ""), ("r.txt", "")):
-            self.write(f"board/{name}", text)
-        self.write("r2.txt", "")
-        rows = [
-            (["check", "board"], ["given m.json", "given t.gbr", "given sub/n.ipc", "tried check m.json"]),
-            (["audit", "board", "r2.txt"], ["given m.json", "given t.gbr", "given sub/n.ipc", "given r2.txt", "tried audit m.json r2.txt"]),
-            (["audit", "board", "board/r.txt"], ["given m.json", "given t.gbr", "given sub/n.ipc", "given r.txt", "tried audit m.json r.txt"]),
-            (["flatten", "board/t.gbr"], ["given t.gbr", "tried flatten t.gbr"]),
-            (["check", "board/none.json"], ["tried check none.json"]),
-            (["trial", "1", "2"], ["tried trial 1 2"]),
-            # Names that the toolchain cannot give to a trial, what is no file, and a command that is none of the program.
-            (["check", "board/bad.json"], []),
-            (["check", "/dev/null"], []),
-            (["audit", "board", "/dev/null"], []),
-            (["install", "prefix"], []),
-        ]
-        for words, wanted in rows:
-            with self.subTest(words=words):
-                self.calls()
-                shutil.rmtree(self.path("cache"), ignore_errors=True)
-                shutil.rmtree(self.path("top", "crates", "boardnet", "out"), ignore_errors=True)
-                self.assertEqual(self.launch(*words, RT_PROOF="after" if wanted else "")[0], 0)
-                self.assertEqual(self.read("calls.data").splitlines() if wanted else [], wanted)
-                self.assertEqual(any(": rt try" in line for line in self.calls_so_far()), bool(wanted))
-
-    def test_a_trial_leaves_a_pipe_as_it_is(self):
-        end, begin = os.pipe()
-        os.write(begin, b"{}")
-        os.close(begin)
-        self.assertEqual(trial.names_of(f"/dev/fd/{end}"), [])
-        self.assertEqual(os.read(end, 10), b"{}")
-        os.close(end)
-
-    def test_a_trial_without_points(self):
-        notes = self.launch("check", "x", RT_PROOF="after", RT_POINTS="0")[2]
-        self.assertIn("says: tried, BUT NOTHING WAS JUDGED, since no two test points could contradict one another. The proved answer follows", notes)
-
     def test_other_toolchain(self):
-        notes = self.launch("x", RT_LINE="another")[2]
+        notes = self.waited("x", RT_LINE="another")[2]
         self.assertIn(f"rt version prints another; these sources are made for {toolchain()}", notes)
 
     def test_other_kit_of_the_same_logic(self):
-        notes = self.launch("x", RT_LINE="another-kit logic " + toolchain().partition(" logic ")[2])[2]
+        notes = self.waited("x", RT_LINE="another-kit logic " + toolchain().partition(" logic ")[2])[2]
         self.assertNotIn("rt version", notes)
 
     def test_interrupted(self):
-        rows = [
-            # as a terminal does it, to all of the group, or to the one process; before the trial's answer and after it
-            (signal.SIGINT, True, "slow", "rt try"),
-            (signal.SIGTERM, False, "slow", "rt try"),
-            (signal.SIGHUP, False, "slow", ": build high"),
-            (signal.SIGTERM, False, "answers", ": build high"),
-        ]
-        for number, is_for_all, trial, at in rows:
-            with self.subTest(signal=number, trial=trial):
+        """A proof, as a terminal interrupts it, to all of the group, or to the one process; by a signal, or as the terminal closes."""
+        for number, is_for_all, words in ((signal.SIGINT, True, ["prove"]), (signal.SIGTERM, False, ["--wait", "x"]), (signal.SIGHUP, False, ["prove"])):
+            with self.subTest(signal=number):
                 self.calls()
-                how = {"env": dict(os.environ, **self.environment(RT_PROOF="slow", RT_TRIAL=trial)), "stderr": subprocess.PIPE, "start_new_session": True}
-                running = subprocess.Popen([self.path("top", "boardnet"), "x"], cwd=self.scratch, **how)
-                self.addCleanup(running.stderr.close)
-                self.wait_for(at)
+                running = self.begun(*words, RT_PROOF="slow")
+                self.wait_for(": build high")
                 if is_for_all:
                     os.killpg(running.pid, number)
                 else:
@@ -411,10 +378,13 @@ class Build(common.Case):
                 self.assertEqual(running.returncode, 130)
                 self.assertIn("the next call goes on there", said)
                 self.nothing_is_left()
-        # What was proved before the last signal is kept.
-        self.assertEqual(self.proved(), ["low.rlib"])
+                self.assertEqual(self.proved(), ["low.rlib"])
+        # A call meanwhile is answered by a trial, and proves nothing.
         self.calls()
-        self.assertEqual((self.launch("x")[1], self.calls()), ("built x\n", ["high", "boardnet"]))
+        self.assertEqual((self.launch("x")[0], self.calls()), (75, []))
+        status, out, notes = self.launch("prove")
+        self.assertEqual((status, out, notes.endswith(PROVED), self.calls()), (0, "", True, ["high", "boardnet"]))
+        self.assertEqual((self.launch("x"), self.launch("prove"), self.calls()), ((0, "built x\n", ""), (0, "", PROVED), []))
 
     def test_signals_together(self):
         script = """
@@ -436,64 +406,199 @@ except KeyboardInterrupt:
 """
         self.assertEqual(self.run_words([sys.executable, "-c", script, os.path.join(common.TOOLS, "launch")]), (0, "cleaned up\ninterrupted\n", ""))
 
+
+
+class Trials(Checkout):
+    """Calls before the program is proved, and how they meet a proof, an interrupt and one another."""
+
+    def test_answers_before_the_proof(self):
+        """The first call makes a trial build, the next ones have it; nothing is proved. Its text is put for whoever asks for it."""
+        self.assertEqual(self.launch("check", "x"), (75, "", MADE + NOT_PROVED))
+        self.assertEqual(self.launch("check", "x"), (75, "", NOT_PROVED))
+        self.assertEqual(self.launch("--trial", "check", "x"), (0, "tried check x\n", NOT_PROVED))
+        self.assertEqual((self.tries(), self.calls(), self.proved_so_far()), (1, [], []))
+        self.nothing_is_left()
+
+    def proved_so_far(self):
+        return self.proved() if os.path.exists(self.path("cache", "boardnet-proved")) else []
+
+    def test_statuses(self):
+        """A yes or a no is none before the proof; what else a call ends with stays."""
+        for status in range(7):
+            self.assertEqual(self.launch("check", "x", TRIAL_ENDS=str(status))[:2], (75 if status < 2 else status, ""))
+            self.assertEqual(self.launch("--trial", "check", "x", TRIAL_ENDS=str(status))[:2], (status, "tried check x\n"))
+        # Of which nothing was judged says so.
+        notes = self.launch("check", "x", TRIAL_POINTS="0")[2]
+        self.assertEqual((notes.startswith(NOT_PROVED), "NOTHING WAS JUDGED: x names a netlist without test points" in notes), (True, True), notes)
+        status, out, notes = self.launch("check", "x", TRIAL_SAYS="t.gbr: Gerber 4 BadWord at command 1, byte 0", TRIAL_ENDS="3")
+        self.assertEqual((status, "no proof, says: t.gbr: Gerber 4 BadWord at command 1, byte 0. `" in notes), (3, True), notes)
+
+    def test_in_place(self):
+        """It runs where the program would, with the same words."""
+        self.write("a=b/m.json", "{}")
+        self.write("r.txt", "")
+        for words, wanted in ((["check", "a=b"], "check m.json"), (["audit", "a=b", "r.txt"], f"audit m.json {os.path.realpath(self.path('r.txt'))}"), (["trial", "1", "2"], "trial 1 2")):
+            self.assertEqual(self.launch("--trial", *words)[:2], (0, f"tried {wanted}\n"))
+
+    def test_beside_a_proof(self):
+        """A call beside a proof answers at once; once it has ended, by the proved program."""
+        proof = self.begun("prove", RT_PROOF="held")
+        self.wait_for(": build high")
+        self.assertEqual(self.launch("x"), (75, "", MADE + NOT_PROVED))
+        self.assertEqual(self.launch("x"), (75, "", NOT_PROVED))
+        self.write("calls.proof", "")
+        self.assertEqual(proof.communicate(timeout=PATIENCE)[1].decode()[-len(PROVED):], PROVED)
+        self.assertEqual((proof.returncode, self.launch("x"), self.launch("--trial", "x")), (0, (0, "built x\n", ""), (0, "built x\n", "")))
+        self.nothing_is_left()
+
+    def test_a_proof_beside_a_trial(self):
+        """A trial build that is being made does not keep a proof waiting. Where that has ended meanwhile, it answers."""
+        trying = self.begun("x", RT_TRIAL="held")
+        self.wait_for("rt try")
+        self.assertEqual(self.launch("--wait", "x")[:2], (0, "built x\n"))
+        self.write("calls.hold", "")
+        out, notes = trying.communicate(timeout=PATIENCE)
+        self.assertEqual((trying.returncode, out, notes.decode()), (0, b"built x\n", MADE))
+
+    def test_two_calls(self):
+        """The second waits for the first one's trial build, and has it."""
+        calls = [self.begun("x", RT_TRIAL="held")]
+        self.wait_for("rt try")
+        calls.append(self.begun("y", RT_TRIAL="held"))
+        said = [calls[1].stderr.readline().decode() for _ in "ab"]
+        self.assertEqual(said, [MADE, "boardnet: another call makes a trial build: waiting for it\n"])
+        self.write("calls.hold", "")
+        self.assertEqual([(it.communicate(timeout=PATIENCE)[0], it.returncode) for it in calls], [(b"", 75)] * 2)
+        self.assertEqual(self.tries(), 1)
+        self.nothing_is_left()
+
+    def test_interrupted_trial(self):
+        """An interrupt, a signal or a closed terminal leaves nothing; the next call makes it. A call that was killed leaves what the next removes."""
+        for number, is_for_all in ((signal.SIGINT, True), (signal.SIGTERM, True), (signal.SIGHUP, True), (signal.SIGKILL, False)):
+            self.calls()
+            running = self.begun("check", "x", RT_TRIAL="slow")
+            self.wait_for("rt try")
+            (os.killpg if is_for_all else os.kill)(running.pid, number)
+            if number == signal.SIGKILL:
+                subprocess.run(["pkill", "-KILL", "-s", str(running.pid), "python3"], check=False)
+            running.communicate(timeout=PATIENCE)
+            self.assertIn(running.returncode, (130, -number), number)
+            if number != signal.SIGKILL:
+                self.nothing_is_left()
+        self.calls()
+        self.assertEqual((self.launch("x")[0], self.tries()), (75, 1))
+        self.nothing_is_left()
+
+    def test_no_trial(self):
+        """Where the toolchain makes none, that is said, and the proof does not wait for it."""
+        status, out, notes = self.launch("x", RT_TRIAL="refused")
+        self.assertEqual((status, out), (70, ""))
+        self.assertIn("there is no trial build of these sources (error: it does not compile); `boardnet prove` proves them", notes)
+        self.nothing_is_left()
+        self.assertEqual(self.waited("x", RT_TRIAL="refused")[:2], (0, "built x\n"))
+
+    def test_what_is_kept(self):
+        """A trial of other sources, of another toolchain or with other bytes is not taken; the oldest go."""
+        self.launch("x")
+        kept = self.path("cache", "boardnet-trials")
+        name, = os.listdir(kept)
+        self.write(f"cache/boardnet-trials/{name}", "#!/bin/sh\necho boardnet: spoilt >&2\n", 0o755)
+        self.assertEqual((self.launch("x")[2], self.tries()), (MADE + NOT_PROVED, 2))
+        self.write("top/crates/low/src/lib.rt", "// another\n")
+        self.assertEqual((self.launch("x")[0], self.tries()), (75, 3))
+        self.assertEqual((self.launch("x", RT_LINE="another")[0], self.tries()), (75, 4))
+        self.assertEqual(len(os.listdir(kept)), trial.MOST)
+        self.checkout("other")
+        self.write("other/crates/low/src/lib.rt", "// another\n")
+        self.assertEqual((self.launch("x", top="other")[2], self.tries()), (NOT_PROVED, 4))
+
+    def test_who_may_keep_it(self):
+        if os.geteuid():
+            self.skipTest("only root can give a folder away")
+        os.makedirs(self.path("cache", "boardnet-trials"))
+        os.chown(self.path("cache", "boardnet-trials"), 1, 1)
+        status, out, notes = self.launch("x")
+        self.assertEqual((status, out, "boardnet-trials: it belongs to another user" in notes), (70, "", True), notes)
+
+    def test_the_bytes_of_what_runs(self):
+        """The file of a program that runs from a folder, whichever loader runs it; none of another folder, and none of another name."""
+        sleep = os.path.realpath(shutil.which("sleep"))
+        loader = [next(line.split()[-1] for line in self.read(f"/proc/{os.getpid()}/maps").splitlines() if "/ld-" in line)]
+        for name, by, is_found in (("a/program", [], True), ("a/program", loader, True), ("a/b/program", [], True), ("a/other", [], False)):
+            shutil.rmtree(self.path("a"), ignore_errors=True)
+            shutil.copy(sleep, self.write(name, ""))
+            os.chmod(self.path(name), 0o755)
+            with subprocess.Popen([*by, self.path(name), "300"]) as running:
+                try:
+                    self.wait_until_mapped(running, self.path(name))
+                    found = [trial.running(self.path(folder)) for folder in ("a", "bin")]
+                    with open(sleep, "rb") as file:
+                        self.assertEqual(found, [file.read() if is_found else None, None])
+                finally:
+                    running.kill()
+
+    def wait_until_mapped(self, running, path):
+        deadline = time.monotonic() + PATIENCE
+        while not re.search(rf" r-xp .* {re.escape(os.path.realpath(path))}\n", self.read(f"/proc/{running.pid}/maps")):
+            self.assertLess(time.monotonic(), deadline)
+
+    def test_a_trial_that_does_not_start(self):
+        """A copy that the system does not run is not kept, and answers nothing."""
+        status, out, notes = self.launch("x", TRIAL_STARTS="1")
+        self.assertEqual((status, out, "there is no trial build of these sources (it does not run on this system)" in notes), (70, "", True), notes)
+        self.assertEqual(os.listdir(self.path("cache", "boardnet-trials")), [])
+
+    def test_install_waits(self):
+        self.assertIn(": build high", "\n".join([self.launch("install", self.path("prefix"))[2], *self.calls_so_far()]))
+        self.assertEqual((self.tries(), self.proved_so_far()), (0, ["boardnet", "high.rlib", "low.rlib"]))
+
+    def test_show(self):
+        """It tells the files at once, then has the trial build made; what it says goes to standard error, unless that is asked for."""
+        self.write("board/m.json", '{"copper":["t.gbr"],"drills":[],"netlist":"n.ipc"}')
+        self.write("board/t.gbr", "M02*\n")
+        self.write("board/n.ipc", "317A\n999\n")
+        status, out, notes = self.launch("show", "board", BOARDNET="", TRIAL_ENDS="3", TRIAL_SAYS="t.gbr: Gerber 4 BadWord at command 1, byte 0")
+        lines, refused = notes.splitlines(), f"board: {FIRST}t.gbr: Gerber 4 BadWord at command 1, byte 0; line 1 of t.gbr"
+        self.assertEqual(lines[0], "boardnet: board: 1 copper files (t.gbr), 0 drill files, netlist n.ipc with 1 test records")
+        self.assertEqual((status, out, lines[1] + "\n", lines[2]), (3, "", MADE, refused))
+        status, out, notes = self.launch("--trial", "show", "board", BOARDNET="", TRIAL_ENDS="3", TRIAL_SAYS="t.gbr: Gerber 4 BadWord at command 1, byte 0")
+        self.assertEqual((status, out.splitlines()[0], notes), (3, refused, ""))
+        # What could not be judged is no answer, whichever program says it.
+        self.assertEqual((self.launch("show", "board", BOARDNET="")[0], self.calls(), self.tries()), (12, [], 0))
+        os.makedirs(self.path("empty"))
+        self.forget()
+        # A folder of which no manifest can be made wants no program.
+        self.assertEqual((self.launch("show", "empty", BOARDNET="")[0], self.tries()), (10, 0))
+        self.assertEqual((self.launch("show", "board", RT_TRIAL="refused", BOARDNET="")[0], self.calls()), (70, []))
+        self.nothing_is_left()
+
+    def test_a_yes_or_a_no_of_show(self):
+        """By a trial it is none, unless the caller asked for the trial; every form has the word."""
+        for other, status in (("A", 0), ("B", 1)):
+            copper = gerber(*flash(10, (0, 0)), *made.draw(11, (0, 0), (5, 0)), *flash(10, (5, 0)))
+            for name, text in (("m.json", manifest()), ("top.gbr", copper), ("n.ipc", netlist(record("A", "J1.1", 0, 0), record(other, "J1.2", 5, 0)))):
+                self.write(f"board/{name}", text)
+            for how, wanted in (("unasked", 75), ("1", status), ("", status)):
+                told, out, _ = self.run_words([os.path.join(common.TOOLS, "show"), "board", "--page", "p.html", "--json", "j.json", "--junit", "u.xml"], environment={"BOARDNET": made.STAND_IN, "BOARDNET_TRIAL": how})
+                self.assertEqual((told, [FIRST in text for text in (out, self.read("p.html"), self.read("j.json"))]), (wanted, [bool(how)] * 3), out)
+
     def test_show_interrupted(self):
         self.write("board/m.json", '{"copper":[],"drills":[],"netlist":"n.ipc"}')
-        how = {"env": dict(os.environ, **self.environment(RT_PROOF="slow", RT_TRIAL="slow", BOARDNET="")), "stderr": subprocess.DEVNULL}
-        running = subprocess.Popen([self.path("top", "boardnet"), "show", "board"], cwd=self.scratch, **how)
-        self.wait_for(": build high")
-        running.send_signal(signal.SIGTERM)
-        self.assertEqual(running.wait(timeout=PATIENCE), 128 + signal.SIGTERM)
+        running = self.begun("show", "board", RT_TRIAL="slow", BOARDNET="")
+        self.wait_for("rt try")
+        os.killpg(running.pid, signal.SIGTERM)
+        running.communicate(timeout=PATIENCE)
+        self.assertIn(running.returncode, (130, 128 + signal.SIGTERM, -signal.SIGTERM))
         self.nothing_is_left()
 
     def test_changed_meanwhile(self):
         """What was proved is a copy: sources that change meanwhile are proved before the command runs."""
-        how = {"env": dict(os.environ, **self.environment(RT_PROOF="after")), "stdout": subprocess.PIPE, "stderr": subprocess.DEVNULL}
-        hold = self.path("calls.hold")
-        self.write("kit/bin/rt", self.read("kit/bin/rt").replace("  try)\n", f"  try)\n    while [ ! -e '{hold}' ]; do sleep 0.05; done\n"), 0o755)
-        running = subprocess.Popen([self.path("top", "boardnet"), "x"], cwd=self.scratch, **how)
+        running = self.begun("--wait", "x", RT_PROOF="held")
         self.wait_for(": build high")
         self.write("top/crates/low/src/lib.rt", "// changed\n")
-        self.write("calls.hold", "")
+        self.write("calls.proof", "")
         self.assertEqual(running.communicate(timeout=PATIENCE)[0], b"built x\n")
         self.assertEqual(self.calls(), ALL * 2)
-
-    def test_show_begins_at_once(self):
-        self.write("board/m.json", '{"copper":["t.gbr"],"drills":[],"netlist":"n.ipc"}')
-        self.write("board/t.gbr", "M02*\n")
-        self.write("board/n.ipc", "317A\n999\n")
-        status, _, notes = self.launch("show", "board", RT_PROOF="after", BOARDNET="")
-        lines = notes.splitlines()
-        self.assertEqual(lines[0], "boardnet: board: 1 copper files (t.gbr), 0 drill files, netlist n.ipc with 1 test records")
-        self.assertIn(NOT_PROVED, lines)
-        self.assertIn("tried check m.json", self.read("calls.data"))
-        # The stand-in's answer is none that could be judged.
-        self.assertEqual((status, self.calls()), (12, ALL))
-        shutil.rmtree(self.path("cache"))
-        shutil.rmtree(self.path("top", "crates", "boardnet", "out"))
-        os.makedirs(self.path("empty"))
-        # A folder of which no manifest can be made wants no program.
-        self.assertEqual((self.launch("show", "empty", BOARDNET="")[0], self.calls()), (10, []))
-        self.assertEqual((self.launch("show", "board", RT_PROOF="refused", BOARDNET="")[0], self.calls()), (70, ["low"]))
-        self.nothing_is_left()
-
-
-class Places(common.Case):
-    def test_a_trial_has_a_place(self):
-        rows = [
-            # places, whether a trial runs, since how many seconds, what is left for the proof
-            (4, False, 1, 4),
-            (4, True, 1, 2),
-            (3, True, 1, 2),
-            (2, True, 1, 1),
-            (4, True, build.FIRST + 1, 3),
-            (2, True, build.FIRST + 1, 1),
-        ]
-        for places, is_running, seconds, wanted in rows:
-            with self.subTest(places=places, is_running=is_running, seconds=seconds):
-                made = build.Build(self.scratch, None, [])
-                made.places, made.trial = places, types.SimpleNamespace(is_running=lambda: is_running)
-                made.progress = types.SimpleNamespace(started=time.monotonic() - seconds)
-                self.assertEqual(made.free(), wanted)
 
 
 class Proved(common.Case):
@@ -590,7 +695,7 @@ class Terminal(common.Case):
     def test_one_line_on_a_terminal(self):
         out = Out()
         bar = progress.Progress(["low", "high"], out)
-        bar.begin(False)
+        bar.begin()
         bar.told, bar.left = bar.told - 2, 1
         bar.tell()
         bar.end()

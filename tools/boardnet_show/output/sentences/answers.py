@@ -6,6 +6,7 @@ from boardnet_show.base.wording import counted
 from boardnet_show.judging.answers import BETWEEN, Answer, Both, Counts
 
 OWN_NAMES = "by the copper's own names, so that only opens and shorts against those are known: "
+TRIAL = "NOT PROVED YET (trial build): "
 WORDS = {0: "agrees", 1: "differs", UNDECIDED: "undecided"}
 
 
@@ -51,7 +52,7 @@ def line(answer: Answer) -> str:
         text += f"; line {answer.advice.line} of {answer.refusal.file}"
     if answer.advice.export:
         text += f"; to export: {answer.advice.export}"
-    return (OWN_NAMES if answer.is_by_own_names else "") + text
+    return (TRIAL if answer.is_trial else "") + (OWN_NAMES if answer.is_by_own_names else "") + text
 
 
 def whole_line(answer: Answer, besides: Iterable[str]) -> str:
