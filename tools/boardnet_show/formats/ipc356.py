@@ -217,11 +217,6 @@ def has_full_name(data: bytes) -> bool:
     return FULL_NAME.search(data) is not None
 
 
-def alias_lines(data: bytes) -> Iterator[AliasLine]:
-    for found in ALIAS_LINE.finditer(data):
-        yield AliasLine(found[1], found[2].strip(), found.end() - found.start() >= FULL)
-
-
 def text_of(name: bytes) -> str:
     """A name in UTF-8, or in Latin-1 where it is none."""
     try:
@@ -230,9 +225,15 @@ def text_of(name: bytes) -> str:
         return name.decode("latin-1")
 
 
+def alias_lines(data: bytes) -> Iterator[AliasLine]:
+    """What names stand for, in UTF-8."""
+    for found in ALIAS_LINE.finditer(data):
+        yield AliasLine(found[1], text_of(found[2].strip()).encode(), found.end() - found.start() >= FULL)
+
+
 def aliases(data: bytes) -> Dict[str, str]:
     """The whole names that a netlist's names stand for."""
-    return {it.alias.decode(): text_of(it.name).strip() for it in alias_lines(data)}
+    return {it.alias.decode(): it.name.decode().strip() for it in alias_lines(data)}
 
 
 def spoken(names: Sequence[str], whole: Dict[str, str]) -> List[str]:

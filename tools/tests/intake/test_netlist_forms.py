@@ -47,7 +47,7 @@ SPANS = [
     ([UNITS, VIA, SPAN], [with_code(VIA, "317"), with_code(VIA, "317").replace("A02", "A05")]),
     ([UNITS, VIA.replace("A02", "A05"), SPAN], [with_code(VIA, "317").replace("A02", "A05"), with_code(VIA, "317")]),
     ([UNITS, NOWHERE, SPAN], [with_code(VIA, "317"), with_code(VIA, "317").replace("A02", "A05")]),
-    ([UNITS, NOWHERE, f"027A{'':37}X+001000Y+002000  L2 - L5\r"], [with_code(VIA, "317"), with_code(VIA, "317").replace("A02", "A05")]),
+    ([UNITS, NOWHERE, f"027{'':38}X+001000Y+002000  L2 - L5\r"], [with_code(VIA, "317"), with_code(VIA, "317").replace("A02", "A05")]),
 ]
 # Lines that stay as they are, which `check` refuses, or takes as it takes them.
 STAYS = {
@@ -64,9 +64,12 @@ STAYS = {
     "a via with a span of another place": [VIA, SPAN.replace(" " * 3 + "L02", "A02") + "X+000009Y+000009"],
     "a span from below": [VIA, SPAN.replace("L02L05", "L05L02")],
     "an unknown unit": [ONE, "P  UNITS MM"],
+    "a via of half a layer": [NOWHERE[:38] + "A" + NOWHERE[39:]],
     "an unknown code": [ONE, with_code(ONE, "337")],
     "a sign for printers within": [ONE[:4] + "\x0c" + ONE[5:]],
     "a text behind ^Z": [ONE, "\x1a" + ONE],
+    "a record between ^Z and the end": [ONE, "\x1a", ONE, "\x1a"],
+    "^Z before the end": [ONE, "\x1a"],
     "two codes over the layers": [ONE, ONE.replace("A01", "A16"), ONE.replace("A01", "A32")],
     "a code over the layers, and the last one": [ONE, ONE.replace("A01", "A16"), ONE.replace("A01", "A06")],
     "a code over the layers that may count them": [ONE, ONE.replace("A01", "A08")],
@@ -104,7 +107,8 @@ class Forms(unittest.TestCase):
     def test_stays(self):
         for why, lines in STAYS.items():
             data, _ = self.told([UNITS, *lines])
-            self.assertIn(lines[-1], data.decode().split("\n"), why)
+            # A via has its code alone written anew.
+            self.assertIn(lines[-1][3:], [line[3:] for line in data.decode().split("\n")], why)
 
     def test_refused(self):
         """`check` refuses each of them by its line."""
@@ -128,7 +132,7 @@ class Forms(unittest.TestCase):
         """Signs behind the end are taken away, records are not."""
         lines = [UNITS, ONE, "999", with_code(ONE, "307")]
         self.assertEqual(self.told(lines), (file_of(lines), []))
-        self.assertEqual(self.told([UNITS, "307A B"])[0], file_of([UNITS, "317A B"]))
+        self.assertEqual(self.told([UNITS, "307A B"])[0], file_of([UNITS, "C 307A B"]))
 
 
 class Names(unittest.TestCase):
@@ -157,8 +161,10 @@ class Names(unittest.TestCase):
     def test_letters(self):
         """Columns of bytes, of characters, of Latin-1; letters in a component alone."""
         rows = (self.record("GR\u00d6SSE", width=13), self.record("GR\u00d6SSE"), self.record("GR\udcd6SSE"), self.record("GR\u00dcSSE"))
-        self.assertEqual(self.told(*rows)[0], ["GR\u00d6SSE", "GR\u00d6SSE", "NNAME2", "GR\u00dcSSE"][:2] + ["GR\u00d6SSE", "GR\u00dcSSE"])
-        self.assertEqual(len({it.name for it in ipc356.records(self.told(*rows)[2])}), 3)
+        self.assertEqual(self.told(*rows)[0], ["GR\u00d6SSE"] * 3 + ["GR\u00dcSSE"])
+        self.assertEqual(len({it.name for it in ipc356.records(self.told(*rows)[2])}), 2)
+        names, _, data = self.told("P  NNAME1  GR\udcd6SSE", self.record("NNAME1"), rows[1])
+        self.assertEqual((names, len({it.name for it in ipc356.records(data)})), (["GR\u00d6SSE"] * 2, 1))
         names, kinds, data = self.told(self.record("GND", "\u00dc1"))
         self.assertEqual((names, kinds, ipc356.records(data)[0].component), (["GND"], [table.CHARACTERS], "?1"))
 

@@ -36,11 +36,13 @@ def blank(text: bytes) -> bytes:
 # ---- lines by themselves
 
 def without_paper(text: bytes) -> bytes:
-    """A line without form feeds at its ends; one of signs of paper alone is empty."""
-    if FORM_FEED not in text and END_OF_TEXT not in text:
-        return text
-    bare = text.rstrip(b"\r").strip(FORM_FEED)
-    return (bare if bare.strip(BLANKS + FORM_FEED + END_OF_TEXT) else b"") + blank(text)
+    """A line without form feeds at its ends, which are signs for printers."""
+    return text.rstrip(b"\r").strip(FORM_FEED) + blank(text) if FORM_FEED in text else text
+
+
+def is_end_of_text(text: bytes) -> bool:
+    """Whether a line has signs of a text's end alone."""
+    return END_OF_TEXT in text and not text.strip(BLANKS + END_OF_TEXT)
 
 
 def in_characters(text: bytes) -> Optional[str]:
@@ -81,7 +83,7 @@ def says_again(text: bytes, came: bytes) -> bool:
 
 def lacks_layer(text: bytes) -> bool:
     """Whether a record is that of a via on no layer that is said."""
-    return text[ipc356.CODE] == ipc356.VIA and text[ipc356.LAYER].strip() in (b"", b"A") and ipc356.has_coordinates(text)
+    return text[ipc356.CODE] == ipc356.VIA and not text[ipc356.LAYER].strip()
 
 
 def continued(text: bytes, record: Record) -> Optional[bytes]:
@@ -108,22 +110,23 @@ def via_ends(text: bytes, came: bytes) -> Optional[Tuple[int, int]]:
     behind = SPAN.sub(lambda found: b" " * len(found[0]), text[BEHIND_PIN])
     if span is None or not says_again(text[:BEHIND_PIN.start] + behind, came):
         return None
-    if lacks_layer(came):
-        return span
-    access = int(came[ipc356.ACCESS]) if ipc356.has_access(came) and ipc356.has_coordinates(came) else 0
-    return (access, sum(span) - access) if access in span else None
+    if not ipc356.has_coordinates(came):
+        return None
+    access = int(came[ipc356.ACCESS]) if ipc356.has_access(came) else 0
+    return span if lacks_layer(came) else (access, sum(span) - access) if access in span else None
 
 
 # ---- names
 
 class Aliases:
-    """What stands for names that `check` does not take."""
+    """What stands for names that `check` does not take; a name in UTF-8 and in Latin-1 is one."""
 
     def __init__(self, data: bytes) -> None:
         self.taken, self.number = set(ipc356.ALIAS.findall(data)), 0
         self.of: Dict[bytes, bytes] = {}
 
     def alias(self, name: bytes) -> bytes:
+        name = ipc356.text_of(name).encode()
         while name not in self.of:
             self.number += 1
             word = b"NNAME%d" % self.number
@@ -161,6 +164,9 @@ class Netlist:
         self.end = next(ends, len(self.lines))
         for at in range(self.end):
             self.read(at, self.lines[at])
+        # Before the end such a sign would cut the file off.
+        for at in filter(lambda at: is_end_of_text(self.lines[at]), range(self.end + 1, len(self.lines))):
+            self.replaced(PAPER, at, self.lines[at], blank(self.lines[at]))
 
     def replaced(self, kind: str, at: int, text: bytes, new: bytes, what: str = "", shown: bytes = b"") -> bytes:
         """Has a line written anew, and notes that where it changes."""

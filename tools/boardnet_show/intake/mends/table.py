@@ -74,7 +74,7 @@ ROWS = (
         "the same pin", "goes on from its record: written as a record of its own"),
     Row(NO_POINT, "`390`, `088`, `099`; `307` without a layer", "a comment", "they name no point", "names no test point: left out"),
     Row(LAYER, "`A16`, `A32` or `A64` alone over the layers, none of the last", "the last layer", "tools write the bottom so", ""),
-    Row(PAPER, "form feeds at a line's ends; `^Z` alone", "without them", "signs for printers and disks",
+    Row(PAPER, "form feeds at a line's ends; `^Z` behind `999`", "without them", "signs for printers and disks",
         "has signs for printers or disks: left out"),
 )
 TOLD = {row.kind: row.told for row in ROWS}
