@@ -1,4 +1,6 @@
 """One board, from its files to its findings: each step gives a value to the next."""
+import os
+
 from boardnet_show.base.statuses import FAULT, UNDECIDED, BadCopper, fault_of
 from boardnet_show.extras import requested
 from boardnet_show.findings.board import Board
@@ -134,12 +136,15 @@ def hinted(program, told, seen):
     return seen._replace(hints=found, findings=findings)
 
 
-def explained(program, told, seen, asked):
-    """All that is known of a judged board."""
+def explained(program, told, seen, asked, signed):
+    """All that is known of a judged board; `signed` are the waivers that are declared."""
     if told.report:
         seen = looked_at(program, told, seen, asked.page or asked.svg or requested.wants_copper(asked))
     if told.status == 3:
         seen = bounded(program, told, seen, asked)
+    if signed or asked.waive:
+        from . import waived            # few boards have waivers
+        seen = waived.with_waivers(program, told, seen, signed, asked)
     if told.status == 3 or seen.answer.status == 1:
         seen = hinted(program, told, seen)
     if seen.board and seen.answer.status in (0, 1, UNDECIDED):
@@ -155,33 +160,96 @@ def explained(program, told, seen, asked):
 
 def of_files(files, seen):
     """The same with what was made of the files first: mends, and a netlist of the copper's own names."""
-    answer = seen.answer._replace(mends=len(files.mends), advice=mending.way_out(files, seen.answer.refusal),
+    stale = sum(it.is_stale for it in seen.declared) + len(seen.stale)
+    answer = seen.answer._replace(declared=len(seen.declared), waived=len(seen.waived), stale=stale, mends=len(files.mends),
+                                  advice=mending.way_out(files, seen.answer.refusal),
                                   is_by_own_names=bool(files.own) and seen.answer.status in own_names.ANSWERS, is_trial=building.is_trial())
-    return seen._replace(answer=answer, mends=files.mends, notes=[*(f"mended: {it.words}" for it in files.mends), *seen.notes])
+    notes = [f"mended: {it.words}" for it in files.mends]
+    if seen.declared or seen.waived or seen.stale:
+        from boardnet_show.output.sentences import declarations
+        notes = declarations.notes(seen) + notes
+    return seen._replace(answer=answer, mends=files.mends, notes=[*notes, *seen.notes])
 
 
 # ---- one board
 
+def declarations_of(path, asked, taken):
+    """What reads all that is declared of a PATH whose files are in a folder; `taken` are changes by hints."""
+    def read(home):
+        beside = os.path.join(home, package.DECLARATIONS)
+        if not (taken or asked.declare or getattr(asked, "with") or os.path.exists(beside) or package.is_archive(path)):
+            return None
+        from . import declared          # most boards have none, and loading takes longer than a small board
+        return declared.of(path, home, asked, taken)
+    return read
+
+
+def sorted_by(its):
+    return its.sorted_files() if its else package.Sorted()
+
+
+def changed(files, its):
+    """Makes the declared changes of the files, and answers all that is declared."""
+    if not its or not files.manifest:
+        return []
+    from . import declared
+    return declared.made(files, its)
+
+
+def agrees_without(path, asked, program, scratch, its, ties):
+    """A note where the files as they came agree, so that what is declared of them does not fit any more."""
+    inner = os.path.join(scratch, "undeclared")
+    os.makedirs(inner)
+    files = package.opened(path, asked, inner, declared=lambda _: its.sorted_files())
+    by_own_names(files, asked)
+    mending.mend(files, program.progress, asked.yes)
+    agrees = ties.answer(judged.judge(program, files)).status == 0
+    return ["what is declared does not fit these files any more: without its changes they agree"] if agrees else []
+
+
 def keep(files, seen, folder):
+    """Keeps the files as they were judged, with what is declared of them still."""
     if seen.ties.ties:
         files.put(package.TIES, seen.ties.file_text().encode())
+    if seen.declared or seen.waived or seen.stale:
+        from . import declared
+        files.put(package.DECLARATIONS, declared.kept_text(seen).encode())
     package.keep(files, seen.report, folder)
 
 
 def show(path, asked, program, scratch):
     """What is told of one PATH, whatever becomes of it."""
+    shown = shown_once(path, asked, program, os.path.join(scratch, "first"), ())
+    if asked.take_hints and shown.hints:
+        from . import declared
+        taken = declared.agreeing(shown.hints)
+        if taken:
+            return shown_once(path, asked, program, os.path.join(scratch, "taken"), taken)
+        return shown._replace(seen=shown.seen.noted(declared.NONE_TAKEN))
+    return shown
+
+
+def shown_once(path, asked, program, scratch, taken):
+    """The same by hints that are taken."""
     shown = blank = Shown(path, Explained(title_of(path), answers.Answer(0, answers.EXACT, "")))
     try:
-        files = package.opened(path, asked, scratch)
+        os.makedirs(scratch)
+        read = declarations_of(path, asked, taken)
+        files = package.opened(path, asked, scratch, declared=lambda home: sorted_by(read(home)))
+        its = read(files.around)
         package.need_netlist(files, asked)
         own = by_own_names(files, asked)
         own_names.take_whole(files)
-        shown = shown._replace(seen=shown.seen._replace(ties=net_ties.declared(asked.tie, files)))
+        ties = net_ties.declared(asked.tie, files, its.ties() if its else ())
+        shown = shown._replace(seen=shown.seen._replace(ties=ties))
         mending.mend(files, program.progress, asked.yes)
+        shown = shown._replace(seen=shown.seen._replace(declared=changed(files, its), taken=files.taken))
         told = judged.judge(program, files)
-        shown = shown._replace(seen=shown.seen._replace(answer=shown.seen.ties.answer(told), audit=told.audit, report=told.text or b"",
+        shown = shown._replace(seen=shown.seen._replace(answer=ties.answer(told), audit=told.audit, report=told.text or b"",
                                                         notes=own + package_notes(files)))
-        shown = shown._replace(seen=explained(program, told, shown.seen, asked))
+        shown = shown._replace(seen=explained(program, told, shown.seen, asked, its.waivers() if its else ()))
+        if shown.status == 1 and any(it.files for it in shown.seen.declared):
+            shown = shown._replace(seen=shown.seen.noted(*agrees_without(path, asked, program, scratch, its, ties)))
         shown = shown._replace(requested=requested.made(program, told, shown.seen, asked, scratch))
         if asked.keep:
             keep(files, shown.seen, asked.keep)

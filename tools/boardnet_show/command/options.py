@@ -1,9 +1,10 @@
 """The caller's words as they are written, before anything is asked of them."""
 from types import SimpleNamespace
 
-FLAGS = ("-q", "--all", "--labels", "--yes", "--no-drills", "--no-cuts", "--audit-board", "--help", "-h")
-WITH_VALUES = ("--page", "--svg", "--at", "--json", "--junit", "--sarif", "--rdb", "--format", "--keep", "--netlist", "--ipc", "--like", "--gaps", "--necks", "--record", "--verify")
-OFTEN = ("--tie",)
+FLAGS = ("-q", "--all", "--labels", "--yes", "--no-drills", "--no-cuts", "--audit-board", "--take-hints", "--help", "-h")
+WITH_VALUES = ("--page", "--svg", "--at", "--json", "--junit", "--sarif", "--rdb", "--format", "--keep", "--netlist", "--ipc", "--like", "--gaps", "--necks",
+               "--record", "--verify", "--declare", "--write-declarations", "--author")
+OFTEN = ("--tie", "--with", "--waive")
 USAGE = "boardnet show PATH.. [OPTION ..]; boardnet show --help prints all"
 
 

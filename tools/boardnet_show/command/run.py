@@ -16,7 +16,7 @@ from . import options
 from .one_board import show
 
 SIGNALS = (signal.SIGINT, signal.SIGTERM, signal.SIGHUP)
-ONE_BOARD = ("rdb", "page", "svg", "keep", "ipc", "record", "verify")
+ONE_BOARD = ("rdb", "page", "svg", "keep", "ipc", "record", "verify", "declare", "write_declarations", "with", "waive")
 
 
 class Interrupted(BaseException):
@@ -40,7 +40,7 @@ def words(given):
         options.wrong("it wants a folder, a zip archive or a manifest")
     for name in ONE_BOARD:
         if len(asked.paths) > 1 and getattr(asked, name):
-            options.wrong(f"--{name} is for one PATH")
+            options.wrong(f"--{name.replace('_', '-')} is for one PATH")
     if asked.gaps is not None:
         from boardnet_show.extras import spacing
         asked.gaps = spacing.asked_distance(asked.gaps) or options.wrong("--gaps wants millimetres, over 0 and at most 10, with at most seven decimals")
@@ -51,6 +51,8 @@ def words(given):
             options.wrong("--necks wants millimetres, from 0 to 10, with at most seven decimals")
     if asked.format not in (None, "text", "github"):
         options.wrong("--format is text or github")
+    if asked.waive and not (asked.author or "").strip():
+        options.wrong("--waive wants --author, who signs for it")
     if asked.at and not asked.svg:
         options.wrong("--at says which finding --svg draws")
     return asked
@@ -96,6 +98,9 @@ def forms(asked, all_shown):
     if asked.record:
         from boardnet_show.extras import record
         yield asked.record, first.requested.record and record.record_text(first.requested.record)
+    if asked.write_declarations:
+        from . import declared
+        yield asked.write_declarations, declared.written_text(first.seen, asked)
     if asked.page or asked.svg:
         yield from pictures(asked, first)
 

@@ -15,7 +15,7 @@ from boardnet_show.base.wording import counted, spoken
 from boardnet_show.findings.besides import Requested, lacking, outcome
 from boardnet_show.formats import indented_json
 from boardnet_show.judging.program import TOOLS
-from boardnet_show.output.sentences import answers, hints
+from boardnet_show.output.sentences import answers, declarations, hints
 
 
 FORM = 1
@@ -23,7 +23,7 @@ RECORD = "record"
 TOP = os.path.dirname(TOOLS)
 FEW = 8
 # What is compared beside files and reports, with the words for it.
-COMPARED = (("status", "the status"), ("line", "the answer"), ("mends", "the mends"), ("ties", "the ties"), ("hints", "the hints"))
+COMPARED = (("status", "the status"), ("line", "the answer"), ("mends", "the mends"), ("ties", "the ties"), ("declared", "what is declared"), ("hints", "the hints"))
 
 
 def sum_of(data):
@@ -93,7 +93,7 @@ def of(program, told, seen, its):
         "boardnet_record": FORM, "date": datetime.datetime.now(datetime.timezone.utc).strftime("%Y-%m-%dT%H:%M:%SZ"), "board": seen.title,
         "program": of_program(program), "status": seen.answer.status, "line": answers.line(seen.answer),
         "beside": answers.whole_line(seen.answer, [it.words for it in its.besides]), "files": list(files_of(told)),
-        "mends": [it.words for it in told.package.mends], "ties": seen.ties.file_text().splitlines(),
+        "mends": [it.words for it in told.package.mends], "ties": seen.ties.file_text().splitlines(), "declared": declarations.notes(seen),
         "hints": [hints.words(hint) for hint in seen.hints], "notes": [*seen.notes, *its.notes], "reports": reports,
     }
 
@@ -180,8 +180,10 @@ def differences(program, told, record, now):
     yield from file_differences(record, now)
     yield from report_differences(program, told, record)
     for key, word in COMPARED:
-        if record.get(key) != now[key]:
-            yield f"{word} was {told_of(record.get(key))}, and is {told_of(now[key])}"
+        # Older records say nothing of declarations.
+        was = record.get(key, [] if key == "declared" else None)
+        if was != now[key]:
+            yield f"{word} was {told_of(was)}, and is {told_of(now[key])}"
 
 
 def told_of(value):

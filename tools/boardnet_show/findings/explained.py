@@ -3,18 +3,20 @@ import os
 from typing import Any, List, NamedTuple, Optional, Sequence, Tuple
 
 from boardnet_show.formats.report import Report
+from boardnet_show.intake.package import Taken
 from boardnet_show.judging import net_ties
 from boardnet_show.judging.answers import Answer, Counts
 from boardnet_show.judging.two_bounds import Bounded
 
 from .board import Board
 from .finding import GAP, Finding
+from .waivers import Waived, Waiver
 
 
 class Explained(NamedTuple):
     """`board` is None where nothing was judged. `notes` are sentences on what was taken and what is not known, `hints` answers of `check` on
     changed copies, `bounds` the answer on a board that lies between two, `reports` the report twice, or those of a lower and an upper board,
-    `report` its text, `wider` what an upper board has beyond a lower one, as (layer, corners)."""
+    `report` its text, `taken` what its files were taken as, `declared` what is declared of them, `stale` the waivers of no finding, `wider` what an upper board has beyond a lower one, as (layer, corners)."""
 
     title: str
     answer: Answer
@@ -29,6 +31,10 @@ class Explained(NamedTuple):
     mends: Sequence[Any] = ()
     notes: Sequence[str] = ()
     flood: str = ""
+    taken: Sequence[Taken] = ()
+    declared: Sequence[Any] = ()
+    waived: Sequence[Waived] = ()
+    stale: Sequence[Waiver] = ()
     wider: Sequence[Tuple[int, Any]] = ()
 
     def noted(self, *notes: str) -> "Explained":

@@ -3,6 +3,8 @@ are in u, and a turn is a number of `placement.FORMS`."""
 from typing import NamedTuple, Optional, Tuple, Union
 
 Shift = Tuple[int, int]
+# Why layers have an order.
+SAID, POINTS = "said", "points"
 
 
 class NetlistPlaced(NamedTuple):
@@ -30,11 +32,11 @@ class CopperPlaced(NamedTuple):
 
 
 class LayersOrdered(NamedTuple):
-    """The copper files in another order: as they say of themselves, else where surface points have a pad; `is_inner_unknown` where these
-    cannot tell the order of inner layers."""
+    """The copper files in another order, and why: as they say of themselves, where surface points have a pad, or as is declared;
+    `is_inner_unknown` where points cannot tell the order of inner layers."""
 
     order: Tuple[str, ...]
-    is_said: bool
+    why: str = ""
     is_inner_unknown: bool = False
 
 

@@ -2,7 +2,7 @@
 from boardnet_show.formats import ipc356
 from boardnet_show.intake import own_declarations
 
-from .changes import LayersOrdered
+from .changes import POINTS, SAID, LayersOrdered
 from .placement import flashes
 
 NEAR = 50_000       # 5 micrometres: two roundings of a netlist's place
@@ -43,7 +43,7 @@ def layerings(package):
         return
     order = [first] + [k for k in range(layers) if k not in (first, last)] + [last]
     told = reordered(package.manifest, order)
-    yield LayersOrdered(tuple(told.copper), False, layers > 3), told
+    yield LayersOrdered(tuple(told.copper), POINTS, layers > 3), told
 
 
 def as_labelled(package):
@@ -52,4 +52,4 @@ def as_labelled(package):
     if sorted(numbers) != list(range(1, package.manifest.layers + 1)):
         return
     told = reordered(package.manifest, [numbers.index(k) for k in range(1, len(numbers) + 1)])
-    yield LayersOrdered(tuple(told.copper), True), told
+    yield LayersOrdered(tuple(told.copper), SAID), told

@@ -9,9 +9,10 @@ from boardnet_show.intake.mends import mended_files as mends
 
 from . import copper_layers, drill_files, file_kinds, netlist_files
 from .file_names import MOST_BYTES, Refused, shown
+from .package import DECLARATIONS, TIES
 
-# What is ours in a folder: the manifest, and the ties that `show` reads.
-OURS = ("m.json", "ties.txt")
+# What is ours in a folder: the manifest, and what `show` reads beside it.
+OURS = ("m.json", TIES, DECLARATIONS)
 NO_COPPER = "it is a Gerber file without the attribute TF.FileFunction, and no name says that it is copper"
 OTHERWISE = "it is a Gerber file without the attribute TF.FileFunction, and its name says that it is no copper"
 
@@ -104,6 +105,18 @@ class Package:
         """Whether layers that say what they are leave no place for another: they end with a bottom one, or are as many as the job file says."""
         return self.board_layers == len(layers) or len(layers) > 1 and layers[-1].side == "Bot"
 
+    def declare(self, drilled):
+        """Has drill files spans that are declared; refuses such a file that is not there, or says otherwise itself."""
+        for name, first, last in drilled:
+            found = next((it for it in self.drills if it.name == name), None)
+            if not found:
+                raise Refused(f"{name} is declared to have plated holes, and is no drill file here that may have some")
+            if not found.why and found.span != (first, last):
+                raise Refused(f"{name} is declared to span layers {first} to {last}, and says itself that it spans {found.span[0]} to {found.span[1]}")
+            if found.span == (0, 0):
+                raise Refused(f"{name} is declared to have plated holes, and {found.why}")
+            found.span, found.why = (first, last), ""
+
     def plated(self, layers):
         """The drill files of plated holes, and those that are taken for unplated ones."""
         unplated = [it for it in self.drills if it.span == (0, 0)]
@@ -130,8 +143,9 @@ class Plan:
     asks makes one.
     """
 
-    def __init__(self, package, wanted, may_lack_holes, may_lack_netlist=False):
+    def __init__(self, package, wanted, may_lack_holes, may_lack_netlist=False, drilled=()):
         layers = package.copper()
+        package.declare(drilled)
         may_lack = may_lack_netlist and wanted is None and package.has_names and not package.netlists
         netlist = netlist_files.Netlist("", b"") if may_lack else netlist_files.choose(package.netlists, wanted)
         plated, unplated = package.plated(len(layers))

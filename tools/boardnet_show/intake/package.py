@@ -3,14 +3,43 @@ import errno
 import os
 import stat
 from itertools import chain, count
+from typing import Callable, NamedTuple, Optional, Tuple
 
 from boardnet_show.base.statuses import FULL, NOT_UNDERSTOOD, REFUSED, UNCLEAR, UNREADABLE, UNWRITABLE, Stop
 from boardnet_show.formats import manifest
 
 from .file_names import MOST_BYTES, Refused
 
-# Declared net ties, beside the manifest.
-TIES = "ties.txt"
+# Declared net ties, and all else that is declared, beside the manifest.
+TIES, DECLARATIONS = "ties.txt", "boardnet.json"
+
+
+class Taken(NamedTuple):
+    """A file, and what it is taken as by other evidence than attributes."""
+
+    file: str
+    what: str
+
+
+class Drilled(NamedTuple):
+    """A drill file of plated holes, and the layers that they span."""
+
+    file: str
+    first: int
+    last: int
+
+
+class Sorted(NamedTuple):
+    """What is declared of which file is what, where there is no manifest."""
+
+    taken: Tuple[Taken, ...] = ()
+    drilled: Tuple[Drilled, ...] = ()
+    netlist: str = ""
+    has_no_drills: bool = False
+
+
+def nothing_declared(_: str) -> Sorted:
+    return Sorted()
 
 
 class Package:
@@ -22,8 +51,8 @@ class Package:
         self.flattened, self.outside = set(), {}
         # Those files as they were before, and where each file of the scratch folder came from.
         self.before, self.came = {}, {}
-        # What was left out and what was guessed, in words, where the manifest was made here.
-        self.left_out, self.guessed = [], []
+        # What was left out and what was guessed, in words, where the manifest was made here, and what was taken as what.
+        self.left_out, self.guessed, self.taken = [], [], []
         # What was rewritten before `check`, as mends/mend.py says.
         self.mends = []
         # What the two packages say between which it lies, once they are made, and why there are none that hold.
@@ -73,7 +102,7 @@ class Package:
     def is_taken(self, name):
         """Whether a name is that of a file of the board, be it there or not."""
         its = self.manifest.names() if self.manifest else []
-        return name in {os.path.normpath(each) for each in [self.name, TIES, *its]}
+        return name in {os.path.normpath(each) for each in [self.name, TIES, DECLARATIONS, *its]}
 
     def free_name(self, stem, ending):
         """A name of a file that the package does not have."""
@@ -149,7 +178,7 @@ def need_plain(home, names, inside=None):
 def of_manifest(path, scratch, inside=None):
     """The package of a manifest that is there; with a folder its files are to lie there."""
     home, name = os.path.dirname(path), os.path.basename(path)
-    need_plain(home, [name, TIES], inside)
+    need_plain(home, [name, TIES, DECLARATIONS], inside)
     with open(path, "rb") as file:
         data = file.read(MOST_BYTES + 1)
     told = manifest.of_text(data)
@@ -163,23 +192,25 @@ def of_manifest(path, scratch, inside=None):
     return package
 
 
-def of_folder(home, asked, scratch):
-    """The package of a folder without a manifest, by what the files say of themselves."""
+def of_folder(home, asked, scratch, declared):
+    """The package of a folder without a manifest, by what the files say of themselves and what is declared of them."""
     from . import gathering as gathered        # most boards have a manifest
-    need_plain(home, [TIES])
-    found = gathered.gather(home)
+    need_plain(home, [TIES, DECLARATIONS])
+    found, said = gathered.gather(home), declared(home)
     try:
-        plan = gathered.Plan(found, asked.netlist, asked.no_drills, may_lack_netlist=True)
+        plan = gathered.Plan(found, asked.netlist or said.netlist or None, asked.no_drills or said.has_no_drills, True, said.drilled)
     except Refused as why:
         left_out = "".join(f"\n  left out: {name}: {reason}" for name, reason in found.left_out)
         raise Stop(UNCLEAR, f"{why}{left_out}") from None
-    guessed = [f"{name} as {what}: {why}" for name, what, why in plan.guessed]
-    if guessed and not asked.yes:
+    unsaid = [row for row in plan.guessed if Taken(*row[:2]) not in said.taken]
+    if unsaid and not asked.yes:
         raise Stop(UNCLEAR, "the files do not say all of what they are: if this is right, say --yes; else write m.json by hand"
-                   + "".join(f"\n  would be taken: {word}" for word in guessed))
+                   + "".join(f"\n  would be taken: {name} as {what}: {why}" for name, what, why in unsaid))
     told = manifest.Manifest(plan.manifest)
     package = Package(told, room(scratch, told.names()))
-    package.home, package.around, package.guessed, package.is_made = home, home, guessed, True
+    package.home, package.around, package.is_made = home, home, True
+    package.guessed = [f"{name} as {what}: {why}" for name, what, why in unsaid]
+    package.taken = [Taken(name, what) for name, what, _ in plan.guessed]
     package.left_out = [f"{name}: {why}" for name, why in found.left_out]
     package.put("m.json", told.json_text().encode())
     for name in filter(None, [*told.names(), TIES]):
@@ -203,21 +234,43 @@ def unpacked(path, scratch):
     return folder
 
 
-def opened(path, asked, scratch, inside=None):
-    """The package of a folder, a zip archive or a manifest; with a folder the files are to lie there."""
+def beside_archive(path: str, name: str) -> Optional[str]:
+    """A file that stands beside an archive: of its name, or where it is the only archive there."""
+    home = os.path.dirname(path) or "."
+    own, common = f"{os.path.splitext(path)[0]}.{name}", os.path.join(home, name)
+    if os.path.exists(own):
+        return own
+    is_alone = sum(it.lower().endswith(".zip") for it in os.listdir(home)) == 1 and path.lower().endswith(".zip")
+    return common if is_alone and os.path.exists(common) else None
+
+
+def of_archive(path, asked, scratch, declared):
+    """The package of what is in a zip archive, with the ties that stand beside it."""
+    folder = unpacked(path, scratch)
+    package = opened(folder, asked, scratch, folder, declared)
+    package.home = path
+    ties = beside_archive(path, TIES)
+    if ties and os.path.lexists(package.path(TIES)):
+        raise Refused(f"there is a {TIES} in the archive and one beside it: keep one of them")
+    if ties:
+        need_plain(os.path.dirname(ties) or ".", [os.path.basename(ties)])
+        package.link(TIES, ties)
+    return package
+
+
+def opened(path, asked, scratch, inside=None, declared: Callable[[str], Sorted] = nothing_declared):
+    """The package of a folder, a zip archive or a manifest; with a folder the files are to lie there. `declared` says what is declared of the
+    files of a folder."""
     if not path:
         raise Stop(NOT_UNDERSTOOD, "PATH is empty: it is a folder, a zip archive or a manifest")
     try:
         if is_archive(path):
-            folder = unpacked(path, scratch)
-            package = opened(folder, asked, scratch, folder)
-            package.home = path
-            return package
+            return of_archive(path, asked, scratch, declared)
         if not os.path.isdir(path):
             return of_manifest(path, scratch)
         if os.path.exists(os.path.join(path, "m.json")):
             return of_manifest(os.path.join(path, "m.json"), scratch, inside)
-        return of_folder(path, asked, scratch)
+        return of_folder(path, asked, scratch, declared)
     except Refused as why:
         raise Stop(UNCLEAR, str(why)) from None
     except OSError as error:

@@ -17,14 +17,6 @@ class Counts(NamedTuple):
     open_ties: int
 
 
-class Tied(NamedTuple):
-    """What counts where ties are declared; nothing of it where the answer is by two bounds, which have their own counts. `made` is how
-    many ties the copper has."""
-
-    made: int
-    counts: Optional[Counts] = None
-
-
 class Both(NamedTuple):
     """The answers on a lower and an upper board, how many findings are certain and how many not, and whether the program takes both as bounds."""
 
@@ -37,19 +29,26 @@ class Both(NamedTuple):
 
 class Answer(NamedTuple):
     """`said` is the program's own line, or why the board is not judged; `no_bounds` why there are no bounds of a board that is refused;
-    `is_trial` whether a trial build said it, which is not proved."""
+    `is_trial` whether a trial build said it, which is not proved.
+
+    `counts` is what counts by the report where ties are declared or findings waived. `ties` is how many declared ties the copper has, None
+    where none is declared; so many things are `declared`, findings `waived`, and declarations and waivers `stale`."""
 
     status: int
     kind: str
     said: str
     refusal: Optional[Refusal] = None
-    tied: Optional[Tied] = None
+    counts: Optional[Counts] = None
+    ties: Optional[int] = None
     both: Optional[Both] = None
     no_bounds: str = ""
     mends: int = 0
     is_by_own_names: bool = False
     is_trial: bool = False
     advice: Advice = Advice(0, "")
+    declared: int = 0
+    waived: int = 0
+    stale: int = 0
 
     def is_between(self) -> bool:
         return self.both is not None

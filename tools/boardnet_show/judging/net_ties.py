@@ -4,23 +4,25 @@ A short whose names are all tied together is such a tie and no finding. A tie th
 is not changed: its report has each tie as a short, and `audit` confirms that report.
 """
 import re
-from collections import namedtuple
+from typing import NamedTuple, Tuple
 
 from boardnet_show.base.statuses import NOT_UNDERSTOOD, Stop
 from boardnet_show.formats.ipc356 import NO_NET
 from boardnet_show.intake.package import TIES
 
-from .answers import EXACT, STOPPED, Answer, Counts, Tied
+from .answers import EXACT, STOPPED, Answer, Counts
 
 NONE_WHOLE = {}
 # A line of ties.txt that begins with the sign, or what comes behind it with blanks round it: names may have it.
 COMMENT = re.compile(r"\A\s*#.*|\s#(\s.*)?\Z")
 
 
-class Tie(namedtuple("Tie", "names source")):
-    """Two names, and where they are declared."""
+class Tie(NamedTuple):
+    """Two names, and where they are declared; `is_asked` where that is an option or a file of declarations."""
 
-    __slots__ = ()
+    names: Tuple[str, ...]
+    source: str
+    is_asked: bool = False
 
     def equation(self):
         return "=".join(self.names)
@@ -42,9 +44,11 @@ def tie(text, source, whole=NONE_WHOLE):
     return Tie(names, source)
 
 
-def declared(asked, package):
-    """The ties of the command, of the file beside the manifest and of the copper's own names, each once, by whole names."""
-    found = [tie(text, "--tie", package.whole) for text in asked]
+def declared(asked, package, declarations=()):
+    """The ties of the command, of (text, source) of declarations, of the file beside the manifest and of the copper's own names, each once,
+    by whole names."""
+    rows = [*((text, "--tie") for text in asked), *declarations]
+    found = [tie(text, source, package.whole)._replace(is_asked=True) for text, source in rows]
     try:
         lines = [COMMENT.sub("", line) for line in package.read(TIES).decode("utf-8-sig", "replace").splitlines()]
     except OSError:
@@ -110,7 +114,7 @@ class Ties:
         if not self.ties or not told.report:
             return plain
         counts = self.counts(told.report)
-        return plain._replace(status=int(any(counts)), tied=Tied(len(self.ties) - counts.open_ties, counts))
+        return plain._replace(status=int(any(counts)), counts=counts, ties=len(self.ties) - counts.open_ties)
 
 
 def nets_of(report):

@@ -183,8 +183,8 @@ def answered(program, package, sides, low, high, ties):
     certain, doubt = (sum(it[1] is sure for it in findings) for sure in (True, False))
     certain += len(lost(ties, high.report))
     status = 0 if joint.agrees() else 1 if certain else UNDECIDED
-    tied = answers.Tied(len(ties.ties) - len(ties.parted(low.report))) if ties.ties else None
-    answer = Answer(status, answers.BETWEEN, "", tied=tied, both=answers.Both(low.line, high.line, certain, doubt))
+    made = len(ties.ties) - len(ties.parted(low.report)) if ties.ties else None
+    answer = Answer(status, answers.BETWEEN, "", ties=made, both=answers.Both(low.line, high.line, certain, doubt))
     return Bounded(answer, [it[:4] for it in findings], sides.left_out, tuple(it[4] for it in findings), sides.sources)
 
 

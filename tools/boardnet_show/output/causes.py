@@ -33,11 +33,15 @@ class Cause(NamedTuple):
     line: int = 0
 
 
-def of_findings(shown) -> Iterator[Cause]:
+def of_findings_of(shown, findings) -> Iterator[Cause]:
     netlist = shown.board.package.told_path(shown.board.manifest.netlist)
-    for finding in shown.findings:
+    for finding in findings:
         place = (netlist, shown.board.line(finding.points[0])) if finding.points else (None, 0)
         yield Cause(finding.kind, doubt(finding) + finding.id, finding.sentence(), finding.sure is not False, *place)
+
+
+def of_findings(shown) -> Iterator[Cause]:
+    yield from of_findings_of(shown, shown.findings)
     for words in shown.seen.lost_ties():
         yield Cause("tie", "tie", words, True)
 

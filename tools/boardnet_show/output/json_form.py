@@ -1,12 +1,14 @@
 """The findings as JSON (docs/using/forms.md, "The JSON form"). Lengths are millimetres, exact."""
 from boardnet_show.findings.finding import GAP, NECK
+from boardnet_show.fitting import declaration_file
 from boardnet_show.formats import indented_json
 from boardnet_show.formats.ipc356 import NO_NET
+from boardnet_show.intake.package import Drilled, Taken
 from boardnet_show.judging import net_ties
 
-from .sentences import answers, hints
+from .sentences import answers, declarations, hints
 
-FORM = 2
+FORM = 3
 # As many points of a part of an open are told.
 MOST_OF_A_PART = 12
 
@@ -73,13 +75,28 @@ def like_of(likeness):
         {**each._asdict(), "places": places(each.places), "places_there": places(each.places_there)} for each in likeness.differences]}
 
 
+def declaration(declared):
+    """What is declared, as the file has it, in words, and what became of it."""
+    what = declared.what
+    values = ({"file": what.file, "as": what.what} if isinstance(what, Taken) else {"of": "plated", "file": what.file, "from": what.first, "to": what.last}
+              if isinstance(what, Drilled) else declaration_file.change_values(what))
+    return {**values, "words": declarations.what_words(declared), "source": declared.source, "stale": declared.is_stale, "made_before": declared.was_made}
+
+
+def signed(board, waived):
+    """A finding that is waived, with its waiver."""
+    return {**finding(board, waived.finding), "waiver": declaration_file.waiver_values(waived.waiver)}
+
+
 def hint_of(hint):
     return {"kind": hint.kind, "words": hints.words(hint), "answer_status": hint.answer.status, "answer_line": answers.bare_line(hint.answer), "explains": hint.explains}
 
 
 def board_of(shown):
     """One board."""
+    seen = shown.seen
     told = {"path": shown.path, "status": shown.status, "line": shown.line, "notes": shown.notes,
+            "declarations": list(map(declaration, seen.declared)), "stale_waivers": list(map(declaration_file.waiver_values, seen.stale)),
             "mends": [it._asdict() for it in shown.seen.mends],
             "hints": list(map(hint_of, shown.hints))}
     if shown.bounds:
@@ -98,7 +115,7 @@ def board_of(shown):
     return {**told, "audit": shown.seen.audit, "copper": board.manifest.copper, "drills": [name for name, _, _ in board.manifest.drills],
             "netlist": board.manifest.netlist, "own_names": bool(board.package.own), "ties": list(net_ties.told_of(board.ties, board.report)),
             "pieces": board.report.pieces, "points": len(board.report.points), "unnamed_points": unnamed,
-            **shown.seen.counts()._asdict(), **shown.found_counts(), "flood": shown.seen.flood, "findings": [*(finding(board, it) for it in shown.findings), *absent_ties(shown)]}
+            **shown.seen.counts()._asdict(), **shown.found_counts(), "flood": seen.flood, "waived": [signed(board, it) for it in seen.waived], "findings": [*(finding(board, it) for it in shown.findings), *absent_ties(shown)]}
 
 
 def json_text(all_shown):

@@ -5,6 +5,7 @@ from boardnet_show.base.wording import printable
 from boardnet_show.findings.finding import doubt
 
 from .markup import escaped, for_xml
+from .sentences import declarations
 
 
 def quoted(text):
@@ -14,14 +15,17 @@ def quoted(text):
 
 
 class Case(NamedTuple):
-    """A case, with what is amiss: names with their words; `word` is XML's for it."""
+    """A case, with what is amiss: names with their words; `word` is XML's for it. What is waived of it is no cause."""
 
     name: str
     causes: list
     word: str = "failure"
+    waived: tuple = ()
 
     def row(self, title):
         head = f"  <testcase classname={quoted(title)} name={quoted(self.name)}"
+        if not self.causes and self.waived:
+            return f"{head}><skipped message={quoted('; '.join(map(printable, self.waived)))}/></testcase>"
         if not self.causes:
             return head + "/>"
         told = "\n".join(escaped(printable(f"{name}: {words}")) for name, words in self.causes)
@@ -36,12 +40,15 @@ def whole(shown, status, line):
 
 def of_names(shown):
     """A case for each net name, and one for ties that have no place."""
-    failures = {}
+    failures, waived = {}, {}
     for it in shown.seen.findings:
         for name in it.names:
             failures.setdefault(name, []).append((doubt(it) + it.id, it.sentence()))
     nowhere = [("tie", words) for words in shown.seen.lost_ties()]
-    cases = [Case(name, failures.get(number, [])) for number, name in enumerate(shown.board.report.names)]
+    for it in shown.seen.waived:
+        for name in it.finding.names:
+            waived.setdefault(name, []).append(declarations.waived_words(it))
+    cases = [Case(name, failures.get(number, []), waived=tuple(waived.get(number, ()))) for number, name in enumerate(shown.board.report.names)]
     return cases + ([Case("ties", nowhere)] if nowhere else [])
 
 
@@ -56,7 +63,9 @@ def cases_of(shown):
 def suite(shown):
     cases = cases_of(shown)
     failed, errors = (sum(bool(it.causes) and it.word == word for it in cases) for word in ("failure", "error"))
-    head = f'<testsuite name={quoted(shown.title)} tests="{len(cases)}" failures="{failed}" errors="{errors}">'
+    skipped = sum(not it.causes and bool(it.waived) for it in cases)
+    told = f' skipped="{skipped}"' if skipped else ""
+    head = f'<testsuite name={quoted(shown.title)} tests="{len(cases)}" failures="{failed}" errors="{errors}"{told}>'
     return [head, *(it.row(shown.title) for it in cases), "</testsuite>"]
 
 

@@ -198,7 +198,7 @@ def list_of(kind, findings):
 def verdict(shown):
     """The words of the terminal, and what they mean where the board agrees."""
     words = f"{shown.line[:1].upper()}{shown.line[1:]}"
-    if shown.bounds or shown.answer.status != 0:
+    if shown.bounds or shown.answer.status != 0 or shown.seen.waived:
         return words
     what = "to which its own files give one name" if shown.board.package.own else "that the netlist joins"
     return f"{words}. The copper joins exactly the points {what}{' or the ties do' if shown.seen.ties.ties else ''}."
@@ -208,8 +208,9 @@ def audited(shown):
     """What the audit is of: the files, or copies in place of some."""
     copies = dict.fromkeys(it.file for it in shown.seen.mends)
     words = [*(f"{name} (mended)" for name in copies), *(f"{name} (flattened)" for name in sorted(shown.board.package.flattened))]
+    words += dict.fromkeys(f"{name} (as declared)" for it in shown.seen.declared for name in it.files)
     of = f"these files, with copies in place of {spoken(words, FEW)}" if words else "these files"
-    return f"The report was audited: it is true of {of}{', and has each declared tie as a short' if shown.seen.ties.ties else ''}."
+    return f"The report was audited: it is true of {of}{', and has each declared tie as a short' if shown.seen.ties.ties else ''}{', and what is waived as a finding' if shown.seen.waived else ''}."
 
 
 def facts(shown):
@@ -228,7 +229,7 @@ def source_hash(source):
 
 
 def notes(shown):
-    told = [*shown.notes, *([shown.seen.flood] if shown.seen.flood else []), *(hints.words(hint) for hint in shown.hints), *cut(list(text_lines.extra_lines(shown)), False)]
+    told = [*(f"hint: {hints.words(hint)}" for hint in shown.hints), *shown.notes, *([shown.seen.flood] if shown.seen.flood else []), *cut(list(text_lines.extra_lines(shown)), False)]
     return "".join(f'<p class="advice">{in_html(words)}</p>\n' for words in told)
 
 

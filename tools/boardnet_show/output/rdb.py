@@ -2,11 +2,13 @@
 from boardnet_show.findings.finding import doubt
 
 from .markup import escaped, for_xml
+from .sentences import declarations
 
 KINDS = {"open": "Parts of a name that no copper joins", "short": "Names that copper joins", "missing": "Test points without copper",
          "gap": "Nets that are too close", "cut": "What unplated holes part when the board is made", "outside": "What lies outside the board's edge",
          "neck": "Joins that are narrower than asked for", "wider": "Copper that the upper of two bounds has and the lower one has not",
-         "tie": "Declared ties of names that no test point has", "beside": "What was asked for besides", "board": "Why the board is not judged"}
+         "waived": "Findings that somebody has signed for", "tie": "Declared ties of names that no test point has",
+         "beside": "What was asked for besides", "board": "Why the board is not judged"}
 # Half the side of the box round a place, in u.
 HALF = 1_000_000
 
@@ -60,6 +62,7 @@ def items_of(shown):
 def items_of_board(shown):
     board = shown.board
     its = [item(finding.kind, doubt(finding) + finding.id, values(board, finding)) for finding in shown.findings]
+    its += [item("waived", declarations.waived_words(it), values(board, it.finding)) for it in shown.seen.waived]
     its += [item("tie", "tie", [quoted(words)]) for words in shown.seen.lost_ties()]
     return its, [item("wider", f"{board.manifest.layer_word(layer)}", [f"polygon: ({';'.join(map(at, corners))})"]) for layer, corners in shown.seen.wider]
 

@@ -24,7 +24,7 @@ def facts(record):
         yield "with all that was asked for", record["beside"]
     for key, value in record["program"].items():
         yield {"program": "SHA-256 of the program", "sources": "SHA-256 of its sources"}.get(key, key), value or "unknown"
-    for key in ("mends", "ties", "hints"):
+    for key in ("mends", "ties", "declared", "hints"):
         yield key, "; ".join(record[key]) or "none"
     for it in record["reports"]:
         yield f"report of the {it['of']}", f"{it['line']} ({it['audit']}), SHA-256 {it['sha256']}"

@@ -6,7 +6,8 @@ from boardnet_show.base.statuses import UNDECIDED
 from boardnet_show.formats import indented_json
 from boardnet_show.judging.program import TOOLS
 
-from .causes import KINDS, Cause, causes_of
+from .causes import KINDS, Cause, causes_of, of_findings_of
+from .sentences import declarations
 
 SCHEMA = "https://json.schemastore.org/sarif-2.1.0.json"
 
@@ -30,10 +31,17 @@ def result(shown, cause: Cause) -> dict:
             "locations": [{"physicalLocation": place}]}
 
 
+def suppressed(shown, waived) -> dict:
+    """A finding that is waived, as a result that somebody has accepted."""
+    its = result(shown, next(of_findings_of(shown, [waived.finding])))
+    return {**its, "suppressions": [{"kind": "external", "status": "accepted", "justification": declarations.signed(waived.waiver)}]}
+
+
 def sarif_text(all_shown) -> str:
     rules = [{"id": kind, "shortDescription": {"text": words}} for kind, words in KINDS.items()]
     driver = {"name": "boardnet", "version": release(), "rules": rules}
     results = [result(shown, cause) for shown in all_shown for cause in causes_of(shown)]
+    results += [suppressed(shown, it) for shown in all_shown for it in shown.seen.waived]
     # A board that was not judged has no result that says so by its absence.
     is_whole = all(shown.status in (0, 1, UNDECIDED) for shown in all_shown)
     run = {"tool": {"driver": driver}, "invocations": [{"executionSuccessful": is_whole}], "results": results}

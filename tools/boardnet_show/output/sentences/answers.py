@@ -10,8 +10,11 @@ TRIAL = "NOT PROVED YET (trial build): "
 WORDS = {0: "agrees", 1: "differs", UNDECIDED: "undecided"}
 
 
-def counts_words(counts: Counts) -> str:
-    return "differs, " + ", ".join(f"{name.replace('_', ' ')} {count}" for name, count in zip(Counts._fields, counts)) if any(counts) else "agrees"
+def counts_words(counts: Counts, has_ties: bool) -> str:
+    if not any(counts):
+        return "agrees"
+    rows = list(zip(Counts._fields, counts))[:4 if has_ties else 3]
+    return "differs, " + ", ".join(f"{name.replace('_', ' ')} {count}" for name, count in rows)
 
 
 def found_words(both: Both) -> str:
@@ -24,8 +27,14 @@ def found_words(both: Both) -> str:
 def conditions(answer: Answer) -> str:
     """What an answer stands on, behind its first word."""
     its: List[str] = []
-    if answer.tied:
-        its.append(counted(answer.tied.made, "declared tie"))
+    if answer.declared:
+        its.append(counted(answer.declared, "declaration"))
+    if answer.ties is not None:
+        its.append(counted(answer.ties, "declared tie"))
+    if answer.waived:
+        its.append(counted(answer.waived, "waiver"))
+    if answer.stale:
+        its.append(f"{answer.stale} of what is declared stale")
     return f", with {spoken_list(its)}" if its else ""
 
 
@@ -38,9 +47,9 @@ def bare_line(answer: Answer) -> str:
     if answer.kind == BETWEEN and answer.both:
         proved = ", proved" if answer.both.is_proved else ""
         return f"{WORDS[answer.status]}{conditions(answer)}, between two bounds{proved}{found_words(answer.both)}"
-    if answer.tied and answer.tied.counts:
-        return f"{counts_words(answer.tied.counts)}{conditions(answer)}; the report itself says: {answer.said}"
-    return answer.said
+    if answer.counts:
+        return f"{counts_words(answer.counts, answer.ties is not None)}{conditions(answer)}; the report itself says: {answer.said}"
+    return answer.said + conditions(answer)
 
 
 def line(answer: Answer) -> str:

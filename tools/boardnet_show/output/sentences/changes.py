@@ -4,7 +4,7 @@ from typing import Dict, List, Tuple
 from boardnet_show.base.wording import counted, millimetres, spoken
 from boardnet_show.fitting import access_codes
 from boardnet_show.fitting.changes import (
-    Change, CodesRead, CopperPlaced, DecimalsRead, DigitsRead, DrillsPlaced, LayersOrdered, NetlistPlaced
+    POINTS, SAID, Change, CodesRead, CopperPlaced, DecimalsRead, DigitsRead, DrillsPlaced, LayersOrdered, NetlistPlaced
 )
 from boardnet_show.fitting.placement import FORMS
 from boardnet_show.formats.units import UNIT_WORDS
@@ -37,8 +37,8 @@ def drill_files(change: DrillsPlaced) -> str:
 
 def layers_ordered(change: LayersOrdered) -> str:
     order = f"the layers in the order {', '.join(change.order)}"
-    if change.is_said:
-        return f"{order}, as the files say"
+    if change.why != POINTS:
+        return f"{order}, as the files say" if change.why == SAID else order
     cannot = "; the netlist cannot tell the order of the inner layers" if change.is_inner_unknown else ""
     return f"{order} (where surface points have a pad of their own{cannot})"
 
