@@ -20,8 +20,8 @@ import sys
 from boardnet_show.base import writing
 from boardnet_show.base.statuses import Stop
 from boardnet_show.base.wording import printable
-from boardnet_show.intake import archives, drill_numbers, gathering
-from boardnet_show.intake.evidence import readings
+from boardnet_show.intake import archives, gathering
+from boardnet_show.intake.evidence import drill_numbers, readings
 from boardnet_show.intake.file_names import Refused, shown
 from boardnet_show.intake.mends import mended_files as mends
 
@@ -85,23 +85,30 @@ def bytes_of(folder, name):
 def mended(folder, manifest, asked):
     """The manifest with mended copies, where they are asked for; else it is said that `show` makes them."""
     drills, made = [it["file"] for it in manifest["drills"]], {}
-    its = mends.of_files(lambda name: bytes_of(folder, name), manifest["copper"], drills, manifest["netlist"],
-                         lambda name, data: drill_numbers.settled(name, data, folder))
-    for name, data, told in its:
+    read = lambda name: made.get(name) or bytes_of(folder, name)
+    settling = drill_numbers.Settling(folder, lambda: list(map(read, manifest["copper"])))
+    for name, data, told in mends.of_files(lambda name: bytes_of(folder, name), manifest["copper"], drills, manifest["netlist"], settling):
         made[name] = data
         for it in told:
             say(f"{'mended' if asked.mend else 'to be mended'}: {shown(it.words)}")
-    for it in readings.of_files(lambda name: made.get(name) or bytes_of(folder, name), manifest["copper"], manifest["netlist"]):
+    found = list(readings.of_files(read, manifest["copper"], manifest["netlist"]))
+    for it in found:
         made[it.file] = it.data
-        say(f"{'taken' if asked.yes else 'would be taken'}: {shown(it.sentence())}")
-        if not asked.yes:
-            raise Refused(readings.ASK)
+    need_yes(settling.sentences() + [it.sentence() for it in found], asked.yes)
     copies = {name: mends.name_beside(name) if asked.mend else name for name in made}
     for name in made if asked.mend else ():
         writing.write(os.path.join(folder, copies[name]), made[name])
     if copies and not asked.mend:
         say("manifest: `boardnet show` makes these mends; `boardnet manifest FOLDER --mend` writes mended copies, which `check` takes")
     return mends.renamed(manifest, copies)
+
+
+def need_yes(doubts, is_yes):
+    """Says how files are read by the board alone, and wants a yes for it."""
+    for it in doubts:
+        say(f"{'taken' if is_yes else 'would be taken'}: {shown(it)}")
+    if doubts and not is_yes:
+        raise Refused(readings.ASK)
 
 
 def main(given):

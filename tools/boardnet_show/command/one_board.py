@@ -207,6 +207,14 @@ def agrees_without(path, asked, program, scratch, its, ties):
     return ["what is declared does not fit these files any more: without its changes they agree"] if agrees else []
 
 
+def opened(path, asked, scratch, declared):
+    """The package of a PATH; where it wants a yes, all is said that it is wanted for."""
+    try:
+        return package.opened(path, asked, scratch, declared=declared)
+    except package.Unconfirmed as unconfirmed:
+        raise mending.with_readings(unconfirmed) from None
+
+
 def keep(files, seen, folder):
     """Keeps the files as they were judged, with what is declared of them still."""
     if seen.ties.ties:
@@ -235,7 +243,7 @@ def shown_once(path, asked, program, scratch, taken):
     try:
         os.makedirs(scratch)
         read = declarations_of(path, asked, taken)
-        files = package.opened(path, asked, scratch, declared=lambda home: sorted_by(read(home)))
+        files = opened(path, asked, scratch, lambda home: sorted_by(read(home)))
         its = read(files.around)
         package.need_netlist(files, asked)
         own = by_own_names(files, asked)

@@ -57,6 +57,13 @@ def of(name, data):
     return Drills(name, *by_other_evidence(name, plating)), ""
 
 
+def of_gerber(name, said):
+    """What a drill file in the Gerber format is, by its file functions."""
+    if len(said) > 1:
+        raise Refused(f"{name} has several attributes TF.FileFunction ({'; '.join(map(shown, sorted(said)))}): {APART}")
+    return of_attribute(name, said[0], b"")
+
+
 def by_other_evidence(name, plating):
     """The span, (0, 0) of unplated holes, and the evidence for it; it is told and confirmed as other guesses are."""
     tools = set(plating.tools.values())

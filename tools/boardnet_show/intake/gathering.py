@@ -41,11 +41,7 @@ class Package:
         if seen.kind == "gerber":
             self.add_gerber(name, seen.data)
         elif seen.kind == "drill":
-            found, why = drill_files.of(name, seen.data)
-            if found:
-                self.drills.append(found)
-            else:
-                self.leave_out(name, why)
+            self.add_drills(name, *drill_files.of(name, seen.data))
         elif seen.kind == "netlist":
             self.netlists.append(netlist_files.Netlist(name, seen.data))
         else:
@@ -54,6 +50,13 @@ class Package:
             self.amiss[name] = f"it begins with {seen.mark}, which `check` refuses: save it without one"
         if len(data) > MOST_BYTES:
             self.amiss[name] = f"it is longer than {MOST_BYTES} bytes"
+
+    def add_drills(self, name, found, why):
+        """Takes in a drill file, or leaves it out."""
+        if found:
+            self.drills.append(found)
+        else:
+            self.leave_out(name, why)
 
     def read_job(self, data):
         try:
@@ -76,7 +79,10 @@ class Package:
             self.layers.append(layer)
             self.origins.setdefault(copper_layers.origin_of(data), name)
         elif function.startswith(("Plated,", "NonPlated,", "MixedPlating,")):
-            self.leave_out(name, "it is a drill file in the Gerber format: export it in the Excellon format")
+            found, why = drill_files.of_gerber(name, said)
+            self.add_drills(name, found, why)
+            if found:
+                self.origins.setdefault(copper_layers.origin_of(data), name)
         else:
             why = f"its function is {shown(function)}"
             self.leave_out(name, why)

@@ -8,7 +8,7 @@ from boardnet_show.formats.drills.drill_plating import unplated_hole, unread_fun
 from boardnet_show.formats.gerber_lexer import may_lack_quadrants
 from boardnet_show.intake.mends import mended_files as mends, netlist_mends
 
-from . import drill_numbers
+from .evidence import drill_numbers
 
 
 def mend(package, progress, is_yes=False):
@@ -17,31 +17,52 @@ def mend(package, progress, is_yes=False):
     if not package.manifest:
         return
     progress.begin("looking for what to mend")
+    doubts = rewritten(package)
+    if doubts and not is_yes:
+        from .evidence import readings      # few boards want them
+        raise Stop(UNCLEAR, readings.ASK + would_be_taken(doubts))
+    package.guessed += doubts
+
+
+def would_be_taken(doubts):
+    return "".join(f"\n  would be taken: {it}" for it in doubts)
+
+
+def with_readings(unconfirmed):
+    """What stops a folder that wants a yes, with all that it is wanted for."""
+    try:
+        doubts = rewritten(unconfirmed.package)
+    except (Stop, OSError, ValueError):
+        doubts = []
+    return Stop(unconfirmed.status, str(unconfirmed) + would_be_taken(doubts))
+
+
+def rewritten(package):
+    """Does it, and answers what the board alone says, in sentences."""
     drills = [name for name, _, _ in package.manifest.drills]
     need_functions(package)
     need_plated(package, drills)
     netlist = package.manifest.netlist
     need_names(package, netlist)
+    settling = drill_numbers.Settling(package.around, lambda: [bytes_of(package, name) for name in package.manifest.copper])
     # A copy of a netlist that lies elsewhere cannot stand under its name, which is said where one is wanted.
     its = mends.of_files(lambda name: (read if name == netlist else bytes_of)(package, name), package.manifest.copper, drills,
-                         netlist, lambda name, data: drill_numbers.settled(name, data, package.around))
+                         netlist, settling)
     for name, data, told in its:
         package.put(name, data)
         package.mends += told
-    take(package, is_yes)
+    return settling.sentences() + taken(package)
 
 
-def take(package, is_yes):
-    """Has files read as the board says, or asks."""
+def taken(package):
+    """Has files read as the board says, and answers how, in sentences."""
     if not wants_readings(package):
-        return
+        return []
     from .evidence import readings      # few boards want them
     found = list(readings.of_files(lambda name: bytes_of(package, name), package.manifest.copper, package.manifest.netlist))
-    if found and not is_yes:
-        raise Stop(UNCLEAR, readings.ASK + "".join(f"\n  would be taken: {it.sentence()}" for it in found))
     for it in found:
         package.put(it.file, it.data)
-        package.guessed.append(it.sentence())
+    return [it.sentence() for it in found]
 
 
 def wants_readings(package):

@@ -136,6 +136,14 @@ class Package:
         return os.path.join(self.home, name)
 
 
+class Unconfirmed(Stop):
+    """A folder whose files do not say all of what they are; `package` is what would be taken."""
+
+    def __init__(self, words, package):
+        super().__init__(UNCLEAR, words)
+        self.package = package
+
+
 def inner(scratch, names):
     """A folder so deep in the scratch folder that names with `..` stay in it."""
     deep = max([name.split("/").count("..") for name in names], default=0)
@@ -203,9 +211,6 @@ def of_folder(home, asked, scratch, declared):
         left_out = "".join(f"\n  left out: {name}: {reason}" for name, reason in found.left_out)
         raise Stop(UNCLEAR, f"{why}{left_out}") from None
     unsaid = [row for row in plan.guessed if Taken(*row[:2]) not in said.taken]
-    if unsaid and not asked.yes:
-        raise Stop(UNCLEAR, "the files do not say all of what they are: if this is right, say --yes; else write m.json by hand"
-                   + "".join(f"\n  would be taken: {name} as {what}: {why}" for name, what, why in unsaid))
     told = manifest.Manifest(plan.manifest)
     package = Package(told, room(scratch, told.names()))
     package.home, package.around, package.is_made = home, home, True
@@ -215,6 +220,9 @@ def of_folder(home, asked, scratch, declared):
     package.put("m.json", told.json_text().encode())
     for name in filter(None, [*told.names(), TIES]):
         package.link(name, os.path.join(home, name))
+    if unsaid and not asked.yes:
+        raise Unconfirmed("the files do not say all of what they are: if this is right, say --yes; else write m.json by hand"
+                          + "".join(f"\n  would be taken: {word}" for word in package.guessed), package)
     return package
 
 

@@ -134,7 +134,10 @@ class Manifest(common.Case):
             (two(p_drl=drill("Plated")), "not which layers they span"),
             (two(p_drl=drill(f"Plated,1,{'2' * 5000}")), "not which layers they span"),
             (two(p_drl=drill("Plated,1,3,PTH")), "p.drl spans layers 1 to 3 of 2"),
-            (two(p_drl=copper("Plated,1,2,PTH,Drill")), "no drill file of plated holes"),
+            (two(p_drl=copper("Plated,1,3,PTH,Drill")), "p.drl spans layers 1 to 3 of 2"),
+            (two(p_drl=copper("Plated,PTH,Drill")), "not which layers they span"),
+            (two(p_drl=copper("NonPlated,1,2,NPTH,Drill")), "no drill file of plated holes"),
+            (two(p_drl=copper("Plated,1,2,PTH,Drill").replace("C,", "R,")), "a drill file in the Gerber format, and line"),
         ]:
             with self.subTest(words=words):
                 self.refused(changed, *words)

@@ -7,7 +7,8 @@ import unittest
 
 from boardnet_show.base import refusals
 from boardnet_show.formats.drills import drill_plating
-from boardnet_show.intake import cad_tools, drill_numbers, export_advice
+from boardnet_show.intake import cad_tools, export_advice
+from boardnet_show.intake.evidence import drill_numbers
 from boardnet_show.intake.mends import chords, copper_mends, drill_mends, mended_files, netlist_mends, table
 from boardnet_show.judging.answers import STOPPED, Answer
 from boardnet_show.output.sentences import answers as sentences
@@ -233,9 +234,9 @@ class Mends(common.Case):
         self.assertIn(status, (0, 1), notes)
         plain = self.report("plain", [row[2] for row in COPPER], [row[2] for row in DRILLS])
         self.assertEqual((status, tables(out)), (plain[0], tables(plain[1])))
-        # Contours that are cut up and names of netlists have tests of their own.
+        # Contours that are cut up, drill files in the Gerber format and names of netlists have tests of their own.
         kinds = [row.kind for row in table.ROWS]
-        self.assertEqual({*kinds[:kinds.index(table.ALIAS)]} - {table.CONTOUR}, {row[0] for row in COPPER + DRILLS})
+        self.assertEqual({*kinds[:kinds.index(table.ALIAS)]} - {table.CONTOUR, table.GERBER_DRILLS}, {row[0] for row in COPPER + DRILLS})
 
     def test_places_keep_their_numbers(self):
         """Commands, lines and their counts are those of the file as it was."""

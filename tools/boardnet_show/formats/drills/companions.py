@@ -61,8 +61,8 @@ def drill_station(name: str, data: bytes, drilled: bytes) -> Optional[Companion]
         tool = int(number)
         if float(sizes.get(tool, b"-1")) != float(size) or used.get(tool, 0) != int(count):
             mine = f"{shown(sizes.get(tool, b'none'))} and {used.get(tool, 0)}"
-            raise Contradiction(f"{name} says that T{tool} has a size of {shown(size)} and {shown(count)} holes, and it "
-                                f"has {mine}: it is of another board")
+            raise Contradiction(f"{name} says that T{tool} has a size of {shown(size)} and {shown(count)} holes, and "
+                                f"it has {mine}: it is of another board")
     decimals = len(found[1]) if found[1] is not None else len(found[2]) + 1
     said = Said(DRI_UNIT[found[3].lower()], (0, decimals), LEADING)
     return Companion(name, said, " ".join(shown(found[0]).split()))

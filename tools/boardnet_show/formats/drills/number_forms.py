@@ -60,10 +60,10 @@ class NumberForm(NamedTuple):
             return len(digits) <= self.whole or not digits.endswith(b"0")
         return not digits.startswith(b"0")
 
-    def words(self) -> str:
-        """As people say it: 2.5 with trailing zeros left out."""
+    def words(self, unit: str = "") -> str:
+        """As people say it: 2.5 inches, trailing zeros left out."""
         layout = f"{self.whole}.{self.decimals}" if self.whole else f"{self.decimals} decimals"
-        return layout + {LEADING: ", leading zeros left out", TRAILING: ", trailing zeros left out"}.get(self.zeros, "")
+        return layout + unit + (f", {self.zeros} zeros left out" if self.zeros != NO_ZEROS else "")
 
 
 class Said(NamedTuple):

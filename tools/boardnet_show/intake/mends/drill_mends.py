@@ -65,8 +65,10 @@ class Drill:
         said = [line for line in self.its if self.head.line(line.number) == settled.line]
         if its and settled.form:
             line = said[-1] if said else its[0]
-            why = f", and {settled.why}" if settled.why else ""
-            what = f"says how numbers without a point are read{why}: they are written with one ({settled.form.words()})"
+            form = settled.form.words()
+            what = f"says how numbers without a point are read: they are written with one ({form})"
+            if settled.why:
+                what = f"is read as {form}, since {settled.why}: each number is written with a point"
             self.found[NUMBERS] = [(self.head.line(line.number), short(line.text), what)]
 
     def line(self, line: Line) -> None:
@@ -161,7 +163,7 @@ class Numbers:
     def pointed(self, number: bytes) -> bytes:
         """A number with its point, in the header's unit."""
         text = self.drill.form.pointed(number) if self.drill.form else number
-        return scaled(text, INCH) if self.drill.is_inch else text
+        return scaled(text, INCH) if self.drill.is_inch and b"." in text else text
 
     def line(self, number: int, record: Record) -> None:
         if isinstance(record, Repeat) and self.is_hole and record.times <= MOST_REPEATS:

@@ -12,7 +12,7 @@ class Row(namedtuple("Row", "kind sees writes why told")):
 
 # Drill files.
 PLATING, UNIT, FORM, ENDS, MACHINE, LIFT, FORCE = "plating", "unit", "unit form", "header's end", "machine", "lift", "in force"
-NUMBERS, HEADERS, REPEATS = "numbers", "header", "repeats"
+NUMBERS, HEADERS, REPEATS, GERBER_DRILLS = "numbers", "header", "repeats", "Gerber drills"
 # Netlists.
 ALIAS, NAME, CHARACTERS, METRIC, VIA, CONTINUED, NO_POINT, LAYER, PAPER = \
     "alias", "name", "characters", "metric", "via", "continued", "no point", "layer", "paper"
@@ -34,6 +34,7 @@ ROWS = (
     Row(HEADERS, "no `M48`, but tools in Allegro's comments or lines such as `T1C0.028F200S100`; a unit behind the tools, before any hole",
         "a header of these; later lines count more", "the file says them", ""),
     Row(REPEATS, "`R<n>X..Y..` behind a hole", "the holes; later lines count more", "each is a step further", "repeats a hole: written out"),
+    Row(GERBER_DRILLS, "a drill file in the Gerber format (`TF.FileFunction,Plated,..`)", "XNC", "a flash of a circle is a hole, a straight draw a slot", ""),
     Row(ENDS, "`M95` in the header", "`%`", "both end the header", "ends the header: written as `%`"),
     Row(MACHINE, "feed, speed, retract, hits and depth of a tool (`F`, `S`, `B`, `H`, `Z`); lines of `F` and `S`; `ATC`, `BLKD`, `DETECT`, `OSTOP`, `SBK`, `SG`, `TCST` "
         "with `,ON` or `,OFF`; `M47` with a message; `M00` before a tool or the end", "the tool's diameter alone; an empty line", "they say how the machine runs, and not where a hole is",

@@ -2,14 +2,18 @@
 it."""
 import os
 import re
-from typing import List, Optional, Tuple
+from typing import TYPE_CHECKING, Callable, List, Optional, Tuple
 
 from boardnet_show.base.statuses import REFUSED, Stop
 from boardnet_show.formats.drills.drill_lines import BODY, FRONT, Mode, Tool, Unit, lines
 from boardnet_show.formats.drills.number_forms import Contradiction, Said, Settled, bare_numbers, said_of
 
-from .file_names import MOST_BYTES
+if TYPE_CHECKING:
+    from .drill_readings import Evidence
 
+MOST_BYTES = 1_000_000      # of a file that says how another is read
+
+HAS_HEADER = re.compile(rb"^[ \t]*M48[ \t\r]*$", re.M)
 BARE = re.compile(rb"^[^;\n]*[XY][+-]?[0-9]+(?![0-9.])", re.M)
 
 
@@ -66,7 +70,7 @@ def read_by(data: bytes, its: Said, why: str) -> Optional[Settled]:
     numbers."""
     bare = bare_numbers(data) if BARE.search(data) else []
     form = its.form(bare) if bare else None
-    if its.unit is None or bare and form is None:
+    if its.unit is None or bare and form is None and not HAS_HEADER.search(data):
         return None
     wrong = form.wrong_number(bare) if form else None
     if wrong and form:
@@ -74,6 +78,45 @@ def read_by(data: bytes, its: Said, why: str) -> Optional[Settled]:
         raise Contradiction(f"line {wrong[0]} has the number {number}, which is none of {form.words()}"
                             + (f", as {why}" if why else ""))
     return Settled(its.unit, form, its.line if not why else 0, why)
+
+
+def refusal(name: str, why: str) -> Stop:
+    """What stops a board whose drill file contradicts itself, what lies beside it, or the pads."""
+    return Stop(REFUSED, f"{name}: its numbers have no one meaning: {why}; to export: drill files with a decimal point in "
+                "each number")
+
+
+class Settling:
+    """Settles how the drill files of a board are read, one after the other. `doubts` are those that only evidence
+    settles: the name, how it is read, and why."""
+
+    def __init__(self, home: str, copper: Callable[[], List[bytes]]) -> None:
+        self.home, self.copper = home, copper
+        self.doubts: List[Tuple[str, str, str]] = []
+        self.made: Optional["Evidence"] = None
+
+    def evidence(self) -> "Evidence":
+        """What the pads of the copper say, looked at once, where it is wanted."""
+        from .drill_readings import Evidence       # few boards want it
+        self.made = self.made or Evidence(self.copper)
+        return self.made
+
+    def __call__(self, name: str, data: bytes) -> Optional[Settled]:
+        found = settled(name, data, self.home)
+        if found and found.form:
+            why = self.evidence().against(data, found)
+            if why:
+                how = f"{found.why}, but " if found.why else "it says how they are read, but "
+                raise refusal(name, how + why)
+        if found and found.form or not BARE.search(data):
+            return found
+        taken = self.evidence().reading(data, said(name, data, self.home)[0])
+        if taken:
+            self.doubts.append((name, taken[1], taken[2]))
+        return taken[0] if taken else found
+
+    def sentences(self) -> List[str]:
+        return [f"{name} as a drill file of {how}: {why}" for name, how, why in self.doubts]
 
 
 def settled(name: str, data: bytes, home: str) -> Optional[Settled]:
@@ -86,5 +129,4 @@ def settled(name: str, data: bytes, home: str) -> Optional[Settled]:
     except Contradiction as why:
         if not BARE.search(data):
             return None
-        raise Stop(REFUSED, f"{name}: its numbers have no one meaning: {why}; to export: drill files with a decimal "
-                            "point in each number") from None
+        raise refusal(name, str(why)) from None

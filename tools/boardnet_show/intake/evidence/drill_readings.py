@@ -1,0 +1,170 @@
+"""How the numbers of a drill file are read where nothing says it: the one reading by which its holes lie on middles
+of pads.
+
+What is found so is evidence and no certainty: it is told, and taken only where the user says so.
+"""
+from fractions import Fraction
+from typing import Callable, Dict, FrozenSet, Iterable, Iterator, List, NamedTuple, Optional, Set, Tuple
+
+from boardnet_show.formats.drills.drill_lines import BEHIND, Hit, Place, lines, places_of
+from boardnet_show.formats.drills.drill_plating import Plating
+from boardnet_show.formats.drills.number_forms import (
+    LEADING, TRAILING, UNIT_NAMES, NumberForm, Said, Settled, bare_numbers
+)
+from boardnet_show.formats.units import INCH, MM
+
+from .pad_middles import NEAR, Middles
+from .readings import AT_MOST, ENOUGH, FEWEST
+
+# Excellon's digits, by the unit.
+DEFAULTS = {INCH: (2, 4), MM: (3, 3)}
+MOST_DIGITS = 7
+
+Cell = Tuple[int, int]
+Texts = Tuple[bytes, bytes]
+
+
+class Reading(NamedTuple):
+    """A unit, and how numbers without a point are read."""
+
+    unit: int
+    form: NumberForm
+
+    def words(self) -> str:
+        whole = self.form.whole or DEFAULTS[self.unit][0]
+        return self.form._replace(whole=whole).words(f" {UNIT_NAMES[self.unit]}")
+
+
+class Fit(NamedTuple):
+    """A reading, how many of the holes lie on pads by it, and whether its writer would write all these numbers."""
+
+    reading: Reading
+    on: int
+    holes: int
+    is_written: bool = True
+
+    def is_enough(self) -> bool:
+        return self.holes >= FEWEST and self.on * ENOUGH[1] >= ENOUGH[0] * self.holes
+
+    def leaves(self, other: "Fit") -> bool:
+        """Whether another reading is no rival: where its writer would write these numbers, far fewer holes fit it."""
+        if other.is_written:
+            return other.on * AT_MOST[1] <= self.on * AT_MOST[0]
+        return other.on < self.on and not other.is_enough()
+
+    def words(self, others: List["Fit"]) -> str:
+        """The evidence, in words."""
+        most = max((it.on for it in others if it.is_written), default=0)
+        return (f"{self.on} of {self.holes} holes lie on middles of pads, and over {most} by no other reading that the "
+                "numbers allow")
+
+
+def digits_first(default: int) -> List[int]:
+    return [default, *(n for n in range(1, MOST_DIGITS + 1) if n != default)]
+
+
+def forms(said: Said, unit: int, width: int) -> Iterator[NumberForm]:
+    """The readings that the header allows, Excellon's first; `width` is the length of the longest number."""
+    zeros = [LEADING, TRAILING] if said.zeros is None else [TRAILING] if said.zeros == TRAILING else [LEADING]
+    whole, decimals = DEFAULTS[unit]
+    for its in zeros:
+        if said.digits:
+            yield NumberForm(*said.digits, its)
+        elif its == LEADING:
+            yield from (NumberForm(0, n, its) for n in digits_first(decimals))
+        else:
+            yield from (NumberForm(n, max(width - n, 1), its) for n in digits_first(whole) if n < width)
+
+
+def readings(said: Said, bare: List[bytes]) -> Iterator[Reading]:
+    """All readings that the header allows."""
+    width = max(len(number.lstrip(b"+-")) for number in bare)
+    for unit in (INCH, MM) if said.unit is None else (said.unit,):
+        yield from (Reading(unit, form) for form in forms(said, unit, width))
+
+
+def holes_of(data: bytes) -> List[Texts]:
+    """The numbers of all round holes that are not called unplated, each place once; what is missing stays."""
+    unplated = {number for number, called in Plating(data).holes() if called == {False}}
+    last, found = Place(b"0", b"0"), set()
+    for line in lines(data):
+        record = line.record()
+        for place in places_of(record) if line.part != BEHIND else ():
+            last = Place(place.x or last.x, place.y or last.y)
+        if isinstance(record, Hit) and len(record.places) == 1 and line.number not in unplated and line.part != BEHIND:
+            found.add((last.x or b"0", last.y or b"0"))
+    return sorted(found)
+
+
+def lengths(holes: List[Texts], reading: Reading) -> Dict[bytes, int]:
+    """Each number in u, to the nearest."""
+    texts = {text for hole in holes for text in hole}
+    return {text: round(Fraction(reading.form.pointed(text).decode()) * reading.unit) for text in texts}
+
+
+def around(pads: Middles) -> Set[Cell]:
+    """All cells near one with a pad."""
+    return {(x + i, y + j) for x, y in pads.cells for i in (-1, 0, 1) for j in (-1, 0, 1)}
+
+
+def fits(holes: List[Texts], its: Iterable[Reading], cells: Set[Cell]) -> List[Fit]:
+    """How many holes lie on pads by each reading; of readings that give all holes the same places the first."""
+    texts = [(0, text) for text in {text for hole in holes for text in hole}]
+    found: Dict[FrozenSet[Tuple[bytes, int]], Fit] = {}
+    for reading in its:
+        u = lengths(holes, reading)
+        key = frozenset(u.items())
+        if key not in found:
+            on = sum((u[x] // NEAR, u[y] // NEAR) in cells for x, y in holes)
+            found[key] = Fit(reading, on, len(holes), not reading.form.wrong_number(texts))
+    return list(found.values())
+
+
+class Evidence:
+    """What the pads of a board say of its drill files; `copper` gives the copper files as they are judged."""
+
+    def __init__(self, copper: Callable[[], List[bytes]]) -> None:
+        self.copper = copper
+        self.known: Optional[Set[Cell]] = None
+
+    def cells(self) -> Set[Cell]:
+        if self.known is None:
+            self.known = around(Middles(self.copper()))
+        return self.known
+
+    def best(self, data: bytes, its: Said) -> Optional[Tuple[Fit, List[Fit]]]:
+        """The one reading that the pads confirm, and the others; or nothing."""
+        bare = [number for _, number in bare_numbers(data)]
+        holes = holes_of(data) if bare else []
+        if len(holes) < FEWEST:
+            return None
+        found = fits(holes, readings(its, bare), self.cells())
+        first = max(found, key=lambda fit: fit.on)
+        others = [fit for fit in found if fit is not first]
+        if not first.is_enough() or not first.is_written or not all(map(first.leaves, others)):
+            return None
+        return first, others
+
+    def reading(self, data: bytes, its: Said) -> Optional[Tuple[Settled, str, str]]:
+        """How a file is read by its holes: also in words, with the evidence; or nothing."""
+        found = self.best(data, its)
+        if not found:
+            return None
+        fit, others = found
+        words = fit.words(others)
+        return Settled(fit.reading.unit, fit.reading.form, 0, words), fit.reading.words(), words
+
+    def against(self, data: bytes, its: Settled) -> str:
+        """Why a reading that is said cannot be meant: most holes miss the pads by it, and lie on them by one other;
+        or nothing."""
+        if its.form is None or its.unit is None:
+            return ""
+        holes = holes_of(data)
+        mine = fits(holes, [Reading(its.unit, its.form)], self.cells())
+        if len(holes) < FEWEST or not mine or 2 * mine[0].on > len(holes):
+            return ""
+        found = self.best(data, Said())
+        if not found:
+            return ""
+        other = found[0]
+        return f"by it {mine[0].on} of {len(holes)} holes lie on middles of pads, by {other.reading.words()} {other.on}"
