@@ -76,21 +76,21 @@ class Drilled(Machine):
         if self.tool not in self.used:
             self.used.append(self.tool)
 
-    def place(self, spot: Spot) -> bytes:
+    def place_words(self, spot: Spot) -> bytes:
         x, y = (decimal(Decimal(n).scaleb(-(self.decimals or 0)) * (self.scale or MM) / MM) for n in spot)
         return b"X" + x + b"Y" + y
 
     def flash(self) -> None:
         self.needs()
         self.flashes += 1
-        self.body.append(self.place(self.spot))
+        self.body.append(self.place_words(self.spot))
 
     def draw(self, start: Spot) -> None:
         self.needs()
         if self.mode is not STRAIGHT:
             self.refuse("a slot is an arc")
         self.draws += 1
-        self.body.append(self.place(start) + b"G85" + self.place(self.spot))
+        self.body.append(self.place_words(start) + b"G85" + self.place_words(self.spot))
 
     # ---- what no drill file has
 
