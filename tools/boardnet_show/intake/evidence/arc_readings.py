@@ -10,7 +10,7 @@ from typing import List, NamedTuple, Optional, Tuple, cast
 
 from boardnet_show.base.wording import counted
 from boardnet_show.formats.gerber_lexer import Run, Word, may_lack_quadrants
-from boardnet_show.formats.gerber_machine import ANTICLOCKWISE, Machine, Spot
+from boardnet_show.formats.gerber_machine import ANTICLOCKWISE, STRAIGHT, Code, Machine, Spot
 from boardnet_show.geometry.exact import Refused
 
 PARTS = 100         # of a unit, in which radii are compared
@@ -62,8 +62,8 @@ class Arcs(Machine):
         self.read(data)
 
     def run(self, run: Run) -> None:
-        if self.mode == 1:
-            self.spot = run.xs[-1], run.ys[-1]
+        if self.mode == STRAIGHT:
+            self.spot, self.code = (run.xs[-1], run.ys[-1]), Code(run.codes[-1])
         else:
             super().run(run)
 
