@@ -1,7 +1,7 @@
 """One board, from its files to its findings: each step gives a value to the next."""
 import os
 
-from boardnet_show.base.statuses import FAULT, UNDECIDED, BadCopper, fault_of
+from boardnet_show.base.statuses import FAULT, REFUSED, UNDECIDED, BadCopper, fault_of
 from boardnet_show.extras import requested
 from boardnet_show.findings.board import Board
 from boardnet_show.findings.explained import Explained, title_of
@@ -100,6 +100,18 @@ def bounded(program, told, seen, asked):
     return seen
 
 
+def with_others(program, files, seen):
+    """The answer on a refused board with what else would stop it."""
+    refusal = seen.answer.refusal
+    if seen.answer.status != REFUSED or not refusal or seen.answer.no_bounds or not files.manifest:
+        return seen
+    from boardnet_show.judging import (        # few boards are refused
+        obstacles
+    )
+    behind = (*obstacles.others(program, files, refusal), *seen.answer.behind)
+    return seen._replace(answer=seen.answer._replace(behind=behind))
+
+
 def looked_at_between(program, files, seen, asked):
     """The findings of a board between bounds, over the lower one."""
     from boardnet_show.findings import between_bounds, findings
@@ -142,6 +154,7 @@ def explained(program, told, seen, asked, signed):
         seen = looked_at(program, told, seen, asked.page or asked.svg or requested.wants_copper(asked))
     if told.status == 3:
         seen = bounded(program, told, seen, asked)
+        seen = with_others(program, told.package, seen)
     if signed or asked.waive:
         from . import waived            # few boards have waivers
         seen = waived.with_waivers(program, told, seen, signed, asked)

@@ -6,6 +6,7 @@ There is one cut, and ways to look at few of its words: all of them (`tokens`), 
 operations of a region as a `Run`, other plain words as `Plain`.
 """
 import re
+from itertools import islice
 from typing import Dict, Iterable, Iterator, List, NamedTuple, Optional, Sequence, Tuple, Union
 
 # Mode, x, y, centre and code of an operation, each with what stands behind its letter; a centre with its letters.
@@ -179,6 +180,14 @@ def line_numbers(data: bytes, commands: Iterable[int]) -> Dict[int, int]:
         if is_word and number in wanted:
             found[number] = line_at(data, match.start(8) if match[1] is None else match.start(1))
     return found
+
+
+def nth_word(data: bytes, number: int) -> Optional[Word]:
+    """A word by its number, from 1; nothing where there is none, or the file is not cut into words before it."""
+    try:
+        return next((word for word in islice(tokens(data), number - 1, None) if isinstance(word, Word)), None)
+    except Broken:
+        return None
 
 
 # ---- some of the words

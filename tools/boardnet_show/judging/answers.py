@@ -1,5 +1,5 @@
 """The answer on a board as a value: how it was judged and what counts. `output.sentences.answers` puts it in words."""
-from typing import NamedTuple, Optional
+from typing import NamedTuple, Optional, Tuple
 
 from boardnet_show.base.refusals import Advice, Refusal
 from boardnet_show.base.statuses import UNJUDGED, Stop
@@ -28,8 +28,8 @@ class Both(NamedTuple):
 
 
 class Answer(NamedTuple):
-    """`said` is the program's own line, or why the board is not judged; `no_bounds` why there are no bounds of a board that is refused;
-    `is_trial` whether a trial build said it, which is not proved.
+    """`said` is the program's own line, or why the board is not judged; `no_bounds` why there are no bounds of a board that is refused,
+    `behind` what else would stop it; `is_trial` whether a trial build said it, which is not proved.
 
     `counts` is what counts by the report where ties are declared or findings waived. `ties` is how many declared ties the copper has, None
     where none is declared; so many things are `declared`, findings `waived`, and declarations and waivers `stale`."""
@@ -49,6 +49,7 @@ class Answer(NamedTuple):
     declared: int = 0
     waived: int = 0
     stale: int = 0
+    behind: Tuple[Refusal, ...] = ()
 
     def is_between(self) -> bool:
         return self.both is not None
@@ -62,6 +63,11 @@ def stopped(stop: Stop) -> Answer:
 def nothing(why: str) -> Answer:
     """The answer where a yes would say nothing of the board."""
     return Answer(UNJUDGED, NOTHING, why)
+
+
+def blocked(status: int, refusal: Refusal, bounded: Refusal) -> Answer:
+    """The answer on a board whose copper would have bounds, where another refusal truly stops it."""
+    return Answer(status, STOPPED, refusal.line(), refusal, behind=(bounded,))
 
 
 def without_bounds(status: int, said: str, refusal: Optional[Refusal], why: str) -> Answer:

@@ -15,7 +15,7 @@ from typing import NamedTuple, Optional
 from boardnet_show.base.refusals import Refusal
 from boardnet_show.base.statuses import UNDECIDED, fault_of
 from boardnet_show.formats import ipc356
-from boardnet_show.formats.gerber_lexer import line_numbers
+from boardnet_show.formats.gerber_lexer import line_numbers, nth_word
 from boardnet_show.geometry.exact import Refused
 from boardnet_show.intake.package import beside
 
@@ -29,11 +29,11 @@ SIDES = ("lower", "upper")
 
 
 class SideRefused(Refused):
-    """One of both boards is refused, and why."""
+    """One of both boards is refused, which one, and why."""
 
-    def __init__(self, words, refusal: Optional[Refusal]):
+    def __init__(self, words, refusal: Optional[Refusal], number: int):
         super().__init__(words)
-        self.refusal = refusal
+        self.refusal, self.number = refusal, number
 
 
 class Bounded(NamedTuple):
@@ -168,7 +168,7 @@ def both_judged(program, sides, before=()):
         known = before and before[number]
         answer = known if known and is_same_board(known.package, package) else judged.judge(program, package)
         if answer.report is None:
-            raise SideRefused(f"the {side} board: {answer.line}", answer.refusal)
+            raise SideRefused(f"the {side} board: {answer.line}", answer.refusal, number)
         told.append(answer)
     return told
 
@@ -204,6 +204,26 @@ def judge(program, package, ties):
     return package.between
 
 
+def own_refusal(package, why):
+    """The refusal of one of both boards as that of the user's file; None where that has not the same word."""
+    refusal, sides = why.refusal, package.sides
+    origin = sides.sources[why.number].get(refusal.file) if sides else None
+    if origin is None:
+        return refusal if sides else None
+    number = origin[refusal.place - 1] if 0 < refusal.place <= len(origin) else 0
+    copy = nth_word(sides.packages[why.number].read(refusal.file), refusal.place)
+    own = nth_word(package.read(refusal.file), number) if number else None
+    return refusal._replace(place=number, byte=own.start) if copy and own and copy.text == own.text else None
+
+
+def refused_answer(told, why):
+    """The answer where no bounds can be given: by what truly stops the board, where that is a file of the user's own."""
+    refusal = own_refusal(told.package, why) if isinstance(why, SideRefused) and why.refusal else None
+    if refusal:
+        return answers.blocked(told.status, refusal, told.refusal)
+    return answers.without_bounds(told.status, told.line, told.refusal, str(why))
+
+
 def bounded(program, told, ties=Ties()):
     """The answer on a refused package whose copper is outside the profile, or None where bounds have nothing to say."""
     if not told.refusal or not told.package.manifest or not told.refusal.has_bounds():
@@ -211,7 +231,7 @@ def bounded(program, told, ties=Ties()):
     try:
         bounds, _, high = judge(program, told.package, ties)
     except Refused as why:
-        return Bounded(answers.without_bounds(told.status, told.line, told.refusal, str(why)), [], [])
+        return Bounded(refused_answer(told, why), [], [])
     nothing = "" if bounds.status else nothing_judged.why_nothing(high.report)
     return bounds._replace(answer=answers.nothing(nothing)) if nothing else bounds
 

@@ -1,6 +1,7 @@
 """An answer in words: its first word, what stands behind it, and what was made or looked for besides."""
 from typing import Iterable, List
 
+from boardnet_show.base.refusals import Refusal
 from boardnet_show.base.statuses import UNDECIDED, UNJUDGED
 from boardnet_show.base.wording import counted
 from boardnet_show.judging.answers import BETWEEN, Answer, Both, Counts
@@ -52,6 +53,11 @@ def bare_line(answer: Answer) -> str:
     return answer.said + conditions(answer)
 
 
+def behind_words(refusal: Refusal) -> str:
+    """What else would stop a board, and whether bounds have an answer for it."""
+    return refusal.line() + (", which has bounds" if refusal.has_bounds() else "")
+
+
 def line(answer: Answer) -> str:
     """The answer on the netlist."""
     text = bare_line(answer) + (f"; no bounds: {answer.no_bounds}" if answer.no_bounds else "")
@@ -61,6 +67,8 @@ def line(answer: Answer) -> str:
         text += f"; line {answer.advice.line} of {answer.refusal.file}"
     if answer.advice.export:
         text += f"; to export: {answer.advice.export}"
+    if answer.behind:
+        text += "; behind that: " + ", ".join(map(behind_words, answer.behind))
     return (TRIAL if answer.is_trial else "") + (OWN_NAMES if answer.is_by_own_names else "") + text
 
 
