@@ -17,6 +17,10 @@ class Progress:
         self.says = printable(words)
         self.tell()
 
+    def step(self, words: str, number: int, count: int) -> None:
+        """What is done of several things, and how far it is."""
+        self.begin(f"{words} {number} of {count}")
+
     def tell(self):
         if not self.is_told:
             return

@@ -1,5 +1,6 @@
 """Mended copies in the scratch folder, and how the answer says that they were judged."""
 import os
+from functools import partial
 from typing import Optional
 
 from boardnet_show.base.refusals import Advice, Refusal
@@ -17,7 +18,7 @@ def mend(package, progress, is_yes=False):
     if not package.manifest:
         return
     progress.begin("looking for what to mend")
-    doubts = rewritten(package)
+    doubts = rewritten(package, partial(progress.step, "looking for what to mend, file"))
     if doubts and not is_yes:
         from .evidence import readings      # few boards want them
         raise Stop(UNCLEAR, readings.ASK + would_be_taken(doubts))
@@ -37,8 +38,8 @@ def with_readings(unconfirmed):
     return Stop(unconfirmed.status, str(unconfirmed) + would_be_taken(doubts))
 
 
-def rewritten(package):
-    """Does it, and answers what the board alone says, in sentences."""
+def rewritten(package, told=lambda number, count: None):
+    """Does it, and answers what the board alone says, in sentences; `told` hears which file it is."""
     drills = [name for name, _, _ in package.manifest.drills]
     need_functions(package)
     need_plated(package, drills)
@@ -47,7 +48,7 @@ def rewritten(package):
     settling = drill_numbers.Settling(package.around, lambda: [bytes_of(package, name) for name in package.manifest.copper])
     # A copy of a netlist that lies elsewhere cannot stand under its name, which is said where one is wanted.
     its = mends.of_files(lambda name: (read if name == netlist else bytes_of)(package, name), package.manifest.copper, drills,
-                         netlist, settling)
+                         netlist, settling, told)
     for name, data, told in its:
         package.put(name, data)
         package.mends += told

@@ -137,7 +137,7 @@ def confirm(text, decision, status, ties):
 def smaller(program, package, ties):
     """The board by the smaller areas that `between` wants: both sides, and what `judge` of `bounds` answers of them; None where they are none."""
     try:
-        sides = two_bounds.of_package(package, is_coarse=True)
+        sides = two_bounds.of_package(package, is_coarse=True, told=program.progress.step)
         return sides, two_bounds.judged_by(program, package, sides, ties, package.between)
     except Refused:
         return None

@@ -10,8 +10,10 @@ says so (`between_command`): this script makes them, by whole numbers, and its t
 import copy
 import hashlib
 import os
+from functools import partial
 from typing import NamedTuple, Optional
 
+from boardnet_show.base import workers
 from boardnet_show.base.refusals import Refusal
 from boardnet_show.base.statuses import UNDECIDED, fault_of
 from boardnet_show.formats import ipc356
@@ -97,6 +99,32 @@ def sides_of(package, name, is_coarse=False):
         raise fault_of(package.told_path(name), fault) from fault
 
 
+def kept_of(data, copper):
+    """(what is kept of a file's bounds, the texts of both sides, whether these are the same on every board)."""
+    rows = copper.rows if copper.replaced == len(copper.rows) else None
+    made = Made(copper.replaced, copper.is_bent, rows, copper.unlike, told_once(data, copper.lost), tuple(side.sources for side in copper.sides))
+    texts = [side.file_text().encode("latin-1") for side in copper.sides]
+    return made, texts, not copper.negative     # negative files lie within a board's outline
+
+
+def within(data):
+    """The same of a file that needs no bounds; None where it is not known to be one."""
+    from boardnet_show.bounds.files import within_profile       # as above
+    return (Made(0, False, {}, set(), [], ((), ())), [], True) if within_profile.is_within(data.decode("latin-1")) else None
+
+
+def kept_elsewhere(work):
+    """The same in a process of its own, which knows no outline."""
+    from boardnet_show.bounds.files import bounded_file         # as above
+    _, data, is_coarse = work
+    return within(data) or kept_of(data, bounded_file.of_text(data.decode("latin-1"), None, is_coarse))
+
+
+def kept_here(package, work):
+    name, data, is_coarse = work
+    return within(data) or kept_of(data, sides_of(package, name, is_coarse))
+
+
 def told_once(data, lost):
     """What a file leaves out, each kind once: with its first command, that one's line, and how many more there are."""
     kinds = {}
@@ -111,19 +139,23 @@ def key_of(package, name, is_coarse):
     return hashlib.sha256(package.read(name)).digest(), is_coarse
 
 
-def made_once(package, name, is_coarse):
-    """The bounds of a copper file with the texts of both sides, which copies of the package that have the file too read again."""
-    key = key_of(package, name, is_coarse)
-    made, paths = package.made.get(key, (None, []))
-    if made and (paths or not made.replaced):
-        return made, [read_whole(path) for path in paths]
-    copper = sides_of(package, name, is_coarse)
-    rows = copper.rows if copper.replaced == len(copper.rows) else None
-    lost = told_once(package.read(name), copper.lost)
-    made = Made(copper.replaced, copper.is_bent, rows, copper.unlike, lost, tuple(side.sources for side in copper.sides))
-    if not copper.negative:     # these lie within a board's outline
-        package.made[key] = made, []
-    return made, [side.file_text().encode("latin-1") for side in copper.sides]
+def made_once(package, names, is_coarse, told):
+    """The bounds of each copper file with the texts of both sides, which copies of the package that have the file too read again."""
+    known = {name: package.made.get(key_of(package, name, is_coarse), (None, [])) for name in names}
+    is_known = {name: bool(made and (paths or not made.replaced)) for name, (made, paths) in known.items()}
+    works = [(name, package.read(name), is_coarse) for name in names if not is_known[name]]
+    done = workers.mapped(kept_elsewhere, works, [len(data) for _, data, _ in works], partial(kept_here, package))
+    for number, name in enumerate(names, 1):
+        if told:
+            told("making bounds, layer", number, len(names))
+        if is_known[name]:
+            made, paths = known[name]
+            yield name, made, [read_whole(path) for path in paths]
+            continue
+        made, texts, is_alone = next(done)
+        if is_alone:
+            package.made[key_of(package, name, is_coarse)] = made, []
+        yield name, made, texts
 
 
 def read_whole(path):
@@ -131,12 +163,11 @@ def read_whole(path):
         return file.read()
 
 
-def of_package(package, is_coarse=False):
+def of_package(package, is_coarse=False, told=None):
     """Both sides of each copper file that holds something outside the profile; the others are the same files. Coarse ones have areas
-    within regions as `between` wants them."""
+    within regions as `between` wants them. `told` hears which file is made."""
     files, sources, left_out, rows, unlike, replaced, is_bent = ({}, {}), ({}, {}), [], {}, {}, 0, False
-    for name in dict.fromkeys(package.manifest.copper):
-        copper, texts = made_once(package, name, is_coarse)
+    for name, copper, texts in made_once(package, [*dict.fromkeys(package.manifest.copper)], is_coarse, told):
         is_bent = is_bent or copper.is_bent
         left_out += [f"{name}: {what}" for what in copper.lost]
         replaced += copper.replaced
@@ -199,7 +230,7 @@ def judge(program, package, ties):
     if package.no_bounds:
         raise Refused(package.no_bounds)
     if not package.between:
-        package.sides = of_package(package)
+        package.sides = of_package(package, told=program.progress.step)
         package.between = judged_by(program, package, package.sides, ties)
     return package.between
 

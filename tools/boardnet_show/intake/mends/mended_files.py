@@ -3,6 +3,7 @@ import os
 import re
 from functools import partial
 
+from boardnet_show.base import workers
 from boardnet_show.base.statuses import REFUSED, Stop
 from boardnet_show.base.wording import counted
 
@@ -15,18 +16,26 @@ GERBER = re.compile(rb"%(?:FS|MO|TF|AD)")
 HEAD = 65_536
 
 
-def of_files(read, copper, drills, netlist, settled):
+def of_files(read, copper, drills, netlist, settled, told=lambda number, count: None):
     """(name, data, mends) of each file that is mended, in order; `read` gives a file's bytes, or nothing where there
-    are none, and `settled` of a drill file how its numbers are read, where that is said."""
+    are none, and `settled` of a drill file how its numbers are read, where that is said. `told` hears which file it is."""
     def drilled(name, data):
         return mended_gerber(name, data) if is_gerber(data) else drill_mends.mended(data, settled(name, data))
     rows = [(name, copper_mends.mended) for name in copper] + [(name, partial(drilled, name)) for name in drills]
     rows.append((netlist, partial(netlist_mends.mended, layers=len(copper))))
-    for name, mended in dict(rows).items():
-        data = read(name)
-        text, mends = mended(data) if data else (data, [])
+    works = [(mended, read(name)) for name, mended in dict(rows).items()]
+    done = workers.mapped(mended_file, works, [len(data) for _, data in works])
+    told(1, len(works))
+    for number, (name, (text, mends)) in enumerate(zip(dict(rows), done), 1):
         if mends:
             yield name, text, [described(name, it) for it in mends]
+        told(min(number + 1, len(works)), len(works))
+
+
+def mended_file(work):
+    """The text and the mends of a file, by what mends it and its bytes."""
+    mended, data = work
+    return mended(data) if data else (data, [])
 
 
 def is_gerber(data):
