@@ -2,8 +2,11 @@
 
 A vote decides what is tried, and nothing else: what is told is what `check` says of the changed copy.
 """
+import hashlib
+import heapq
 from collections import Counter
 from fractions import Fraction as Q
+from itertools import islice
 from typing import Callable, List, Optional, Sequence, Tuple
 
 from boardnet_show.formats import ipc356
@@ -16,6 +19,8 @@ from .changes import NetlistPlaced
 SAMPLE = 40             # records that vote
 FEW, MANY = 8, 20_000   # centres
 ENOUGH = Q(3, 4)        # of the votes: no other centres are asked
+MOST_VOTED = 6          # cells of shifts that are looked at
+WIDE = 1 << 45          # more than twice what a shift has in units
 Form = Callable[[int, int], Tuple[int, int]]
 FORMS = [("", lambda x, y: (x, y)), ("mirrored left to right", lambda x, y: (-x, y)), ("mirrored upside down", lambda x, y: (x, -y)),
          ("turned by half", lambda x, y: (-x, -y)), ("turned by a quarter", lambda x, y: (-y, x)), ("turned by three quarters", lambda x, y: (y, -x)),
@@ -58,8 +63,12 @@ def moved(text: str, form: Form, by: Sequence[int]) -> Optional[str]:
 # ---- centres
 
 def flashes(package, index):
-    """Centres of the flashes of a copper file, in u."""
-    return pad_middles.of_file(package.read(package.manifest.copper[index]))
+    """Centres of the flashes of a copper file, in u: found once for all changed copies that have the file, too."""
+    data = package.read(package.manifest.copper[index])
+    key = pad_middles.of_file, hashlib.sha256(data).digest()
+    if key not in package.made:
+        package.made[key] = pad_middles.of_file(data)
+    return package.made[key]
 
 
 def all_flashes(package):
@@ -89,24 +98,73 @@ def middle(counts):
 
 def vote(sample, centres, form, unit):
     """The shifts, in units, that bring most sampled places, in u, onto a centre: (votes, shift), the best two."""
-    turned, votes = [form(x, y) for x, y in sample], Counter()
-    for x, y in turned:
-        votes.update({((cx - x) // unit, (cy - y) // unit) for cx, cy in centres})
-    around = lambda c: sum(votes[c[0] + i, c[1] + j] for i in (0, 1) for j in (0, 1))
-    best = sorted(((around(cell), cell) for cell, _ in votes.most_common(6)), key=lambda v: (-v[0], v[1]))
+    turned = [form(x, y) for x, y in sample]
+    votes = counted(turned, centres, unit)
+    around = lambda c: sum(votes[coded(c[0] + i, c[1] + j)] for i in (0, 1) for j in (0, 1))
+    best = sorted(((around(cell), cell) for cell in most_voted(votes, turned, centres, unit)), key=lambda v: (-v[0], v[1]))
+    near = Near(centres, 2 * unit)
     for n, cell in best[:2]:
-        yield n, settled(turned, centres, cell, unit)
+        yield n, settled(turned, near, cell, unit)
 
 
-def settled(turned, centres, cell, unit):
+def coded(across, up):
+    """A cell of shifts as one number: many are counted, and numbers are counted fast."""
+    return across * WIDE + up
+
+
+def decoded(code):
+    up = (code + WIDE // 2) % WIDE - WIDE // 2
+    return (code - up) // WIDE, up
+
+
+def counted(turned, centres, unit):
+    """For each cell of shifts how many places it brings onto a centre."""
+    votes, known = Counter(), {}
+    for x, y in turned:
+        (across, left), (up, low) = divmod(x, unit), divmod(y, unit)
+        if (left, low) not in known:
+            known[left, low] = [coded((cx - left) // unit, (cy - low) // unit) for cx, cy in centres]
+        own = coded(across, up)
+        votes.update({code - own for code in known[left, low]})
+    return votes
+
+
+def most_voted(votes, turned, centres, unit):
+    """The cells with most votes; of cells with as many those that come first, place by place."""
+    least = min(heapq.nlargest(MOST_VOTED, votes.values()), default=0)
+    found = [decoded(code) for code, n in votes.items() if n > least]
+    if len(found) + sum(n == least for n in votes.values()) <= MOST_VOTED:
+        return [decoded(code) for code, n in votes.items() if n >= least]
+    first, wanted = {}, MOST_VOTED - len(found)
+    for x, y in turned:
+        if len(first) < wanted:
+            cells = {((cx - x) // unit, (cy - y) // unit) for cx, cy in centres}
+            first.update(dict.fromkeys(cell for cell in cells if votes[coded(*cell)] == least))
+    return found + [*islice(first, wanted)]
+
+
+class Near:
+    """Centres by squares."""
+
+    def __init__(self, centres, side):
+        self.side, self.squares = side, {}
+        for cx, cy in centres:
+            self.squares.setdefault((cx // side, cy // side), []).append((cx, cy))
+
+    def within(self, x, y):
+        """Those less than a side right of a place and above it."""
+        across, up = x // self.side, y // self.side
+        return [(cx, cy) for i in (0, 1) for j in (0, 1) for cx, cy in self.squares.get((across + i, up + j), ())
+                if 0 <= cx - x < self.side and 0 <= cy - y < self.side]
+
+
+def settled(turned, near, cell, unit):
     """The middle of the shifts near a cell, as whole units."""
     shift = Counter(), Counter()
     for x, y in turned:
-        for cx, cy in centres:
-            d = cx - x, cy - y
-            if all(0 <= d[k] - cell[k] * unit < 2 * unit for k in (0, 1)):
-                shift[0][d[0]] += 1
-                shift[1][d[1]] += 1
+        for cx, cy in near.within(x + cell[0] * unit, y + cell[1] * unit):
+            shift[0][cx - x] += 1
+            shift[1][cy - y] += 1
     return tuple((2 * middle(counts) + unit) // (2 * unit) for counts in shift)
 
 
