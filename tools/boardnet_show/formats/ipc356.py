@@ -22,7 +22,8 @@ FULL = 72           # columns of a parameter's line whose name may be cut
 
 THROUGH, SURFACE, VIA, TOOLING, ADJACENT, END = b"317", b"327", b"307", b"367", b"379", b"999"
 TEST_RECORDS = (THROUGH, SURFACE)
-# What goes on behind a record, as which code, and records that name no test point: those that `check` passes over, and others.
+# What goes on behind a record, as which code, and records that name no test point: those that `check` passes over, and
+# others.
 CONTINUED = {b"017": THROUGH, b"027": SURFACE}
 PASSED_OVER = (b"367", b"378", b"379", b"389", b"078", b"079", b"089")
 NO_POINTS = (b"390", b"088", b"099")
@@ -65,7 +66,8 @@ class Record(NamedTuple):
 
 
 class HoleColumns(NamedTuple):
-    """What a record says of its hole: the diameter in the netlist's unit and whether it is plated, None where it is not said."""
+    """What a record says of its hole: the diameter in the netlist's unit and whether it is plated, None where it is not
+    said."""
 
     diameter: Optional[int]
     plated: Optional[bool]
@@ -308,7 +310,8 @@ def record_line(record: Written) -> str:
     hole = f"{'':6}" if record.diameter is None else f"D{record.diameter:04d}{record.plating}"
     size = f"X{record.size.wide:04d}Y{record.size.high:04d}R000" if record.size else ""
     size += f" S{record.mask}" if record.mask else ""
-    return f"{record.code.decode()}{record.name:<{NAME_WIDTH}}   {named}{hole}A{record.access:02d}{place_columns(record.x, record.y)}{size}"
+    place = f"A{record.access:02d}{place_columns(record.x, record.y)}"
+    return f"{record.code.decode()}{record.name:<{NAME_WIDTH}}   {named}{hole}{place}{size}"
 
 
 def span_line(first: int, last: int) -> str:

@@ -22,8 +22,10 @@ class Netlist:
 def note(name: str, data: bytes) -> str:
     """What a netlist has that says nothing of test points, or nothing."""
     codes = Counter(ipc356.ANY_PASSED_OVER.findall(data))
-    told = spoken(f"{count} of {code.decode()}" for code, count in sorted(codes.items())) if codes else ""
-    return f"{name}: {counted(sum(codes.values()), 'record')} that name no test point are passed over: {told}" if codes else ""
+    if not codes:
+        return ""
+    told = spoken(f"{count} of {code.decode()}" for code, count in sorted(codes.items()))
+    return f"{name}: {counted(sum(codes.values()), 'record')} that name no test point are passed over: {told}"
 
 
 def choose(netlists: Sequence[Netlist], wanted: Optional[str]) -> Netlist:

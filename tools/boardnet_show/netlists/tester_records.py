@@ -6,99 +6,46 @@ else NET<n>. The mask code is that of the netlist's records on a pad, where they
 import re
 from collections import defaultdict
 from functools import lru_cache
-from itertools import count
+from typing import Any, Dict, Iterator, List, Optional, Sequence, Set, Tuple
 
 from boardnet_show.base.wording import at_most, counted, millimetres, spoken, with_ends
 from boardnet_show.formats import ipc356
 from boardnet_show.formats.ipc356 import NO_NET
 from boardnet_show.formats.units import UNIT_WORDS
 from boardnet_show.geometry.exact import ceil_root
+from boardnet_show.geometry.shapes import Shapes
 
 from . import pad_places
-from .pad_list import VIA, front
-from .tooling_holes import Tooling
+from .pad_list import VIA, Padlist, front
+from .pad_list import Place as Touched
+from .tester_names import Names, in_ascii
+from .tooling_holes import Hole, Tooling
 
 FEW = 6             # nets and pads that are named in a line
-
-
-# ---- names
-
-def names_on_nets(board, objects):
-    """For each net the names that the netlist gives it, or without any those of the copper's labels."""
-    found, labels = defaultdict(set), defaultdict(set)
-    for _, _, name, net in board.report.points:
-        if board.name(name) != NO_NET:
-            found[net].add(board.name(name))
-    for piece, it in enumerate(objects):
-        if it is not None and it.net not in ("", NO_NET):
-            labels[board.report.net_of[piece]].add(it.net)
-    return {net: found[net] or labels[net] for net in range(board.report.nets)}
-
-
-class Names:
-    """The name of each net, `alias` what stands for a name that is too long for its columns."""
-
-    def __init__(self, board, objects):
-        on_nets = names_on_nets(board, objects)
-        nets_of = defaultdict(list)
-        for net, names in on_nets.items():
-            for name in names:
-                nets_of[name].append(net)
-        self.taken, self.alias = set(nets_of), {}
-        self.aliases = (word for word in (f"NNAME{k}" for k in count(1)) if word not in self.taken)
-        self.several = sorted(name for name, nets in nets_of.items() if len(nets) > 1)
-        self.joined = [sorted(names) for _, names in sorted(on_nets.items()) if len(names) > 1]
-        own = {net: next(iter(names)) for net, names in on_nets.items() if len(names) == 1}
-        self.of = [own[net] if net in own and len(nets_of[own[net]]) == 1 else self.free("NET", net) for net in range(board.report.nets)]
-
-    def free(self, word, number):
-        """A name of a word and a number that nothing else is called."""
-        name = f"{word}{number}"
-        while name in self.taken:
-            name += "_"
-        self.taken.add(name)
-        return name
-
-    def field(self, net):
-        """What stands in a record's columns."""
-        name = self.of[net]
-        if ipc356.PLAIN_NAME.fullmatch(name):
-            return name
-        if name not in self.alias:
-            self.alias[name] = next(self.aliases)
-        return self.alias[name]
+Key = Tuple[Any, ...]
 
 
 # ---- records
 
-def in_ascii(name):
-    """A name with each other character as Gerber files may write it."""
-    try:
-        name = name.encode("latin-1").decode("utf-8")
-    except UnicodeError:
-        pass
-    return "".join(it if " " <= it <= "~" else f"\\u{ord(it):04X}" if it <= "\uffff" else f"\\U{ord(it):08X}" for it in name)
-
-
 UNPLAIN = re.compile("[^!-~]")
 
 
-def plain(text, width):
+def plain(text: str, width: int) -> str:
     return UNPLAIN.sub("?", text)[:width]
 
 
-def named(part, pin):
+def named(part: str, pin: str) -> Tuple[str, str]:
     """A component and a pin as their columns have them."""
     return plain(part, ipc356.COMPONENT_WIDTH), plain(pin, ipc356.PIN_WIDTH)
 
 
 @lru_cache(maxsize=1_000)
-def whole(length, unit):
+def whole(length: int, unit: int) -> int:
     """A size in four digits: rounded, at least 1 (a height of 0 stands for a round pad), and at most what they hold."""
     return min(ipc356.MOST_SIZE, max(1, (2 * length + unit) // (2 * unit)))
 
 
-def rounded(length, unit):
+def rounded(length: int, unit: int) -> int:
     """A coordinate in units."""
     return (2 * length + unit) // (2 * unit)
 
@@ -106,64 +53,83 @@ def rounded(length, unit):
 class Row:
     """A record: a place of the board, where it is touched, and the code's columns."""
 
-    def __init__(self, place, at, layers):
+    def __init__(self, place: Touched, at: pad_places.Place, layers: int) -> None:
         self.place, self.at = place, at
         first, last = place.layers
         is_through = place.hole is not None and (first, last) == (1, layers) and layers > 1
-        self.access = 0 if is_through else front(place, layers)
+        self.access: int = 0 if is_through else front(place, layers)
 
-    def key(self):
+    def key(self) -> Key:
         return self.place.hole is not None, self.access, self.at[:2], self.place.part, self.place.pin
 
-    def is_via(self, layers):
+    def is_via(self, layers: int) -> bool:
         """Whether it is of a blind or a buried via."""
         first, last = self.place.layers
-        return self.place.hole is not None and first < last and (first, last) != (1, layers)
+        is_between: bool = first < last and (first, last) != (1, layers)
+        return self.place.hole is not None and is_between
 
-    def lines(self, unit, name, drill, layers):
+    def lines(self, unit: int, name: str, drill: int, layers: int) -> List[str]:
         """The record, and behind that of a blind or a buried via its span."""
         if not self.is_via(layers):
             return [self.line(unit, name, drill)]
         return [self.line(unit, name, drill, ipc356.VIA), ipc356.span_line(*self.place.layers)]
 
-    def line(self, unit, name, drill, code=None):
+    def line(self, unit: int, name: str, drill: int, code: bytes = b"") -> str:
         it, has_hole = self.place, self.place.hole is not None
         part, pin = (it.part, it.pin) if it.part else (VIA, "") if it.is_via else ("", "")
         wide, high = (whole(length, unit) for length in it.size)
         code = code or (ipc356.THROUGH if has_hole else ipc356.SURFACE)
+        part, pin = named(part, pin)
         return ipc356.record_line(ipc356.Written(
-            code, name, *named(part, pin), self.access, self.at.x, self.at.y, it.is_via and not it.part,
+            code, name, part, pin, self.access, self.at.x, self.at.y, it.is_via and not it.part,
             whole(drill, unit) if has_hole else None, ipc356.Size(wide, 0 if it.is_round else high),
             next(iter(it.masks)) if len(it.masks) == 1 else ""))
 
-    def off(self, unit):
+    def off(self, unit: int) -> int:
         """How far it is from the middle of the pad, squared, in u."""
         x, y = self.place.middle
-        return (self.at.x * unit - x) ** 2 + (self.at.y * unit - y) ** 2
+        away: int = (self.at.x * unit - x) ** 2 + (self.at.y * unit - y) ** 2
+        return away
 
-    def away(self, unit):
+    def away(self, unit: int) -> int:
         """The same as a length, rounded up."""
-        return ceil_root(self.off(unit))
+        root: int = ceil_root(self.off(unit))
+        return root
 
-    def is_moved(self, unit):
+    def is_moved(self, unit: int) -> bool:
         """Whether it is farther from the middle than rounding brings it."""
         return 2 * self.off(unit) > unit * unit
 
-    def is_over(self, unit, drill):
+    def is_over(self, unit: int, drill: int) -> bool:
         """Whether a size is more than its columns hold."""
-        return max(*self.place.size, drill) > ipc356.MOST_SIZE * unit
+        most: int = max(*self.place.size, drill)
+        return most > ipc356.MOST_SIZE * unit
 
-    def pad_words(self):
-        it = self.place
-        return f"{it.part} pin {it.pin}" if it.part and it.pin else it.part or f"a {'hole' if it.hole is not None else 'pad'} at {millimetres(it.middle[0])}, {millimetres(it.middle[1])} mm"
+    def pad_words(self) -> str:
+        return words_of(self.place)
 
 
-def is_middle(place, shapes):
+def words_of(place: Touched) -> str:
+    """A pad by its pin, or by what it is and where."""
+    if place.part:
+        return f"{place.part} pin {place.pin}" if place.pin else str(place.part)
+    return f"a {'hole' if place.hole is not None else 'pad'} at {at_words(place)}"
+
+
+def at_words(place: Touched) -> str:
+    return f"{millimetres(place.middle[0])}, {millimetres(place.middle[1])} mm"
+
+
+def is_middle(place: Touched, shapes: Shapes) -> bool:
     """Whether a place is a round piece that is touched at its middle: there it has copper."""
-    return len(place.pieces) == 1 and shapes.is_spot(place.pieces[0]) and place.aim == shapes.first(place.pieces[0])
+    piece = place.pieces[0]
+    return len(place.pieces) == 1 and shapes.is_spot(piece) and bool(place.aim == shapes.first(piece))
 
 
-def on_grid(places, shapes):
+Placed = Tuple[int, List[Optional[pad_places.Place]]]
+
+
+def on_grid(places: Sequence[Touched], shapes: Shapes) -> Optional[Placed]:
     """A unit of which every aim is a whole number, with the places; most boards have one."""
     for unit in UNIT_WORDS:
         most = pad_places.MOST * unit
@@ -173,45 +139,51 @@ def on_grid(places, shapes):
     return None
 
 
-def pad_of(place, shapes):
+def pad_of(place: Touched, shapes: Shapes) -> pad_places.Pad:
     return pad_places.Pad(place.aim, [*map(shapes.solid, place.pieces)])
 
 
 class Netlist:
     """The netlist of a board's pads and holes, and what is to be told of it."""
 
-    def __init__(self, padlist, title, tooling=None, adjacent=None):
+    def __init__(self, padlist: Padlist, title: str, tooling: Optional[Tooling] = None,
+                 adjacent: Optional[Sequence[Tuple[int, int]]] = None) -> None:
         """`tooling` are the unplated holes, `adjacent` pairs of nets that are close to each other, or None."""
         self.board, self.title, self.objects = padlist.board, title, padlist.objects
         self.tooling, self.adjacent = tooling or Tooling([], 0, []), adjacent
         shapes, layers = self.board.shapes, self.board.manifest.layers
         self.names = Names(self.board, padlist.objects)
-        self.unit, found = on_grid(padlist.places, shapes) or pad_places.settled([pad_of(it, shapes) for it in padlist.places])
+        placed: Placed = (on_grid(padlist.places, shapes)
+                          or pad_places.settled([pad_of(it, shapes) for it in padlist.places]))
+        self.unit, found = placed
         self.unplaced = [it for it, at in zip(padlist.places, found) if at is None]
-        rows = {}
+        rows: Dict[Key, Row] = {}
         for row in (Row(it, at, layers) for it, at in zip(padlist.places, found) if at is not None):
             rows.setdefault(row.key(), row)
-        named = {(row.access, row.at[:2]) for row in rows.values() if row.place.part}
-        self.rows = [row for row in rows.values() if row.place.part or row.place.hole is not None or (row.access, row.at[:2]) not in named]
+        of_pins = {(row.access, row.at[:2]) for row in rows.values() if row.place.part}
+        self.rows = [row for row in rows.values()
+                     if row.place.part or row.place.hole is not None or (row.access, row.at[:2]) not in of_pins]
 
-    def drill(self, place):
-        return 2 * self.board.shapes.radius[place.hole] if place.hole is not None else 0
+    def drill(self, place: Touched) -> int:
+        """The diameter of a hole; 0 of a pad."""
+        return 2 * int(self.board.shapes.radius[place.hole]) if place.hole is not None else 0
 
-    def netlist_text(self, is_plain=False):
+    def netlist_text(self, is_plain: bool = False) -> str:
         """The netlist; a plain one has each place once, in records that `check` takes as they are."""
-        layers, lines = self.board.manifest.layers, []
+        layers, lines = self.board.manifest.layers, []      # type: int, List[str]
         for row in self.rows:
             lines += self.comments(row)
             name, drill = self.names.field(row.place.net), self.drill(row.place)
             lines += [row.line(self.unit, name, drill)] if is_plain else row.lines(self.unit, name, drill, layers)
         lines += [] if is_plain else [*map(self.tooling_line, self.tooling.holes), *self.adjacent_lines()]
         title = plain(self.title.replace(" ", "_"), 40)
-        head = [f"C boardnet show: the nets of the copper of {title}", f"P  JOB   {title}", "P  VER IPC-D-356A", ipc356.units_line(self.unit)]
+        head = [f"C boardnet show: the nets of the copper of {title}", f"P  JOB   {title}", "P  VER IPC-D-356A",
+                ipc356.units_line(self.unit)]
         aliases = [ipc356.alias_line(alias, with_ends(in_ascii(name))) for name, alias in self.names.alias.items()]
         none = [f"C net without a record: {self.net_word(net)}" for net in self.without()]
         return ipc356.file_text([*head, *aliases, *lines, *none])
 
-    def comments(self, row):
+    def comments(self, row: Row) -> Iterator[str]:
         """What stands before a record: a pin that its columns do not hold, and how far it is from the middle."""
         it = row.place
         if it.part and named(it.part, it.pin) != (it.part, it.pin):
@@ -219,14 +191,15 @@ class Netlist:
         if row.is_moved(self.unit):
             yield f"C the next record is {at_most(row.away(self.unit))} mm from the middle of its pad"
 
-    def tooling_line(self, hole):
+    def tooling_line(self, hole: Hole) -> str:
         """The record of an unplated hole."""
         wide, (x, y) = whole(hole.diameter, self.unit), (rounded(it, self.unit) for it in hole.middle)
-        return ipc356.record_line(ipc356.Written(ipc356.TOOLING, NO_NET, "", "", 0, x, y, False, wide, ipc356.Size(wide, 0), "", "U"))
+        return ipc356.record_line(ipc356.Written(
+            ipc356.TOOLING, NO_NET, "", "", 0, x, y, diameter=wide, size=ipc356.Size(wide, 0), plating="U"))
 
-    def adjacent_lines(self):
+    def adjacent_lines(self) -> Iterator[str]:
         """For each net those that are close to it and behind it in order, where that was asked for."""
-        others = defaultdict(set)
+        others: Dict[int, Set[int]] = defaultdict(set)
         for one, other in self.adjacent or ():
             others[min(one, other)].add(max(one, other))
         for net in sorted(others):
@@ -234,45 +207,49 @@ class Netlist:
 
     # ---- what is told
 
-    def nets(self):
+    def nets(self) -> Set[int]:
         return {row.place.net for row in self.rows}
 
-    def without(self):
+    def without(self) -> List[int]:
         """The nets that no record is of."""
         return sorted(set(range(self.board.report.nets)) - self.nets())
 
-    def areas(self):
-        """How many pieces of outer layers that may be pads, on nets that have records, have none: contours without a pin, and draws with one."""
+    def areas(self) -> int:
+        """How many pieces of outer layers that may be pads, on nets that have records, have none: contours without a
+        pin, and draws with one."""
         nets, outer = self.nets(), (0, self.board.manifest.layers - 1)
         its = zip(self.objects, self.board.report.sources, self.board.report.net_of)
-        return sum(it is not None and file in outer and net in nets and (it.kind == "contour" and not it.part or it.kind == "draw" and bool(it.part))
+        return sum(it is not None and file in outer and net in nets and it.kind == ("draw" if it.part else "contour")
                    for it, (file, *_), net in its)
 
-    def untouched(self):
+    def untouched(self) -> str:
         """What has no record, in few words."""
         none, areas, pads = self.without(), self.areas(), len(self.unplaced)
         told = [f"{counted(len(none), 'net')} without a record, first {self.net_word(none[0])}"] if none else []
-        told += [f"{counted(count, word)} {why}" for count, word, why in ((areas, "area", "that no file calls a pad"), (pads, "pad", "without a place on the grid")) if count]
+        told += [f"{counted(areas, 'area')} that no file calls a pad"] if areas else []
+        told += [f"{counted(pads, 'pad')} without a place on the grid"] if pads else []
         return ", ".join(told)
 
-    def lines(self):
+    def lines(self) -> Iterator[str]:
         holes = sum(row.place.hole is not None for row in self.rows)
         records = f"{counted(len(self.rows), 'record')} ({holes} of plated holes) of {counted(len(self.nets()), 'net')}"
         yield f"{records}, in units of {UNIT_WORDS[self.unit]}"
         yield from self.besides()
-        rounded = [row.away(self.unit) for row in self.rows if row.off(self.unit) and not row.is_moved(self.unit)]
-        if rounded:
-            yield f"{counted(len(rounded), 'place')} rounded to that grid within their pads, by at most {millimetres(-(-max(rounded) // 100) * 100)} mm"
+        near = [row.away(self.unit) for row in self.rows if row.off(self.unit) and not row.is_moved(self.unit)]
+        if near:
+            most = millimetres(-(-max(near) // 100) * 100)
+            yield f"{counted(len(near), 'place')} rounded to that grid within their pads, by at most {most} mm"
         moved = [row for row in self.rows if row.is_moved(self.unit)]
         if moved:
-            yield f"{counted(len(moved), 'place')} farther from the middle of the pad, so that copper is there: " + spoken(
-                (f"{row.pad_words()} by {at_most(row.away(self.unit))} mm" for row in moved), FEW)
+            pads = spoken((f"{row.pad_words()} by {at_most(row.away(self.unit))} mm" for row in moved), FEW)
+            yield f"{counted(len(moved), 'place')} farther from the middle of the pad, so that copper is there: {pads}"
         over = [row for row in self.rows if row.is_over(self.unit, self.drill(row.place))]
         if over:
-            yield f"{counted(len(over), 'record')} with a size of {ipc356.MOST_SIZE}, the most that its columns hold: {spoken((row.pad_words() for row in over), FEW)}"
+            size = f"a size of {ipc356.MOST_SIZE}, the most that its columns hold"
+            yield f"{counted(len(over), 'record')} with {size}: {spoken((row.pad_words() for row in over), FEW)}"
         yield from self.wanting()
 
-    def besides(self):
+    def besides(self) -> Iterator[str]:
         """What the netlist has besides."""
         tooling = self.tooling
         if tooling.holes or tooling.slots:
@@ -284,31 +261,37 @@ class Netlist:
             yield f"{counted(len(set(self.adjacent)), 'pair')} of nets that are close to each other (379)"
         doubt = [row for row in self.rows if len(row.place.masks) > 1]
         if doubt:
-            yield f"{counted(len(doubt), 'record')} without a mask code, since the netlist has several: {spoken((row.pad_words() for row in doubt), FEW)}"
+            pads = spoken((row.pad_words() for row in doubt), FEW)
+            yield f"{counted(len(doubt), 'record')} without a mask code, since the netlist has several: {pads}"
 
-    def wanting(self):
+    def wanting(self) -> Iterator[str]:
         """Nets that a tester cannot touch, or not at a pad."""
         outer = (0, 1, self.board.manifest.layers)
         buried = [row for row in self.rows if row.access not in outer]
         if buried:
-            yield f"{counted(len(buried), 'record')} of buried holes, which no prober reaches: {spoken(map(self.place_word, buried), FEW)}"
+            places = spoken(map(self.place_word, buried), FEW)
+            yield f"{counted(len(buried), 'record')} of buried holes, which no prober reaches: {places}"
         pads = {row.place.net for row in self.rows if not row.place.is_via or row.place.part}
         middles = sorted(self.nets() - pads)
         if middles:
-            yield f"{counted(len(middles), 'net')} with mid-points (vias) alone, and no pad: {spoken(map(self.net_word, middles), FEW)}"
+            nets = spoken(map(self.net_word, middles), FEW)
+            yield f"{counted(len(middles), 'net')} with mid-points (vias) alone, and no pad: {nets}"
         none = self.without()
         if none:
             yield f"{counted(len(none), 'net')} without a record: {spoken(map(self.net_word, none), FEW)}"
         if self.unplaced:
-            yield f"{counted(len(self.unplaced), 'pad')} without a place on the grid: " + spoken((Row(it, None, 1).pad_words() for it in self.unplaced), FEW)
-        if self.names.several:
-            yield f"{counted(len(self.names.several), 'name')} of several nets, which are called NET<n>: {spoken(self.names.several, FEW)}"
-        if self.names.joined:
-            yield f"{counted(len(self.names.joined), 'net')} of several names, called NET<n>: " + spoken((spoken(names, 3) for names in self.names.joined), FEW)
+            unplaced = spoken(map(words_of, self.unplaced), FEW)
+            yield f"{counted(len(self.unplaced), 'pad')} without a place on the grid: {unplaced}"
+        several, joined = self.names.several, self.names.joined
+        if several:
+            yield f"{counted(len(several), 'name')} of several nets, which are called NET<n>: {spoken(several, FEW)}"
+        if joined:
+            names = spoken((spoken(its, 3) for its in joined), FEW)
+            yield f"{counted(len(joined), 'net')} of several names, called NET<n>: {names}"
 
-    def place_word(self, row):
-        return f"{self.names.of[row.place.net]} at {millimetres(row.place.middle[0])}, {millimetres(row.place.middle[1])} mm"
+    def place_word(self, row: Row) -> str:
+        return f"{self.names.of[row.place.net]} at {at_words(row.place)}"
 
-    def net_word(self, net):
+    def net_word(self, net: int) -> str:
         """A net by its name and where its first piece is from."""
         return f"{self.names.of[net]} ({self.board.source(self.board.pieces_of[net][0])})"

@@ -1,4 +1,4 @@
-"""Unplated holes beside a board's copper, for a tester to hold it by: of tools and of files that say that they are unplated."""
+"""Unplated holes beside a board's copper, for a tester to hold it by: of tools and of files that say so."""
 from typing import List, NamedTuple, Tuple
 
 from boardnet_show.intake import unplated_holes

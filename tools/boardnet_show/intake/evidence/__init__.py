@@ -1,1 +1,1 @@
-"""How a file is read that does not say it, by how its places lie on the board: each reading is said, and counts by `--yes` alone."""
+"""How a file is read that does not say it, by the board itself: each reading is told, and counts by `--yes` alone."""

@@ -20,12 +20,13 @@ def has_open_unit(data: bytes) -> bool:
 
 
 def with_unit(data: bytes, unit: int) -> bytes:
-    """The netlist with a line of the unit: in the place of the one that leaves it open, of another line before the records
-    that says nothing of them, or before all lines."""
+    """The netlist with a line of the unit: in the place of the one that leaves it open, of another line before the
+    records that says nothing of them, or before all lines."""
     lines, said = data.split(b"\n"), ipc356.units_line(unit).encode()
     first = next(at for at, line in enumerate(lines) if ipc356.is_test(line))
     open_ones = [at for at in range(len(lines)) if lines[at][:1] == b"P" and lines[at][1:].split()[:1] == [b"UNITS"]]
-    notes = [at for at in range(first) if lines[at][:1] == b"C" and not lines[at].startswith(ipc356.PIN_COMMENT.encode())]
+    pin = ipc356.PIN_COMMENT.encode()
+    notes = [at for at in range(first) if lines[at][:1] == b"C" and not lines[at].startswith(pin)]
     settings = [at for at in range(first) if lines[at][:1] == b"P" and not ipc356.ALIAS_LINE.match(lines[at])]
     places = [at for at in (open_ones or notes or settings) if at < first]
     if not places:
@@ -41,8 +42,9 @@ def unit_reading(data: bytes, pads: Middles, is_clear: IsClear) -> Optional[Tupl
     for unit, count in counts.items():
         others = [many for other, many in counts.items() if other != unit]
         if is_clear(count, len(spots), others):
-            words = f"as a netlist in units of {UNIT_WORDS[unit]} (CUST {CODES[unit]}), which it does not say"
-            return f"{words}: {count} of {counted(len(spots), 'point')} lie on pads, in the other unit {max(others)}", with_unit(data, unit)
+            words = (f"as a netlist in units of {UNIT_WORDS[unit]} (CUST {CODES[unit]}), which it does not say: "
+                     f"{count} of {counted(len(spots), 'point')} lie on pads, in the other unit {max(others)}")
+            return words, with_unit(data, unit)
     return None
 
 
@@ -52,8 +54,8 @@ def layer_reading(data: bytes, layers: int) -> Optional[Tuple[str, bytes]]:
     if len(codes) != 1 or codes[0] not in {it.access for it in ipc356.places(data) if not it.is_through}:
         return None
     copy, _ = netlist_mends.mended(data, layers, codes[0])
-    words = (f"as a netlist whose code A{codes[0]:02d} is the last layer, {layers:02d}: no record has that, and no other is over the "
-             f"{counted(layers, 'layer')} of the files; are these all layers of the board?")
+    words = (f"as a netlist whose code A{codes[0]:02d} is the last layer, {layers:02d}: no record has that, and no other is "
+             f"over the {counted(layers, 'layer')} of the files; are these all layers of the board?")
     return words, copy
 
 

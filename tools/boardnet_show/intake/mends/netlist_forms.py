@@ -87,7 +87,8 @@ def lacks_layer(text: bytes) -> bool:
 
 
 def continued(text: bytes, record: Record) -> Optional[bytes]:
-    """The test record that a continuation is, with what it leaves blank by its own record; None where it may be another's."""
+    """The test record that a continuation is, with what it leaves blank by its own record; None where it may be
+    another's."""
     came, has_place = record.came, ipc356.has_coordinates(text)
     if not of_same_pin(text, came) or not ipc356.has_access(text) or not ipc356.has_access(came):
         return None
@@ -250,8 +251,8 @@ class Netlist:
 
 
 def mended(data: bytes, layers: int, last: int = 0) -> Tuple[bytes, List[Mend]]:
-    """A netlist with its lines as `check` takes them, and the mends; the same bytes where there are none. `last` is a code
-    that is read as the last layer."""
+    """A netlist with its lines as `check` takes them, and the mends; the same bytes where there are none. `last` is a
+    code that is read as the last layer."""
     if not (FORMS.search(data) or any(b" " in name for name in ipc356.names(data)) or codes_over(data, layers)):
         return data, []
     netlist = Netlist(data, layers, last)

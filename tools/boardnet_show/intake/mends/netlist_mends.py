@@ -1,4 +1,4 @@
-"""Mends of a netlist: its lines in the form of `check`, and names that stand for one whole name (`P  NNAME1 name`) as one.
+"""Mends of a netlist: its lines in the form of `check`, and names that stand for one whole name as one.
 
 To `check` each name is one of its own.
 """
@@ -63,7 +63,8 @@ def renamed(data: bytes) -> Tuple[Dict[bytes, bytes], str]:
 
 
 def cut(data: bytes) -> str:
-    """Why names that run on behind their columns may be of two nets, or nothing: the columns have what both begin with."""
+    """Why names that run on behind their columns may be of two nets, or nothing: the columns have what both begin
+    with."""
     whole: Dict[bytes, bytes] = {}
     for name in dict.fromkeys(ipc356.LONG_NAME.findall(data)):
         other = whole.setdefault(name[:ipc356.NAME_WIDTH], name)
@@ -79,7 +80,8 @@ def unclear(data: bytes, layers: int = MOST_LAYERS) -> str:
 
 
 def mended(data: bytes, layers: int = MOST_LAYERS, last: int = 0) -> Tuple[bytes, List[Mend]]:
-    """A netlist as it is mended, and its mends; the same bytes where there are none. `last` is a code of the last layer."""
+    """A netlist as it is mended, and its mends; the same bytes where there are none. `last` is a code that is read as
+    the last layer."""
     text, found = netlist_forms.mended(data, layers, last)
     text, aliases = with_one_name(text)
     return text, sorted(found + aliases, key=lambda mend: mend.line)
