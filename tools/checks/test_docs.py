@@ -17,6 +17,7 @@ MOST_WORDS, MOST_BYTES, MOST_BYTES_OF_A_PAGE = 30, 215_000, 12_000
 ELSEWHERE = {
     "bash .ci/run": "the gate itself",
     "boardnet package": "test_installed",
+    "./boardnet prove": "test_build",
     "boardnet show $(OUT)": "test_ci",
     "find crates.txt": "test_installed",
     "kicad-cli": "another tool, as its documentation has it",
