@@ -79,11 +79,11 @@ class Lists(unittest.TestCase):
 
 
 def answers():
-    """The rows of the table of answers in docs/ARCHITECTURE.md: crate, calls, causes."""
-    text = (lists.TOP / "docs/ARCHITECTURE.md").read_text().split("<!-- answers: tried by tools/checks/test_lists -->")[1].split("<!-- answers end -->")[0]
-    for line in text.splitlines()[3:]:
-        crate, calls, causes = (cell.strip() for cell in line.strip("|").split(" | "))
-        yield crate.strip("`"), names(calls), causes
+    """The rows of docs/answers.txt: crate, calls, causes."""
+    for line in (lists.TOP / "docs/answers.txt").read_text().splitlines():
+        if line and not line.startswith("#"):
+            crate, calls, causes = line.split(" | ")
+            yield crate.strip("`"), names(calls), causes
 
 
 def crates():
@@ -107,6 +107,7 @@ class Answers(unittest.TestCase):
     """The table of answers names calls and faults that are there. A call that a root gives on has a row, or one answer, and then its page has it."""
 
     def test_rows(self):
+        self.assertGreater(len(list(answers())), 35)
         for crate, calls, _ in answers():
             source = source_of(crate)
             for call in calls:
