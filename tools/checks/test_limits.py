@@ -22,7 +22,7 @@ LIMITS = [
     ("MOST_PIECES", "board_shapes/src/lib.rt", r"200_?000", ""),
     ("MOST_LAYERS", "board_shapes/src/lib.rt", r"(?<!\^ )32", r"\w*(layer|copper)\w*(\.\w+)*(\(\))?\)? (<|>|<=|>=|≤|32)|\bto ≤"),
     ("MOST_RECORDS", "ipc356_records/src/lib.rt", r"200_?000|400_?000", ""),
-    ("MOST_APERTURES", "gerber_layer/src/lib.rt", r"65_?536|2 \^ 16", ""),
+    ("MOST_APERTURES", "gerber_reading/src/lib.rt", r"65_?536|2 \^ 16", ""),
     ("MOST_FLAT_EDGES", "gerber_layer/src/lib.rt", r"1_?000_?000", ""),
     ("MOST_EDGES", "board_package/src/parts.rt", r"2_?000_?000", ""),
     ("MOST_DRILLS", "board_package/src/manifest.rt", r"64", r"drills"),
@@ -31,7 +31,7 @@ LIMITS = [
     ("MOST_TERMS", "aperture_macros/src/expression.rt", r"64", r"sum|terms"),
     ("MOST_REACH", "planar/src/lib.rt", r"700_?000_?000", ""),
     ("MOST_PART", "slants/src/turns.rt", r"100_?000_?000", ""),
-    ("MOST_PRIMITIVES", "gerber_layer/src/lib.rt", r"256", r"body|primitive"),
+    ("MOST_PRIMITIVES", "gerber_reading/src/lib.rt", r"256", r"body|primitive"),
     ("MOST_CELLS", "board_maker/src/lib.rt", r"10_?000", r"\bsize\b"),
     ("MOST_NANOMETRES", "gaps/src/lib.rt", r"10_?000_?000", r"nanometres"),
 ]

@@ -6,11 +6,11 @@ use Rattle.planar.specs.declared.Spot.{Spot}
 use Rattle.area_contact.specs.Contour.{end_from}
 use Rattle.planar.specs.Plane.{same_spot}
 use Rattle.regions.specs.Contours.{Flaw, close_of, stays_open, too_short}
-use Rattle.gerber_layer.specs.Command.{Command, nothing, refused, counts_in, formats, defines, names_macro, body_word, selects, operates, opens_region, closes_region, repeats, ends, breaks, finishes, functions}
+use Rattle.gerber_reading.specs.Command.{Command, nothing, refused, counts_in, formats, defines, names_macro, body_word, selects, operates, opens_region, closes_region, repeats, ends, breaks, finishes, functions}
 use Rattle.gerber_layer.specs.CommandEffects.{code_of, edges_in}
-use Rattle.gerber_layer.specs.Settings.{contour_before, contour_by, drawn, lengthened, ok_or_none, point_before, region_open}
-use Rattle.gerber_layer.specs.declared.command.Code.{Code}
-use Rattle.gerber_layer.specs.declared.command.Code.TheVariants.{Draw, Move, Flash}
+use Rattle.gerber_reading.specs.Settings.{contour_before, contour_by, drawn, lengthened, ok_or_none, point_before, region_open}
+use Rattle.gerber_reading.specs.declared.command.Code.{Code}
+use Rattle.gerber_reading.specs.declared.command.Code.TheVariants.{Draw, Move, Flash}
 use Rattle.arc_layer.specs.Bends.{bend_of}
 use Rattle.arc_layer.specs.Marks.{PlainMark, arc, by_pen, closes, contour, edge_by, edges_before, edges_by, flash, flashes, mark_behind, mark_by, marked}
 use Rattle.arc_layer.specs.Pens.{drawn_with, pen_before}

@@ -4,8 +4,8 @@ use Rattle.std.specs.Prelude.{nat_lt}
 use Rattle.board_shapes.specs.Pieces.{PlainPiece}
 use Rattle.gerber_words.specs.Words.{Ahead}
 use Rattle.gerber_words.specs.Laws.{HasOneReadingAhead}
-use Rattle.gerber_layer.specs.declared.place.Place.{Place}
-use Rattle.gerber_layer.specs.Dialect.{HasOneAnswerBy, IsReadBy, IsRefusedBy}
+use Rattle.gerber_reading.specs.declared.place.Place.{Place}
+use Rattle.gerber_reading.specs.Dialect.{HasOneAnswerBy, IsReadBy, IsRefusedBy}
 use Rattle.gerber_layer.specs.MacroLayer.{loose as loose_words}
 use Rattle.gerber_layer.specs.declared.macro_kind.FlattenKind.{FlattenKind}
 use Rattle.arc_layer.specs.Marks.{AreMarks, IsBendRefused, PlainMark}

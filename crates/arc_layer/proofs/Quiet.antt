@@ -8,13 +8,13 @@ use Rattle.file_reading.specs.Reading.{IsRead, IsReadTo, Item, said}
 use Rattle.file_reading.proofs.Turning.{read-start, read-more}
 use Rattle.gerber_words.specs.Words.{Ahead, Entry, Stop, HasWords, start}
 use Rattle.gerber_words.specs.Items.{word_item, stop_item, items_with}
-use Rattle.gerber_layer.specs.Command.{Command, operates, opens_region, closes_region}
+use Rattle.gerber_reading.specs.Command.{Command, operates, opens_region, closes_region}
 use Rattle.gerber_layer.specs.CommandEffects.{code_of}
 use Rattle.gerber_layer.specs.WordCommands.{behind, number_in}
-use Rattle.gerber_layer.specs.declared.command.Code.{Code}
-use Rattle.gerber_layer.specs.declared.command.Code.TheVariants.{Draw, Move, Flash}
+use Rattle.gerber_reading.specs.declared.command.Code.{Code}
+use Rattle.gerber_reading.specs.declared.command.Code.TheVariants.{Draw, Move, Flash}
 use Rattle.arc_layer.specs.Bends.{command_bend, curve_of, operation_by}
-use Rattle.gerber_layer.specs.Settings.{ok_or_none}
+use Rattle.gerber_reading.specs.Settings.{ok_or_none}
 use Rattle.arc_layer.specs.Marks.{AreSayings, HasNoMarks, PlainMark, closes, contour_mark, edge_by, edges_before, edges_by, flashes, mark_behind, mark_by, marked, marks_in}
 use Rattle.arc_layer.specs.declared.kind.RealKind.{RealKind}
 use Rattle.arc_layer.specs.Pens.{drawn_with, draws, pen_before, pen_in, pen_with, pens_before, with_pen}

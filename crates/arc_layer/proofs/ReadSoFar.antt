@@ -8,7 +8,7 @@ use Rattle.file_reading.proofs.Turning.{read-start, read-more, read-fault}
 use Rattle.gerber_words.specs.Words.{Ahead, Entry, Stop, ended, broken, HasWords, start}
 use Rattle.gerber_words.specs.Items.{word_item, stop_item, items_with}
 use Rattle.gerber_words.specs.Laws.{HasOneReadingAhead}
-use Rattle.gerber_layer.specs.Settings.{ok_or_none}
+use Rattle.gerber_reading.specs.Settings.{ok_or_none}
 use Rattle.arc_layer.specs.Marks.{AreMarks, AreSayings, AreShort, PlainMark, IsShortMark, IsBendRefused, edges_before, edges_behind, mark_behind, mark_of, marks_in}
 use Rattle.arc_layer.specs.Pens.{pen_before, pen_of, pen_with, pens_before, with_pen}
 use Rattle.arc_layer.specs.Reading.{Takes, marks_so_far, pens_so_far}

@@ -9,8 +9,8 @@ use Rattle.file_reading.proofs.OneAnswer.{one_answer_of}
 use Rattle.gerber_words.specs.Words.{Ahead}
 use Rattle.gerber_words.specs.Laws.{HasOneReadingAhead}
 use Rattle.gerber_words.specs.ItemsLaws.{some_items, one_items}
-use Rattle.gerber_layer.specs.declared.place.Place.{Place}
-use Rattle.gerber_layer.specs.Dialect.{HasOneAnswerBy, IsFaultBy, IsReadBy, IsRefusedBy}
+use Rattle.gerber_reading.specs.declared.place.Place.{Place}
+use Rattle.gerber_reading.specs.Dialect.{HasOneAnswerBy, IsFaultBy, IsReadBy, IsRefusedBy}
 use Rattle.gerber_layer.specs.MacroLayer.{loose as loose_words}
 use Rattle.gerber_layer.specs.declared.macro_kind.FlattenKind.{FlattenKind}
 use Rattle.arc_layer.specs.Marks.{AreMarks, AreSayings, IsBendFault, IsBendRefused, mark_behind, marks_in, PlainMark}

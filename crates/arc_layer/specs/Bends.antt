@@ -3,14 +3,14 @@ use Rattle.std.specs.Prelude.{Bool, true, false, ◌&&◌, ◌||◌, not, if◌t
 use Rattle.planar.specs.Plane.{IsPlaced, is_placed, same_spot}
 use Rattle.planar.specs.declared.Spot.{Spot}
 use Rattle.file_reading.specs.Conditions.{◌>>=◌, unless, needed}
-use Rattle.gerber_layer.specs.Command.{Command, operates}
+use Rattle.gerber_reading.specs.Command.{Command, operates}
 use Rattle.gerber_layer.specs.CommandEffects.{code_of, coordinate}
 use Rattle.lengths.specs.declared.decimal.Unit.{Unit as Measure}
-use Rattle.gerber_layer.specs.declared.command.Format.{Format}
-use Rattle.gerber_layer.specs.declared.command.Code.{Code}
-use Rattle.gerber_layer.specs.declared.command.Code.TheVariants.{Draw}
-use Rattle.gerber_layer.specs.declared.kind.GerberKind.{GerberKind}
-use Rattle.gerber_layer.specs.declared.kind.GerberKind.TheVariants as kind
+use Rattle.gerber_reading.specs.declared.command.Format.{Format}
+use Rattle.gerber_reading.specs.declared.command.Code.{Code}
+use Rattle.gerber_reading.specs.declared.command.Code.TheVariants.{Draw}
+use Rattle.gerber_reading.specs.declared.kind.GerberKind.{GerberKind}
+use Rattle.gerber_reading.specs.declared.kind.GerberKind.TheVariants as kind
 use Rattle.gerber_layer.specs.WordCommands.{is_number_if}
 use Rattle.arc_layer.specs.Centres.{centre_at, choice}
 use Rattle.arc_layer.specs.Kinds.{gerber}

@@ -2,7 +2,7 @@
 use Rattle.std.specs.Prelude.{◌≡◌}
 use Rattle.file_reading.specs.Kinds.{HaveOwnNumbers, Row, row}
 use Rattle.gerber_layer.specs.MacroKinds.{flatten_row}
-use Rattle.gerber_layer.specs.declared.kind.GerberKind.{GerberKind}
+use Rattle.gerber_reading.specs.declared.kind.GerberKind.{GerberKind}
 use Rattle.gerber_layer.specs.declared.macro_kind.FlattenKind.{FlattenKind}
 use Rattle.gerber_layer.specs.declared.macro_kind.FlattenKind.TheVariants as flatten
 use Rattle.arc_layer.specs.declared.kind.RealKind.{RealKind}

@@ -20,7 +20,7 @@ use Rattle.fine_figures.specs.declared.FineFigure.TheVariants.{Round, Rectangle}
 use Rattle.board_shapes.specs.Rectangles.{lower, upper}
 use Rattle.regions.specs.Contours.{close_of}
 use Rattle.gerber_layer.specs.CommandEffects.{edges_in}
-use Rattle.gerber_layer.specs.Settings.{contour_before}
+use Rattle.gerber_reading.specs.Settings.{contour_before}
 use Rattle.arc_layer.specs.Marks.{contour, edges_before, flash, mark_behind}
 use Rattle.arc_layer.specs.Fine.{fine_sides, fine_stroke}
 use Rattle.arc_layer.specs.Real.{bent, fine, flashed, frame_region, holed, plain, regular, slanted, turned, turned_disc, turned_with, with_mark}

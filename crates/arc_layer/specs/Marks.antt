@@ -7,12 +7,12 @@ use Rattle.file_reading.specs.declared.fault.FileFault.{FileFault}
 use Rattle.file_reading.specs.Reading as reading
 use Rattle.file_reading.specs.Reading.{Item}
 use Rattle.gerber_words.specs.Items as words
-use Rattle.gerber_layer.specs.Command.{Command, operates, opens_region, closes_region}
+use Rattle.gerber_reading.specs.Command.{Command, operates, opens_region, closes_region}
 use Rattle.gerber_layer.specs.CommandEffects.{code_of}
 use Rattle.gerber_layer.specs.Laws.{is_move}
-use Rattle.gerber_layer.specs.Settings.{ok_or_none}
-use Rattle.gerber_layer.specs.declared.command.Code.{Code}
-use Rattle.gerber_layer.specs.declared.command.Code.TheVariants.{Draw, Move, Flash}
+use Rattle.gerber_reading.specs.Settings.{ok_or_none}
+use Rattle.gerber_reading.specs.declared.command.Code.{Code}
+use Rattle.gerber_reading.specs.declared.command.Code.TheVariants.{Draw, Move, Flash}
 use Rattle.arc_layer.specs.Bends.{IsShort, bend_of}
 use Rattle.arc_layer.specs.Pens.{drawn_with, pen_before}
 use Rattle.arc_layer.specs.State.{state_before}

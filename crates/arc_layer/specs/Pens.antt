@@ -5,10 +5,10 @@ use Rattle.apertures.specs.declared.aperture.Aperture.{Aperture}
 use Rattle.apertures.specs.declared.aperture.Aperture.TheVariants.{FineCircle}
 use Rattle.apertures.specs.declared.fault.ApertureFault.{ApertureFault}
 use Rattle.lengths.specs.declared.decimal.Unit.{Unit as Measure}
-use Rattle.gerber_layer.specs.Command.{Command, defines, operates}
+use Rattle.gerber_reading.specs.Command.{Command, defines, operates}
 use Rattle.gerber_layer.specs.CommandEffects.{code_of}
-use Rattle.gerber_layer.specs.declared.command.Code.{Code}
-use Rattle.gerber_layer.specs.declared.command.Code.TheVariants.{Draw}
+use Rattle.gerber_reading.specs.declared.command.Code.{Code}
+use Rattle.gerber_reading.specs.declared.command.Code.TheVariants.{Draw}
 use Rattle.arc_layer.specs.State.{state_before}
 use Rattle.arc_layer.specs.Words.{Saying}
 

@@ -19,8 +19,8 @@ use Rattle.file_reading.specs.Faults.{IsFault}
 use Rattle.file_reading.specs.Reading as reading
 use Rattle.file_reading.specs.declared.fault.FileFault.{FileFault}
 use Rattle.file_reading.specs.declared.fault.FileFault.TheVariants as fault
-use Rattle.gerber_layer.specs.declared.place.Place.{Place}
-use Rattle.gerber_layer.specs.Dialect.{IsReadBy, IsRefusedBy}
+use Rattle.gerber_reading.specs.declared.place.Place.{Place}
+use Rattle.gerber_reading.specs.Dialect.{IsReadBy, IsRefusedBy}
 use Rattle.gerber_layer.specs.MacroLayer.{loose as loose_words}
 use Rattle.gerber_layer.specs.declared.macro_kind.FlattenKind.{FlattenKind}
 use Rattle.apertures.specs.Telling.{Frame, Ring, frame_told, ring_told}

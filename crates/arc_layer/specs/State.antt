@@ -5,9 +5,9 @@ use Rattle.std.specs.Option.{option_or}
 use Rattle.planar.specs.declared.Spot.{Spot}
 use Rattle.planar.specs.Plane.{IsPlaced}
 use Rattle.file_reading.specs.LookingBack.{keep_first, latest, last_or, last_said}
-use Rattle.gerber_layer.specs.Command.{Command}
-use Rattle.gerber_layer.specs.Lawful.{IsShortFormat}
-use Rattle.gerber_layer.specs.Settings.{aperture_before, format_before, format_in, point_before, region_in, region_open, selection_in, unit_before, unit_in, value_in, x_in, y_in}
+use Rattle.gerber_reading.specs.Command.{Command}
+use Rattle.gerber_reading.specs.Lawful.{IsShortFormat}
+use Rattle.gerber_reading.specs.Settings.{aperture_before, format_before, format_in, point_before, region_in, region_open, selection_in, unit_before, unit_in, value_in, x_in, y_in}
 use Rattle.arc_layer.specs.Words.{Saying}
 use Rattle.arc_layer.specs.declared.state.State.{State}
 use Rattle.arc_layer.specs.declared.words.Curve.{Curve}

@@ -5,8 +5,8 @@ use Rattle.apertures.specs.Fine.{has_seventh, may_be_fine}
 use Rattle.apertures.specs.Holes.{ends_number, may_have_hole}
 use Rattle.file_reading.specs.LookingBack.{latest}
 use Rattle.gerber_words.specs.Words.{Entry, Stop, begins_macro}
-use Rattle.gerber_layer.specs.Command.{Command, selects, view}
-use Rattle.gerber_layer.specs.Dialect.{stop_command}
+use Rattle.gerber_reading.specs.Command.{Command, selects, view}
+use Rattle.gerber_reading.specs.Dialect.{stop_command}
 use Rattle.gerber_layer.specs.WordCommands.{behind, goes_on, number_in}
 use Rattle.gerber_layer.specs.MacroCommands.{loose_command}
 use Rattle.gerber_layer.specs.StraightCommands.{behind_code}

@@ -4,9 +4,9 @@ ghost use Rattle.arc_layer.specs.Bends.{IsShort};
 ghost use Rattle.arc_layer.specs.Centres.{IsLawfulDraw};
 ghost use Rattle.arc_layer.specs.State.{IsLawfulState};
 ghost use Rattle.arc_layer.specs.Words.{saying_of};
-ghost use Rattle.gerber_layer.specs.Command.{view};
+ghost use Rattle.gerber_reading.specs.Command.{view};
 ghost use Rattle.gerber_layer.specs.CommandEffects as effects;
-ghost use Rattle.gerber_layer.specs.Lawful.{IsLawfulCommand, IsWhole};
+ghost use Rattle.gerber_reading.specs.Lawful.{IsLawfulCommand, IsWhole};
 ghost use Rattle.planar.specs.Plane.{IsPlaced, IsReached};
 ghost use Rattle.std.specs.Option.{option_copied};
 ghost use Rattle.std.specs.Prelude.{◌≡◌, ◌≤◌, pos, IfOk};
@@ -15,7 +15,8 @@ use crate::centres::{Draw, moved};
 use crate::kind::{RealKind, gerber};
 use crate::state::State;
 use crate::words::{Curve, Quadrants, Saying};
-use gerber_layer::{Code, Command, Format, GerberKind, Here, code_of, coordinate, is_number_if};
+use gerber_layer::is_number_if;
+use gerber_reading::{Code, Command, Format, GerberKind, Here, code_of, coordinate};
 use lengths::decimal::Unit;
 use planar::{Spot, is_placed, is_same};
 
@@ -179,7 +180,7 @@ pub fn bend_of(state: &State, word: &Saying) -> Result<Option<Bend>, RealKind>
     ensures short { IfOk result IsShort }
 {
     match word.command {
-        Command::Operate(_, _, code) => operation_by(curve_of(code, state, word), state, word),
+        Command::Operate(_, _, code, _) => operation_by(curve_of(code, state, word), state, word),
         _ => Ok(None),
     }
 }

@@ -2,9 +2,9 @@
 ghost use Rattle.arc_layer.specs.Bends.{IsShort};
 ghost use Rattle.arc_layer.specs.Marks as spec;
 ghost use Rattle.arc_layer.specs.Marks.{IsShortMark, plain_mark};
-ghost use Rattle.gerber_layer.specs.Command.{view};
+ghost use Rattle.gerber_reading.specs.Command.{view};
 ghost use Rattle.gerber_layer.specs.Laws.{is_move};
-ghost use Rattle.gerber_layer.specs.declared.command.Code.TheVariants as codes;
+ghost use Rattle.gerber_reading.specs.declared.command.Code.TheVariants as codes;
 ghost use Rattle.std.specs.List.{list_any};
 ghost use Rattle.std.specs.Prelude.{◌≡◌, true, [], All, IfErr, IfOk, IfSome, is_some, option_map};
 ghost use Rattle.file_reading.specs.declared.halt.Halt.TheVariants as halt;
@@ -14,7 +14,7 @@ use crate::kind::RealKind;
 use crate::mark::Mark;
 use crate::state::State;
 use file_reading::Halt;
-use gerber_layer::{Code, Command, code_of};
+use gerber_reading::{Code, Command, code_of};
 
 /// The bends of the edges of a contour.
 pub type Edges = Vec<Option<Bend>>;
@@ -36,7 +36,7 @@ pub fn flashes(command: &Command, state: &State) -> bool
     ensures { result ≡ spec.flashes (view command.now) state.now }
 {
     match *command {
-        Command::Operate(_, _, code) => state.tells && is_flash(code_of(code)),
+        Command::Operate(_, _, code, _) => state.tells && is_flash(code_of(code)),
         _ => false,
     }
 }
@@ -46,7 +46,7 @@ pub fn closes(command: &Command, state: &State) -> bool
     ensures { result ≡ spec.closes (view command.now) state.now }
 {
     match *command {
-        Command::Operate(_, _, code) => state.region && is_move(code_of(code)),
+        Command::Operate(_, _, code, _) => state.region && is_move(code_of(code)),
         Command::CloseRegion => state.region,
         _ => false,
     }
@@ -138,7 +138,7 @@ pub fn edges_behind(
     ensures halt { IfErr result (λ h. h ≡ halt.NoMemory) }
 {
     match *command {
-        Command::Operate(_, _, code) => if inside {
+        Command::Operate(_, _, code, _) => if inside {
             edge_by(code_of(code), edges, bend)
         } else {
             Ok(edges)

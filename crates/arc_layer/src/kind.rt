@@ -4,7 +4,8 @@ ghost use Rattle.arc_layer.specs.Kinds.{real_row};
 ghost use Rattle.std.specs.Prelude.{◌≡◌};
 
 use file_reading::{FileFault, RefusalKind, name_of};
-use gerber_layer::{FlattenKind, GerberKind};
+use gerber_layer::FlattenKind;
+use gerber_reading::GerberKind;
 
 /// Why a command of a copper file with arcs is refused. Sections are those of the Gerber Layer Format
 /// Specification.

@@ -2,7 +2,7 @@
 ghost use Rattle.arc_layer.specs.Kinds.{RealKindsHaveOwnNumbers};
 ghost use Rattle.arc_layer.specs.Laws.{DiscsAreUndone, EachEdgeHasABend, FineCentreLinesComeBack, FineCirclesAreUndone, FineDiscsComeBack, FineLinesComeBack, FineObroundsAreUndone, FineRectanglesAreUndone, FramesAreUndone, HoledAreUndone, MarksFitAreas, PolygonsAreUndone, RingsAreUndone, TurnedAreContours, TurnsAreUndone};
 ghost use Rattle.arc_layer.specs.Real.{HasOneRealAnswer};
-ghost use Rattle.gerber_layer.specs.declared.place.Place.{Place};
+ghost use Rattle.gerber_reading.specs.declared.place.Place.{Place};
 ghost use Rattle.std.specs.Prelude.{ℕ, List};
 
 use aperture_macros::laws::{round_told_is_found, told_is_found};

@@ -2,7 +2,7 @@
 ghost use Rattle.apertures.specs.Real.{real_aperture_at};
 ghost use Rattle.arc_layer.specs.Pens as spec;
 ghost use Rattle.arc_layer.specs.Words.{saying_of};
-ghost use Rattle.gerber_layer.specs.Command.{view};
+ghost use Rattle.gerber_reading.specs.Command.{view};
 ghost use Rattle.file_reading.specs.declared.halt.Halt.TheVariants as halt;
 ghost use Rattle.std.specs.HashMap.{get};
 ghost use Rattle.std.specs.Prelude.{◌≡◌, ℕ, nat_eq, IfErr, OnOk};
@@ -11,7 +11,7 @@ use crate::kind::RealKind;
 use crate::words::Saying;
 use apertures::{Aperture, read_real_aperture};
 use file_reading::Halt;
-use gerber_layer::{Code, Command, code_of};
+use gerber_reading::{Code, Command, code_of};
 use lengths::decimal::Unit;
 use std::collections::HashMap;
 
@@ -81,7 +81,7 @@ pub fn draws(command: &Command) -> bool
     ensures { result ≡ spec.draws (view command.now) }
 {
     match *command {
-        Command::Operate(_, _, code) => matches!(code_of(code), Code::Draw),
+        Command::Operate(_, _, code, _) => matches!(code_of(code), Code::Draw),
         _ => false,
     }
 }

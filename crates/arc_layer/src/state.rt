@@ -3,15 +3,15 @@ ghost use Rattle.arc_layer.specs.State as spec;
 ghost use Rattle.arc_layer.specs.State.{IsLawfulState};
 ghost use Rattle.arc_layer.specs.Words.{saying_of};
 ghost use Rattle.file_reading.specs.LookingBack as looking;
-ghost use Rattle.gerber_layer.specs.Command.{view};
-ghost use Rattle.gerber_layer.specs.Lawful.{IsLawfulCommand, IsShortFormat, IsWhole};
-ghost use Rattle.gerber_layer.specs.Settings as set;
+ghost use Rattle.gerber_reading.specs.Command.{view};
+ghost use Rattle.gerber_reading.specs.Lawful.{IsLawfulCommand, IsShortFormat, IsWhole};
+ghost use Rattle.gerber_reading.specs.Settings as set;
 ghost use Rattle.planar.specs.Plane.{IsPlaced, IsReached};
 ghost use Rattle.std.specs.Option.{option_copied, option_or};
 ghost use Rattle.std.specs.Prelude.{◌≡◌, []};
 
 use crate::words::{Curve, Quadrants, Saying};
-use gerber_layer::{Command, Format, Here, coordinate};
+use gerber_reading::{Command, Format, Here, coordinate};
 use lengths::decimal::Unit;
 use planar::Spot;
 
@@ -133,7 +133,7 @@ impl State {
         ensures placed { IsPlaced result }
     {
         match *command {
-            Command::Operate(x, y, _) => Spot {
+            Command::Operate(x, y, _, _) => Spot {
                 x: value_in(x, self.format, self.unit, Here { u: self.at.x }),
                 y: value_in(y, self.format, self.unit, Here { u: self.at.y }),
             },

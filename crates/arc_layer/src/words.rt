@@ -1,14 +1,15 @@
 //! What a word says of arcs, and whether it begins a macro, or may define a hole or a fine aperture.
 ghost use Rattle.apertures.specs.Holes.{ends_number};
 ghost use Rattle.arc_layer.specs.Words as spec;
-ghost use Rattle.gerber_layer.specs.Command.{view};
-ghost use Rattle.gerber_layer.specs.Lawful.{IsLawfulCommand};
+ghost use Rattle.gerber_reading.specs.Command.{view};
+ghost use Rattle.gerber_reading.specs.Lawful.{IsLawfulCommand};
 ghost use Rattle.gerber_words.specs.Stepping.{entry_of};
 ghost use Rattle.gerber_words.specs.Words as words;
 ghost use Rattle.std.specs.Prelude.{◌≡◌, ◌≤◌, ◌==◌, ◌&&◌, not, true, length};
 
 use apertures::{has_seventh, is_further, may_be_fine, may_have_hole};
-use gerber_layer::{Command, behind_code, goes_on, part, read_loose_command};
+use gerber_layer::{behind_code, goes_on, part, read_loose_command};
+use gerber_reading::Command;
 use gerber_words::Word;
 use texts::{begins, is_word};
 

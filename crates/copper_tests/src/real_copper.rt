@@ -4,7 +4,7 @@ use arc_layer::{Arc, RealFault, RealPiece, RealShape, read_real};
 use arc_regions::Part;
 use board_shapes::{Room, Shape};
 use fine_figures::FineFigure;
-use gerber_layer::Place;
+use gerber_reading::Place;
 use planar::Spot;
 use std::alloc::{AllocError, Global};
 use std::fmt::Write;

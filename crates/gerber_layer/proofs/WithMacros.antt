@@ -2,12 +2,11 @@
 use Rattle.std.proofs.Common.{◌≡◌, Bool, true, false, cond, [], Some, Result, Ok, Err, refl, ap, ◌∙◌, subst, sym}
 use Rattle.file_reading.specs.declared.halt.Halt.{Halt}
 use Rattle.file_reading.specs.declared.halt.Halt.TheVariants as halt
-use Rattle.gerber_layer.specs.Command.{Command, names_macro, body_word, defines}
-use Rattle.gerber_layer.specs.declared.kind.GerberKind.{GerberKind}
-use Rattle.gerber_layer.specs.declared.kind.GerberKind.TheVariants as kind
+use Rattle.gerber_reading.specs.Command.{Command, names_macro, body_word, defines}
+use Rattle.gerber_reading.specs.declared.kind.GerberKind.{GerberKind}
+use Rattle.gerber_reading.specs.declared.kind.GerberKind.TheVariants as kind
 use Rattle.gerber_layer.specs.declared.macro_kind.FlattenKind.{FlattenKind}
 use Rattle.gerber_layer.specs.declared.macro_kind.FlattenKind.TheVariants.{Gerber}
-use Rattle.gerber_layer.specs.declared.reader.Reader.{Reader}
 use Rattle.aperture_macros.specs.Seen.{plain}
 use Rattle.aperture_macros.specs.declared.primitive.Copper.TheVariants.{Real}
 use Rattle.board_shapes.specs.declared.shape.Shape.TheVariants.{Round}
@@ -17,7 +16,7 @@ use Rattle.gerber_layer.specs.declared.effect.Effect.TheVariants as seen
 use Rattle.gerber_layer.specs.CommandEffects.{Known, Effect, stays, makes, begins_macro, fills_macro, performs, extends, closes, opens, leaves, steps, room_for, effect, is_finish, row, ◌>>=◌}
 use Rattle.gerber_layer.specs.MacroTable.{effect_loosely, few_radii, gerber, is_of_macros, macro_row}
 use Rattle.gerber_layer.specs.MacroReader.{any_halt, is_end}
-use Rattle.gerber_layer.specs.Reader.{Obeys, Stops, known_of, shown, tool_of}
+use Rattle.gerber_layer.specs.Reader.{Reader, Obeys, Stops, known_of, shown, tool_of}
 use Rattle.gerber_layer.proofs.Outcome.{then_goes, flash_goes, extend_is, close_is, area_left, steps_is}
 
 -- ---- The end of a file
@@ -74,7 +73,7 @@ obeys_loosely old new c what all o same = obeys_as old new c what all o (sym sam
 plain_row : (k : Known) (c : Command) → is_of_macros c ≡ false → gerber (row k c) ≡ macro_row Real k c
 unfolding macro_row
 plain_row k (names_macro name) apart = absurd (cc)
-plain_row k (body_word copper text) apart = absurd (cc)
+plain_row k (body_word text) apart = absurd (cc)
 plain_row k (defines text) apart = absurd (cc)
 plain_row k other apart = refl
 

@@ -16,16 +16,16 @@ use Rattle.aperture_macros.specs.declared.fault.MacroFault.{MacroFault}
 use Rattle.aperture_macros.specs.declared.fault.MacroFault.TheVariants as shape
 use Rattle.aperture_macros.specs.declared.primitive.Copper.{Copper}
 use Rattle.aperture_macros.specs.declared.primitive.Copper.TheVariants.{Exact, Real}
-use Rattle.gerber_layer.specs.Command.{Command, defines, functions, names_macro, body_word}
-use Rattle.gerber_layer.specs.declared.TheConstants.{MOST_APERTURES}
-use Rattle.gerber_layer.specs.declared.kind.GerberKind.{GerberKind}
-use Rattle.gerber_layer.specs.declared.kind.GerberKind.TheVariants as kind
+use Rattle.gerber_reading.specs.Command.{Command, defines, functions, names_macro, body_word}
+use Rattle.gerber_reading.specs.declared.TheConstants.{MOST_APERTURES}
+use Rattle.gerber_reading.specs.declared.kind.GerberKind.{GerberKind}
+use Rattle.gerber_reading.specs.declared.kind.GerberKind.TheVariants as kind
 use Rattle.gerber_layer.specs.declared.macro_kind.FlattenKind.{FlattenKind}
 use Rattle.gerber_layer.specs.declared.macro_kind.FlattenKind.TheVariants.{Gerber, BadMacro, MacroTwice, NoMacro, ExposureOff, Turn, Slanted, TooManyRadii}
 use Rattle.gerber_layer.specs.Radii.{radii_of}
 use Rattle.gerber_layer.specs.WordCommands.{is_empty}
 use Rattle.gerber_layer.specs.Tools.{composed, has_room, macro_named, name_text, number_digits, parameters_in}
-use Rattle.gerber_layer.specs.CommandEffects.{Known, Effect, stays, makes, begins_macro, fills_macro, concludes, ◌>>=◌, unless, needed, read, define, define_as, is_finish, row}
+use Rattle.gerber_layer.specs.CommandEffects.{Known, Effect, Meaning, Profile, exact_meaning, stays, makes, begins_macro, fills_macro, concludes, ◌>>=◌, unless, needed, read, define, define_as, is_finish, row}
 
 -- how the rows of `CommandEffects` refuse
 abbrev pub gerber : {A : Type 0} → Result A GerberKind → Result A FlattenKind
@@ -105,14 +105,14 @@ define_any copper k text =
 -- The rows where a file may have macros.
 unfoldable pub macro_row : Copper → Known → Command → Result Effect FlattenKind
 macro_row copper k (names_macro name) = name_macro k name
-macro_row copper k (body_word own text) = fill_macro k own text
+macro_row copper k (body_word text) = fill_macro k copper text
 macro_row copper k (defines text) = define_any copper k text
 macro_row copper k other = gerber (row k other)
 
 -- the commands that have a row of their own there
 abbrev pub is_of_macros : Command → Bool
 is_of_macros (names_macro name) = true
-is_of_macros (body_word copper text) = true
+is_of_macros (body_word text) = true
 is_of_macros (defines text) = true
 is_of_macros other = false
 
@@ -145,3 +145,18 @@ effect_with_macros k c = if k.settings.ended then behind_end c else with_few_rad
 -- The table of real copper: a file's function is judged as without macros, and radii are not counted.
 unfoldable pub effect_loosely : Known → Command → Result Effect FlattenKind
 effect_loosely k c = if k.settings.ended then behind_end c else macro_row Real k c
+
+-- both tables, and what their words mean: in real copper apertures may have holes and odd sizes, and primitives are those of real copper
+abbrev pub macro_table : Profile FlattenKind
+macro_table = record { does = effect_with_macros; means = exact_meaning }
+
+abbrev pub loose_meaning : Meaning (Unit {0}) Aperture
+loose_meaning = record { edge = λ s c. tt; aperture = real_aperture_at; primitive = primitive_at Real }
+
+-- by the copper
+abbrev pub meaning_of : Copper → Meaning (Unit {0}) Aperture
+meaning_of Exact = exact_meaning
+meaning_of Real = loose_meaning
+
+abbrev pub loose_table : Profile FlattenKind
+loose_table = record { does = effect_loosely; means = loose_meaning }

@@ -2,9 +2,9 @@
 use Rattle.std.specs.Prelude.{ℕ, Bool, true, false, ◌&&◌, ◌||◌, if◌then◌else◌, List, drop, codes, Option}
 use Rattle.texts.specs.Words.{begins}
 use Rattle.gerber_words.specs.Words.{Entry}
-use Rattle.gerber_layer.specs.Command.{Command, nothing, refused, operates}
+use Rattle.gerber_reading.specs.Command.{Command, nothing, refused, operates, no_bending}
 use Rattle.gerber_layer.specs.WordCommands.{behind, behind_line_code, code_in, command_of, from_x, goes_on, is_empty, is_number_if, number_in, offsets_len}
-use Rattle.gerber_layer.specs.declared.kind.GerberKind.TheVariants as kind
+use Rattle.gerber_reading.specs.declared.kind.GerberKind.TheVariants as kind
 
 -- a word that is refused as an arc
 abbrev pub is_bent : Command → Bool
@@ -24,7 +24,7 @@ behind_code text =
 
 -- an operation by its two numbers and what stands behind the offsets
 unfoldable pub straight_of : Option (List ℕ) → Option (List ℕ) → List ℕ → Command
-straight_of x y text = if is_number_if x && is_number_if y then operates x y (code_in text) else refused kind.BadWord
+straight_of x y text = if is_number_if x && is_number_if y then operates x y (code_in text) no_bending else refused kind.BadWord
 
 -- by its text from the offsets on, which are left out
 unfoldable pub past_offsets : Option (List ℕ) → Option (List ℕ) → List ℕ → Command

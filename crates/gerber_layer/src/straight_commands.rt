@@ -1,18 +1,16 @@
 //! Reads a word as a command where arcs are straight.
 ghost use Rattle.std.specs.Prelude.{◌≡◌, ◌≤◌, length};
 ghost use Rattle.std.specs.Option.{option_copied};
-ghost use Rattle.gerber_layer.specs.Command.{view};
-ghost use Rattle.gerber_layer.specs.Lawful.{IsLawfulCommand};
+ghost use Rattle.gerber_reading.specs.Command.{view};
+ghost use Rattle.gerber_reading.specs.Lawful.{IsLawfulCommand};
 ghost use Rattle.gerber_layer.specs.MacroCommands.{loose_command};
 ghost use Rattle.gerber_layer.specs.StraightCommands as spec;
 ghost use Rattle.gerber_words.specs.Stepping.{entry_of};
 
-use crate::command::Command;
-use crate::kind::GerberKind;
 use crate::word_commands::{
     Offsets, behind_line_code, code_in, from_x, goes_on, is_number_if, macro_or, part, read_command,
 };
-use aperture_macros::Copper;
+use gerber_reading::{Bending, Command, GerberKind};
 use gerber_words::Word;
 use texts::{begins, run_len};
 
@@ -54,7 +52,7 @@ fn straight_of<'a>(x: Option<&'a [u8]>, y: Option<&'a [u8]>, text: &[u8]) -> Com
     ensures lawful { IsLawfulCommand (view result) }
 {
     if is_number_if(x) && is_number_if(y) {
-        Command::Operate(x, y, code_in(text))
+        Command::Operate(x, y, code_in(text), Bending::none())
     } else {
         Command::Refused(GerberKind::BadWord)
     }
@@ -115,5 +113,5 @@ pub fn read_loose_command<'a>(word: Word<'a>) -> Command<'a>
     ensures value { view result ≡ loose_command (entry_of word.entry) }
     ensures lawful { IsLawfulCommand (view result) }
 {
-    macro_or(Copper::Real, read_straight_command(word), word)
+    macro_or(read_straight_command(word), word)
 }

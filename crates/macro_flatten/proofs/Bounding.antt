@@ -9,12 +9,12 @@ use Rattle.area_contact.specs.Contour.{end_from, IsContour}
 use Rattle.board_shapes.specs.Figures.{Figure, filled, figure_edges}
 use Rattle.board_shapes.specs.Pieces.{PlainPiece}
 use Rattle.apertures.specs.declared.aperture.Aperture.TheVariants.{Circle}
-use Rattle.gerber_layer.specs.Command.{Command, opens_region, closes_region}
-use Rattle.gerber_layer.specs.declared.command.Code.TheVariants.{Draw, Move}
+use Rattle.gerber_reading.specs.Command.{Command, opens_region, closes_region}
+use Rattle.gerber_reading.specs.declared.command.Code.TheVariants.{Draw, Move}
 use Rattle.gerber_layer.specs.CommandEffects.{opens, closes, extends, leaves, edges_of, edges_in}
-use Rattle.gerber_layer.specs.declared.place.Place.{Place}
+use Rattle.gerber_reading.specs.declared.place.Place.{Place}
 use Rattle.gerber_layer.specs.Tools.{standard}
-use Rattle.gerber_layer.specs.Settings.{aperture_before, region_open, defined_before, point_before, contour_before, lengthened}
+use Rattle.gerber_reading.specs.Settings.{aperture_before, region_open, defined_before, point_before, contour_before, lengthened}
 use Rattle.gerber_layer.specs.Image.{known_before, pieces_of}
 use Rattle.macro_flatten.specs.FlatText.{word, number_of, move, draw, area_lines}
 use Rattle.macro_flatten.proofs.Operations.{reads_move, reads_draw, reads_opening, reads_closing}

@@ -9,12 +9,12 @@ use Rattle.planar.specs.Plane.{IsPlaced}
 use Rattle.planar.specs.declared.Spot.{Spot}
 use Rattle.board_shapes.specs.Figures.{Figure, Stroke, round}
 use Rattle.apertures.specs.declared.aperture.Aperture.TheVariants.{Circle}
-use Rattle.gerber_layer.specs.Command.{Command, selects}
-use Rattle.gerber_layer.specs.declared.command.Code.TheVariants.{Draw, Move}
+use Rattle.gerber_reading.specs.Command.{Command, selects}
+use Rattle.gerber_reading.specs.declared.command.Code.TheVariants.{Draw, Move}
 use Rattle.gerber_layer.specs.CommandEffects.{stays, performs}
-use Rattle.gerber_layer.specs.declared.place.Place.{Place}
+use Rattle.gerber_reading.specs.declared.place.Place.{Place}
 use Rattle.gerber_layer.specs.Tools.{Tool, standard}
-use Rattle.gerber_layer.specs.Settings.{aperture_before, region_open, defined_before, point_before}
+use Rattle.gerber_reading.specs.Settings.{aperture_before, region_open, defined_before, point_before}
 use Rattle.gerber_layer.specs.Image.{known_before, pieces_of}
 use Rattle.macro_flatten.specs.FlatText.{word, number_of, pen_of, move, draw, selection, is_selected, stroke_lines}
 use Rattle.macro_flatten.proofs.Operations.{reads_selection, reads_move, reads_draw}

@@ -25,14 +25,14 @@ use Rattle.aperture_macros.specs.declared.primitive.Copper.{Copper}
 use Rattle.aperture_macros.specs.BodyWord.{PlainPrimitive, primitive_at}
 use Rattle.aperture_macros.specs.Sized.{IsSized}
 use Rattle.aperture_macros.specs.declared.fault.MacroFault.{MacroFault}
-use Rattle.gerber_layer.specs.Command.{Command, defines, opens_region, closes_region, operates, names_macro, body_word}
-use Rattle.gerber_layer.specs.declared.command.Code.{Code}
-use Rattle.gerber_layer.specs.declared.command.Code.TheVariants.{Draw, Move, Flash}
-use Rattle.gerber_layer.specs.declared.command.Format.{Format}
-use Rattle.gerber_layer.specs.declared.kind.GerberKind.{GerberKind}
+use Rattle.gerber_reading.specs.Command.{Command, defines, opens_region, closes_region, operates, names_macro, body_word}
+use Rattle.gerber_reading.specs.declared.command.Code.{Code}
+use Rattle.gerber_reading.specs.declared.command.Code.TheVariants.{Draw, Move, Flash}
+use Rattle.gerber_reading.specs.declared.command.Format.{Format}
+use Rattle.gerber_reading.specs.declared.kind.GerberKind.{GerberKind}
 use Rattle.gerber_layer.specs.Tools.{Macro, Macros, Tool, standard, composed, composed_in, begun, filled_up, latest_or, longer, macro_named, name_text, number_digits, parameters_in, tool_by, tool_in}
 use Rattle.gerber_layer.specs.CommandEffects.{gridded, coordinate, code_of}
-use Rattle.gerber_layer.specs.Settings.{as_number, definition_in, defined_before, drawn, contour_by, contour_before, lengthened, macros_by, macros_before, point_before, region_open, unit_before, format_before, value_in, value_or, with_body, x_before, x_in, y_before, y_in}
+use Rattle.gerber_reading.specs.Settings.{as_number, definition_in, defined_before, drawn, contour_by, contour_before, lengthened, macros_by, macros_before, point_before, region_open, unit_before, format_before, value_in, value_or, with_body, x_before, x_in, y_before, y_in}
 use Rattle.aperture_macros.proofs.Readings.{read_sized}
 use Rattle.planar.specs.declared.TheConstants.{METRE}
 

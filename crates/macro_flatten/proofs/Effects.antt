@@ -14,14 +14,14 @@ use Rattle.apertures.specs.Definition.{aperture_at}
 use Rattle.apertures.specs.declared.aperture.Aperture.{Aperture}
 use Rattle.apertures.specs.declared.aperture.Aperture.TheVariants.{Circle}
 use Rattle.regions.specs.Contours.{close_of}
-use Rattle.gerber_layer.specs.Command.{Command, formats, counts_in, defines, selects, operates, opens_region, closes_region, ends, finishes}
-use Rattle.gerber_layer.specs.declared.command.Code.{Code}
-use Rattle.gerber_layer.specs.declared.command.Code.TheVariants.{Draw, Move}
+use Rattle.gerber_reading.specs.Command.{no_bending, Command, formats, counts_in, defines, selects, operates, opens_region, closes_region, ends, finishes}
+use Rattle.gerber_reading.specs.declared.command.Code.{Code}
+use Rattle.gerber_reading.specs.declared.command.Code.TheVariants.{Draw, Move}
 use Rattle.gerber_layer.specs.CommandEffects.{Known, stays, makes, performs, extends, closes, opens, leaves, concludes, target, selected, room_for, edges_of, edges_in, draw, extend, closing, perform, perform_in_region, operate, leave, ended_block, define, row, effect}
 use Rattle.gerber_layer.specs.Tools.{Tool, standard}
 use Rattle.macro_flatten.proofs.Operations.{seven, coordinate_is}
 use Rattle.area_contact.specs.declared.TheConstants.{MOST_CONTOUR_EDGES}
-use Rattle.gerber_layer.specs.declared.TheConstants.{MOST_APERTURES}
+use Rattle.gerber_reading.specs.declared.TheConstants.{MOST_APERTURES}
 
 -- the settings of the text are in force, and it has not ended
 pub record IsSet (k : Known) : Type 0 where
@@ -32,7 +32,7 @@ pub record IsSet (k : Known) : Type 0 where
 
 -- an operation at a spot
 abbrev pub at_spot : Spot → Code → Command
-at_spot to code = operates (Some (signed_decimal to.x)) (Some (signed_decimal to.y)) (Some code)
+at_spot to code = operates (Some (signed_decimal to.x)) (Some (signed_decimal to.y)) (Some code) no_bending
 
 leads : (k : Known) (to : Spot) → IsSet k → IsPlaced to → target k.settings (Some (signed_decimal to.x)) (Some (signed_decimal to.y)) ≡ Ok to
 unfolding target

@@ -9,11 +9,11 @@ use Rattle.apertures.specs.declared.aperture.Aperture.TheVariants.{Circle}
 use Rattle.apertures.specs.declared.fault.ApertureFault.{ApertureFault}
 use Rattle.apertures.specs.Fine.{fine_at}
 use Rattle.apertures.specs.Real.{any_holed_at, or_real}
-use Rattle.gerber_layer.specs.Command.{Command, formats, counts_in, defines}
+use Rattle.gerber_reading.specs.Command.{Command, formats, counts_in, defines}
 use Rattle.gerber_layer.specs.CommandEffects.{stays, makes}
-use Rattle.gerber_layer.specs.declared.place.Place.{Place}
+use Rattle.gerber_reading.specs.declared.place.Place.{Place}
 use Rattle.gerber_layer.specs.Tools.{standard, composed_in, tool_by}
-use Rattle.gerber_layer.specs.Settings.{aperture_before, region_open, defined_before, definitions_before, as_number}
+use Rattle.gerber_reading.specs.Settings.{aperture_before, region_open, defined_before, definitions_before, as_number}
 use Rattle.gerber_layer.specs.Image.{known_before, pieces_of}
 use Rattle.macro_flatten.specs.FlatText.{circle, circles}
 use Rattle.macro_flatten.proofs.Operations.{seven}

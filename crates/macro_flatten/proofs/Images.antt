@@ -11,15 +11,15 @@ use Rattle.step_repeat.specs.declared.repeat.Repeat.{Repeat}
 use Rattle.aperture_macros.specs.BodyWord.{PlainPrimitive, primitive_at}
 use Rattle.aperture_macros.specs.declared.fault.MacroFault.{MacroFault}
 use Rattle.file_reading.specs.Reading.{Clean, said}
-use Rattle.gerber_layer.specs.Command.{Command, nothing, refused, formats, counts_in, defines, selects, repeats, functions, opens_region, closes_region, operates, ends, names_macro, body_word, breaks, finishes}
-use Rattle.gerber_layer.specs.declared.command.Code.{Code}
-use Rattle.gerber_layer.specs.declared.command.Code.TheVariants.{Draw, Move, Flash}
-use Rattle.gerber_layer.specs.declared.kind.GerberKind.{GerberKind}
-use Rattle.gerber_layer.specs.declared.kind.GerberKind.TheVariants as kind
-use Rattle.gerber_layer.specs.declared.settings.Settings.{Settings}
+use Rattle.gerber_reading.specs.Command.{Command, nothing, refused, formats, counts_in, defines, selects, repeats, functions, opens_region, closes_region, operates, ends, names_macro, body_word, breaks, finishes}
+use Rattle.gerber_reading.specs.declared.command.Code.{Code}
+use Rattle.gerber_reading.specs.declared.command.Code.TheVariants.{Draw, Move, Flash}
+use Rattle.gerber_reading.specs.declared.kind.GerberKind.{GerberKind}
+use Rattle.gerber_reading.specs.declared.kind.GerberKind.TheVariants as kind
+use Rattle.gerber_reading.specs.declared.settings.Settings.{Settings}
 use Rattle.gerber_layer.specs.CommandEffects.{Known, Effect, Profile, stays, makes, begins_macro, fills_macro, performs, extends, closes, opens, leaves, steps, concludes, ◌>>=◌, needed, coordinate, target, code_of, is_drawing, edges_of, edges_in, exceed, extend, closing, perform, perform_in_region, operate, leave, repeat, next_block, ended_block, row, effect, listed}
-use Rattle.gerber_layer.specs.declared.place.Place.{Place}
-use Rattle.gerber_layer.specs.Settings.{contour_before, lengthened, point_before, region_open}
+use Rattle.gerber_reading.specs.declared.place.Place.{Place}
+use Rattle.gerber_reading.specs.Settings.{contour_before, lengthened, point_before, region_open}
 use Rattle.gerber_layer.specs.Image.{effect_by, image_by, known_by, made, pieces_after, pieces_by, with_effect}
 use Rattle.gerber_layer.proofs.Outcome.{IsFilled, bind_ok, not_ok, past_test}
 use Rattle.macro_flatten.specs.FlatText.{figures_in, pens_of}
@@ -30,7 +30,7 @@ use Rattle.macro_flatten.proofs.Copies.{Drawn}
 use Rattle.macro_flatten.proofs.Makes.{Fit, Made, Sound, Within, as_fit, block_made, closing_made, draw_made, flash_made, pushed}
 use Rattle.macro_flatten.proofs.Rows.{HasRows, standard_rows}
 use Rattle.area_contact.specs.declared.TheConstants.{MOST_CONTOUR_EDGES, MOST_CONTOUR_POINTS}
-use Rattle.gerber_layer.specs.declared.TheConstants.{MOST_APERTURES}
+use Rattle.gerber_reading.specs.declared.TheConstants.{MOST_APERTURES}
 
 -- what stands before a command is lawful
 sound : {W : Type 0} (f : Profile W) (p : Place) (h : List Command) → Sound (known_by f p h)

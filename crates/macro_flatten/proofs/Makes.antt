@@ -25,10 +25,10 @@ use Rattle.aperture_macros.specs.declared.fault.MacroFault.{MacroFault}
 use Rattle.regions.specs.Contours.{Flaw, stays_open, too_short, close_of}
 use Rattle.step_repeat.specs.Copies.{Refusal, copies_at}
 use Rattle.step_repeat.specs.declared.repeat.Repeat.{Repeat}
-use Rattle.gerber_layer.specs.declared.kind.GerberKind.{GerberKind}
-use Rattle.gerber_layer.specs.declared.kind.GerberKind.TheVariants as kind
+use Rattle.gerber_reading.specs.declared.kind.GerberKind.{GerberKind}
+use Rattle.gerber_reading.specs.declared.kind.GerberKind.TheVariants as kind
 use Rattle.gerber_layer.specs.CommandEffects.{Known, Effect, performs, ◌>>=◌, needed, selected, lookup, room_for, edges_for, edges_of, edges_in, exceed, draw, figures_of, macro_figures, all_flashed, lacks_room, room_or, room_for_all, flash, flash_by, flash_with, flashed, closing, closed, area_if, ended_block, with_copies, as_copies, left, listed}
-use Rattle.gerber_layer.specs.declared.place.Place.{Place}
+use Rattle.gerber_reading.specs.declared.place.Place.{Place}
 use Rattle.gerber_layer.specs.Tools.{Tool, standard, composed, macro_named, pen_with}
 use Rattle.gerber_layer.specs.Image.{made, piece_of}
 use Rattle.gerber_layer.proofs.MacroFlash.{edges_made as edges_of_made}

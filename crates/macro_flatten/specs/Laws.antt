@@ -7,9 +7,9 @@ use Rattle.area_contact.specs.Contour.{IsContour}
 use Rattle.board_shapes.specs.Figures.{Figure, round, filled, figure_edges}
 use Rattle.board_shapes.specs.Pieces.{PlainPiece}
 use Rattle.board_shapes.specs.declared.placed.Room.{Room}
-use Rattle.gerber_layer.specs.declared.kind.GerberKind.{GerberKind}
+use Rattle.gerber_reading.specs.declared.kind.GerberKind.{GerberKind}
 use Rattle.gerber_layer.specs.declared.macro_kind.FlattenKind.{FlattenKind}
-use Rattle.gerber_layer.specs.declared.place.Place.{Place}
+use Rattle.gerber_reading.specs.declared.place.Place.{Place}
 use Rattle.gerber_layer.specs.Layer.{IsRead, IsRefused}
 use Rattle.gerber_layer.specs.MacroLayer.{IsReadWithMacros, IsRefusedWithMacros}
 use Rattle.macro_flatten.specs.FlatText.{figures_in, flat_text_of, pens_of}

@@ -3,7 +3,8 @@
 use crate::layers::image;
 use board_shapes::Room;
 use file_reading::RefusalKind;
-use gerber_layer::{FlattenFault, Loose, Place, read_by};
+use gerber_layer::{FlattenFault, Loose};
+use gerber_reading::{Place, read_by};
 use std::alloc::{AllocError, Global};
 use std::test::Fail;
 use texts::MOST_BYTES;

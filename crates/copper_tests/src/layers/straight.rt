@@ -1,7 +1,8 @@
 // Files in which draws may be arcs, and what they are read as where these are straight.
 use crate::layers::{PLACE, image};
 use file_reading::RefusalKind;
-use gerber_layer::{FlattenFault, Loose, read_by};
+use gerber_layer::{FlattenFault, Loose};
+use gerber_reading::read_by;
 use std::alloc::{AllocError, Global};
 use std::test::Fail;
 use texts::MOST_BYTES;

@@ -1,7 +1,7 @@
 use Rattle.std.proofs.Common.{ℕ, Option, Result, sym, ap, ◌∙◌}
 use Rattle.std.specs.HashMap.{get}
 use Rattle.std.specs.Prelude.{nat_eq}
-use Rattle.gerber_layer.specs.Settings.{ok_or_none}
+use Rattle.gerber_reading.specs.Settings.{ok_or_none}
 use Rattle.arc_layer.specs.Bends.{bend_of}
 use Rattle.arc_layer.specs.Marks.{closes, edges_by, flashes, mark_with, marked}
 use Rattle.arc_layer.specs.Words.{saying_of}

@@ -1,5 +1,5 @@
 use Rattle.std.proofs.Common.{sym, ◌∙◌}
-use Rattle.gerber_layer.specs.Command.{view}
+use Rattle.gerber_reading.specs.Command.{view}
 use Rattle.gerber_layer.specs.Reader.{known_of}
 use Rattle.gerber_layer.proofs.WithMacros.{obeys_plainly, stops_plainly}
 use Rattle.gerber_layer.proofs.dialect.LooseDialect.obey.Goals as goal

@@ -1,5 +1,5 @@
 use Rattle.std.proofs.Common.{sym, ◌∙◌}
-use Rattle.gerber_layer.specs.Command.{view}
+use Rattle.gerber_reading.specs.Command.{view}
 use Rattle.gerber_layer.specs.MacroTable.{effect_with_macros}
 use Rattle.gerber_layer.specs.Reader.{known_of, shown}
 use Rattle.gerber_layer.proofs.WithMacros.{few_before_end, obeys_with}

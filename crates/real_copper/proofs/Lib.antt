@@ -1,0 +1,6 @@
+pub mod Edges
+pub mod Near
+pub mod Numbers
+pub mod Setting
+pub mod Straight
+pub mod Sums
