@@ -4,3 +4,4 @@ pub mod Numbers
 pub mod Setting
 pub mod Straight
 pub mod Sums
+pub mod Carrying
