@@ -1,5 +1,5 @@
 -- The end of a block.
-use Rattle.std.proofs.Common.{◌≡◌, List, ◌++◌, take, drop, refl, Some, Result, Ok, Err}
+use Rattle.std.proofs.Common.{◌≡◌, List, ◌++◌, take, drop, refl, Some, Result, Ok}
 use Rattle.board_shapes.specs.Pieces.{PieceOf}
 use Rattle.step_repeat.specs.Copies.{Refusal, copies_by, IsCopyFault}
 use Rattle.step_repeat.specs.Figures.{Handling}

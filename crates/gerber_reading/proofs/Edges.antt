@@ -2,7 +2,7 @@
 use Rattle.std.proofs.Common.{◌≡◌, ℕ, ◌+◌, ◌-◌, ◌*◌, ◌≤◌, List, [], ◌∷◌, ◌++◌, length, take, drop, length-drop, sym, ap, ◌∙◌, arith}
 use Rattle.std.proofs.Math.Nat.{mul-suc}
 use Rattle.std.proofs.Math.Seq.{take-length}
-use Rattle.std.proofs.lemmas.List.{drop-map, map-append}
+use Rattle.std.proofs.lemmas.List.{drop-map, length-take-le, map-append}
 use Rattle.std.specs.List.{take-map}
 use Rattle.std.proofs.lemmas.List.Sums.{sum_by-append, sum_by-cons, sum_by-take-drop}
 use Rattle.board_shapes.specs.Pieces.{PieceOf}
@@ -18,6 +18,14 @@ edges_few plain h few (p ∷ pieces) =
     let first : h.edges (plain p.shape) ≤ 4294967295 = few p.shape in
     let sum : edges_by h (pieces_by plain (p ∷ pieces)) ≡ h.edges (plain p.shape) + edges_by h (pieces_by plain pieces) = sum_by-cons (λ (q : PieceOf _). h.edges q.figure) (piece_by plain p) (pieces_by plain pieces) in
     omega (arith, mul-suc 4294967295 (length pieces))
+
+-- fewer than 2^32 of each before a place
+pub edges_before_few : {F G : Type 0} (plain : F → G) (h : Handling G) → ((f : F) → h.edges (plain f) ≤ 4294967295) → (pieces : List (Placed F)) (i : ℕ) → i ≤ length pieces → edges_by h (take i (pieces_by plain pieces)) ≤ 4294967295 * i
+edges_before_few plain h few pieces i within =
+    let most : edges_by h (pieces_by plain (take i pieces)) ≤ 4294967295 * length (take i pieces) = edges_few plain h few (take i pieces) in
+    let size = length-take-le i pieces within in
+    let same : edges_by h (take i (pieces_by plain pieces)) ≡ edges_by h (pieces_by plain (take i pieces)) = ap (edges_by h) (take-map (piece_by plain) i pieces) in
+    omega (arith, most, size, same)
 
 -- those of the pieces before a place, and of the others
 pub edges_split : {G : Type 0} (h : Handling G) (pieces : List (PieceOf G)) (i : ℕ) → edges_by h (take i pieces) + edges_by h (drop i pieces) ≡ edges_by h pieces

@@ -2,13 +2,12 @@
 use Rattle.std.proofs.Common.{◌≡◌, ℕ, ◌+◌, List, [], ◌∷◌, length, All, Result, Ok, Err, IfOk, refl, sym, subst}
 use Rattle.std.proofs.lemmas.List.{length-map, get_or-map}
 use Rattle.std.proofs.lemmas.List.Elements.{All-nil}
-use Rattle.board_shapes.specs.Pieces.{PieceOf}
 use Rattle.board_shapes.specs.declared.placed.Placed.{Placed}
 use Rattle.step_repeat.specs.Copies.{piece_by, pieces_by as pieces_of}
 use Rattle.file_reading.specs.Reading.{said}
 use Rattle.gerber_reading.specs.Command.{Command}
 use Rattle.gerber_reading.specs.Outcomes.{KeepsLayer, OnLayer}
-use Rattle.gerber_reading.specs.CommandEffects.{Place, Known, Effect, Profile}
+use Rattle.gerber_reading.specs.CommandEffects.{Place, Effect, Profile}
 use Rattle.gerber_reading.specs.Image.{image_by, known_by, pieces_by, with_effect}
 use Rattle.gerber_reading.specs.Dialect.{Dialect, IsReadBy}
 

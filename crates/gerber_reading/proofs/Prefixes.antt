@@ -7,10 +7,9 @@ use Rattle.file_reading.specs.Reading.{Clean, Item, said}
 use Rattle.gerber_words.specs.Words.{Ahead, Entry, Stop, ended, broken, HasWords, start}
 use Rattle.gerber_words.specs.Items.{items_with, stop_item, word_item}
 use Rattle.gerber_words.specs.Laws.{HasFirstWords, HasOneReadingAhead, IsCutShort, star_of}
-use Rattle.gerber_words.specs.declared.fault.WordFault.{WordFault}
 use Rattle.gerber_words.specs.declared.fault.WordFault.TheVariants.{LineBreakInWord, NotEnded, PercentAmiss}
 use Rattle.gerber_words.proofs.OneCut.{heads}
-use Rattle.gerber_reading.specs.Command.{Command, breaks, ends, finishes}
+use Rattle.gerber_reading.specs.Command.{Command, breaks, ends}
 use Rattle.gerber_reading.specs.CommandEffects.{Place, Known, Effect, Profile, stays, is_finish}
 use Rattle.gerber_reading.specs.Settings.{has_ended, is_end}
 use Rattle.gerber_reading.specs.Image.{effect_by, image_by, known_by, pieces_by, with_effect}

@@ -1,5 +1,5 @@
 -- What the reader keeps behind a command.
-use Rattle.std.specs.Prelude.{true, false, List, [], Option, Some, None}
+use Rattle.std.specs.Prelude.{true, false, Option, Some, None}
 use Rattle.planar.specs.declared.Spot.{Spot}
 use Rattle.step_repeat.specs.declared.repeat.Repeat.{Repeat}
 use Rattle.gerber_reading.specs.Command.{Command, curves, quarters, formats, counts_in, selects, repeats, opens_region, closes_region, operates, ends}

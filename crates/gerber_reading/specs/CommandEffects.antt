@@ -1,5 +1,5 @@
 -- What a command does, or its fault, by what is known before it.
-use Rattle.std.specs.Prelude.{ℕ, ◌+◌, ◌-◌, ◌/◌, ◌%◌, Bool, true, false, ◌&&◌, ◌||◌, not, ◌==◌, nat_le, nat_lt, if◌then◌else◌, List, [], ◌∷◌, ◌++◌, length, take, drop, sum_by, codes, ℤ, Option, Some, None, is_some, is_none, Result, Ok, Err}
+use Rattle.std.specs.Prelude.{ℕ, ◌+◌, ◌-◌, ◌/◌, ◌%◌, Bool, true, false, ◌&&◌, ◌||◌, not, ◌==◌, nat_le, nat_lt, if◌then◌else◌, List, [], ◌∷◌, ◌++◌, length, take, drop, sum_by, codes, ℤ, Option, Some, None, is_some, Result, Ok, Err}
 use Rattle.planar.specs.declared.Spot.{Spot}
 use Rattle.lengths.specs.Decimal.{over_power}
 use Rattle.lengths.specs.Grid.{position_of}
@@ -14,7 +14,7 @@ use Rattle.apertures.specs.declared.fault.ApertureFault.TheVariants as aperture
 use Rattle.gerber_words.specs.Attributes.{is_field}
 use Rattle.gerber_words.specs.declared.fault.WordFault.{WordFault}
 use Rattle.gerber_words.specs.declared.fault.WordFault.TheVariants as word
-use Rattle.gerber_reading.specs.Command.{Command, nothing, refused, formats, counts_in, defines, selects, repeats, functions, opens_region, closes_region, operates, ends, names_macro, body_word, breaks, finishes}
+use Rattle.gerber_reading.specs.Command.{Command, finishes}
 use Rattle.step_repeat.specs.Copies.{Refusal, copies_by, edges_by, out_of_range, too_many_edges, too_many_pieces}
 use Rattle.step_repeat.specs.Figures.{Handling}
 use Rattle.step_repeat.specs.Repeats.{repeat_at}

@@ -1,5 +1,5 @@
 -- Laws of files that are read by a dialect: a file that is cut off is refused.
-use Rattle.std.specs.Prelude.{◌≡◌, ℕ, ◌≤◌, Bool, true, false, if◌then◌else◌, List, ◌∷◌, ◌++◌, take, Result, Ok, Err}
+use Rattle.std.specs.Prelude.{◌≡◌, ℕ, ◌≤◌, true, false, if◌then◌else◌, List, ◌∷◌, ◌++◌, take, Ok, Err}
 use Rattle.std.specs.List.{AllByRecursion}
 use Rattle.board_shapes.specs.Pieces.{PieceOf}
 use Rattle.gerber_words.specs.Words.{Entry, Stop, HasWords, start}
@@ -7,7 +7,7 @@ use Rattle.gerber_words.specs.Laws.{star_of}
 use Rattle.gerber_words.specs.declared.fault.WordFault.{WordFault}
 use Rattle.gerber_words.specs.declared.fault.WordFault.TheVariants.{NotEnded}
 use Rattle.gerber_reading.specs.Command.{Command, breaks, ends, finishes}
-use Rattle.gerber_reading.specs.CommandEffects.{Place, Known, Effect, Profile, stays, is_finish}
+use Rattle.gerber_reading.specs.CommandEffects.{Place, Known, Profile, stays, is_finish}
 use Rattle.gerber_reading.specs.Settings.{is_end}
 use Rattle.gerber_reading.specs.Dialect.{Dialect, IsReadBy, IsRefusedBy}
 

@@ -1,25 +1,18 @@
 -- What the reader keeps, and how it goes on.
-use Rattle.std.specs.Prelude.{◌≡◌, All, ℕ, ◌+◌, ◌^◌, ◌<◌, ◌≤◌, ◌==◌, Bool, true, false, if◌then◌else◌, List, [], ◌++◌, get_or, length, map, nat_eq, slice_get, Option, Some, None, option_map, Result, Ok, Err, IfSome, IsSomeAnd}
+use Rattle.std.specs.Prelude.{◌≡◌, All, ℕ, ◌+◌, ◌^◌, ◌<◌, ◌≤◌, ◌==◌, if◌then◌else◌, List, [], ◌++◌, length, map, nat_eq, Option, Some, None, option_map, Result, Ok, Err, IfSome}
 use Rattle.std.specs.HashMap.{get, get_by, hash_map_len}
 use Rattle.texts.specs.Words.{is_word}
 use Rattle.planar.specs.declared.Spot.{Spot}
 use Rattle.step_repeat.specs.Copies.{edges_by, pieces_by}
 use Rattle.step_repeat.specs.Figures.{Handling}
-use Rattle.board_shapes.specs.declared.placed.Origin.{Origin}
-use Rattle.aperture_macros.specs.declared.fault.FigureFault.{FigureFault}
-use Rattle.aperture_macros.specs.declared.fault.FigureFault.TheVariants as figure
 use Rattle.board_shapes.specs.declared.placed.Placed.{Placed}
 use Rattle.aperture_macros.specs.BodyWord.{PlainPrimitive}
 use Rattle.aperture_macros.specs.Seen.{plain as plain_primitive}
 use Rattle.aperture_macros.specs.declared.primitive.Primitive.{Primitive}
-use Rattle.lengths.specs.Decimal.{Fraction}
-use Rattle.lengths.specs.declared.decimal.Unit.{Unit as Measure}
 use Rattle.apertures.specs.declared.fault.FlashFault.{FlashFault}
 use Rattle.apertures.specs.declared.fault.FlashFault.TheVariants as flash
 use Rattle.step_repeat.specs.declared.fault.CopyFault.{CopyFault}
 use Rattle.step_repeat.specs.declared.fault.CopyFault.TheVariants as copy
-use Rattle.step_repeat.specs.Repeats.{IsLawful as IsLawfulRepeat}
-use Rattle.step_repeat.specs.declared.repeat.Repeat.{Repeat}
 use Rattle.regions.specs.Contours.{outline_of}
 use Rattle.regions.specs.declared.contour.Contour.{Contour}
 use Rattle.gerber_reading.specs.declared.kind.GerberKind.{GerberKind}
@@ -35,7 +28,7 @@ use Rattle.gerber_reading.specs.declared.tool.Tool.{Tool as Given}
 use Rattle.gerber_reading.specs.declared.tool.Tool.TheVariants as given
 use Rattle.gerber_reading.specs.Tools.{Macro, Macros, Tool, standard, composed, begun, filled_up, macro_named}
 use Rattle.gerber_reading.specs.declared.reader.Reader.{Reader}
-use Rattle.gerber_reading.specs.CommandEffects.{Outline, Place, Known, Effect, stays, makes, begins_macro, fills_macro, Profile, ended_block_by, listed}
+use Rattle.gerber_reading.specs.CommandEffects.{Outline, Place, Known, Effect, makes, begins_macro, fills_macro, Profile, ended_block_by, listed}
 use Rattle.gerber_reading.specs.After.{after, contour_after, heads, opened}
 use Rattle.gerber_reading.specs.Image.{made, pieces_after, start_after}
 use Rattle.gerber_reading.specs.Lawful.{AreLawfulSettings}

@@ -19,7 +19,7 @@ use Rattle.gerber_reading.specs.declared.command.Format.{Format}
 use Rattle.gerber_reading.specs.declared.settings.Settings.{Settings}
 use Rattle.regions.specs.Contours.{points_of}
 use Rattle.gerber_reading.specs.Tools.{Macros, Tool, begun, filled_up, tool_in}
-use Rattle.gerber_reading.specs.CommandEffects.{Leg, Meaning, Outline, code_of, coordinate, next_block}
+use Rattle.gerber_reading.specs.CommandEffects.{Outline, code_of, coordinate, next_block}
 use Rattle.apertures.specs.declared.fault.ApertureFault.{ApertureFault}
 
 -- what a command says of a setting

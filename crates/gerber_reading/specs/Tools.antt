@@ -1,5 +1,5 @@
 -- What the aperture dictionary and the macros of a file hold.
-use Rattle.std.specs.Prelude.{ℕ, ◌+◌, zero, suc, Bool, false, nat_lt, if◌then◌else◌, List, [], ◌∷◌, ◌++◌, length, ℤ, Option, Some, None, option_map, Result, Ok, Err}
+use Rattle.std.specs.Prelude.{ℕ, ◌+◌, zero, suc, Bool, false, nat_lt, if◌then◌else◌, List, [], ◌∷◌, ◌++◌, length, Option, Some, None, option_map, Result, Ok, Err}
 use Rattle.std.specs.List.{after_first, before_first, count_by, list_any}
 use Rattle.std.specs.Str.Parse.{digits_value}
 use Rattle.texts.specs.Words.{is_word}

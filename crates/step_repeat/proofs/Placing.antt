@@ -1,5 +1,5 @@
 -- Which copies stay within 1 m.
-use Rattle.std.proofs.Common.{◌≡◌, ℕ, ◌<◌, suc, zero, Bool, true, false, ◌&&◌, List, [], ◌∷◌, length, map, get_or, ◌++◌, ℤ, Err, refl, ap, ◌∙◌, subst, arith}
+use Rattle.std.proofs.Common.{◌≡◌, ℕ, ◌<◌, suc, zero, Bool, true, false, ◌&&◌, List, [], ◌∷◌, length, get_or, ◌++◌, ℤ, Err, refl, ap, ◌∙◌, subst, arith}
 use Rattle.std.proofs.lemmas.List.{map-append}
 use Rattle.std.specs.Prelude.{IfErr, IfOk, Result, Ok}
 use Rattle.board_shapes.specs.Figures.{Figure}

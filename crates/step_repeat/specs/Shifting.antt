@@ -11,7 +11,7 @@ use Rattle.board_shapes.specs.Moved.{IsShift, StaysPlaced, corners, shifted, shi
 use Rattle.board_shapes.specs.Shapes.{lawful}
 use Rattle.board_shapes.specs.declared.shape.Shape.{Shape}
 use Rattle.board_shapes.specs.declared.shape.Shape.TheVariants.{Round, Filled}
-use Rattle.step_repeat.specs.Figures.{Handling, shape_handling}
+use Rattle.step_repeat.specs.Figures.{shape_handling}
 
 -- the test of one spot, and of several
 placed_is : (p : Spot) → IsPlaced p → is_placed p ≡ true

@@ -4,18 +4,17 @@ use Rattle.board_shapes.specs.Pieces.{PieceOf}
 use Rattle.step_repeat.specs.Copies.{pieces_by}
 use Rattle.gerber_reading.specs.Reader.{known_of}
 use Rattle.gerber_reading.proofs.Copies.{ended}
-use Rattle.gerber_reading.proofs.Edges.{edges_after, edges_few, edges_split, plain_after}
+use Rattle.gerber_reading.proofs.Edges.{edges_after, edges_before_few, edges_few, plain_after}
 use Rattle.gerber_reading.proofs.reader.Reader.end_block.Goals as goal
 
 pub overflow_add-edges : goal.overflow_add-edges
 overflow_add-edges g c =
-    let split = edges_split g.F.Figure.handling (pieces_by g.F.Figure.plain c.args.self.now.pieces.items) c.args.self.now.start in
-    let all = edges_few g.F.Figure.plain g.F.Figure.handling g.met.F.Figure.few c.args.self.now.pieces.items in
+    let few_before = edges_before_few g.F.Figure.plain g.F.Figure.handling g.met.F.Figure.few c.args.self.now.pieces.items c.args.self.now.start c.requires.counted.start in
     let new = edges_few g.F.Figure.plain g.F.Figure.handling g.met.F.Figure.few c.in_ok-copies.copies.items in
     let before = c.edges_before-before.ensures in
     let counted = rw c.deref.ensures.value at c.edges_of.ensures in
     let few = c.in_ok-copies.ensures.few in
-    omega (arith, split, all, new, before, counted, few)
+    omega (arith, few_before, new, before, counted, few, c.requires.counted.room)
 
 pub returns-clause-ok : goal.returns-clause-ok
 returns-clause-ok g c =
