@@ -5,3 +5,6 @@ pub mod Setting
 pub mod Straight
 pub mod Sums
 pub mod Carrying
+pub mod Closed
+pub mod MacroFlash
+pub mod Defined

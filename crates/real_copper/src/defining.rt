@@ -91,12 +91,12 @@ pub fn fill_macro<'a>(reader: &mut RealReader<'a>, text: &'a [u8]) -> Result<(),
 
 // Judges the primitives of a macro with parameters.
 #[tactic(auto, unfolding(crate::specs::Table::all_judged))]
-fn judge(body: &[Primitive], parameters: &[Decimal], unit: Unit) -> Result<(), FlattenKind>
+fn judge(body: &[Primitive], parameters: &[Decimal], unit: Unit) -> Result<(), RealKind>
     ensures { result ≡ spec.as_macro (spec.all_judged (body_of body.now) parameters.now unit) }
 {
     for primitive in body {
         if let Err(fault) = primitive.judge(Copper::Real, parameters, unit) {
-            return Err(FlattenKind::from(fault));
+            return Err(RealKind::Copper(FlattenKind::from(fault)));
         }
     }
     Ok(())
@@ -135,7 +135,7 @@ fn compose<'a>(
         return Err(Halt::Fault(gerber(kind)));
     }
     if let Err(kind) = judge(body, &given, unit) {
-        return Err(flattened(kind));
+        return Err(Halt::Fault(kind));
     }
     Ok((n, Tool::Composed(name, given, unit, Vec::new(alloc))))
 }

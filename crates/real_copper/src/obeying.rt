@@ -58,6 +58,7 @@ fn operate_at(
 }
 
 // Where an operation leads that was performed.
+#[tactic(auto, unfolding(crate::specs::Rows::operate))]
 fn operate(
     reader: &mut RealReader,
     alloc: Global,
@@ -103,6 +104,7 @@ fn open_region(reader: &mut RealReader) -> Result<(), Halt<RealKind>>
 }
 
 // `G37`.
+#[tactic(auto, unfolding(crate::specs::Rows::leave))]
 fn leave_region(reader: &mut RealReader, alloc: Global) -> Result<(), Halt<RealKind>>
     requires few { reader.old.commands + 1 < 2 ^ 32 }
     requires lawful { IsLawful reader.old }
@@ -130,6 +132,7 @@ fn end_block(reader: &mut RealReader, alloc: Global) -> Result<(), Halt<RealKind
 }
 
 // A step and repeat word, and the block that it opens.
+#[tactic(auto, unfolding(crate::specs::Rows::repeat))]
 fn repeat(
     reader: &mut RealReader,
     alloc: Global,
@@ -158,6 +161,7 @@ fn repeat(
 }
 
 // The end of the file.
+#[tactic(auto, unfolding(crate::specs::Rows::end))]
 fn end(reader: &mut RealReader, alloc: Global) -> Result<(), Halt<RealKind>>
     requires lawful { IsLawful reader.old }
     ensures ok { OnOk result (HasObeyed reader.old (rows.end (known reader.old)) None None reader.new) }
