@@ -1,5 +1,5 @@
 -- Operations that are obeyed at once.
-use Rattle.std.proofs.Common.{◌≡◌, ℕ, Bool, false, not, ◌&&◌, cond, List, Option, Some, is_none, Result, Ok, sym, ap, ◌∙◌}
+use Rattle.std.proofs.Common.{◌≡◌, ℕ, Bool, false, not, ◌&&◌, cond, List, Option, Some, None, unwrap_or, is_none, Result, Ok, refl, sym, ap, ◌∙◌}
 use Rattle.planar.specs.declared.Spot.{Spot}
 use Rattle.gerber_reading.specs.After.{after, heads, opened}
 use Rattle.file_reading.specs.LookingBack.{latest}
@@ -20,6 +20,11 @@ operate_is k x y code own to drawn there outside is =
     ∙ ap (λ (r : Result Spot GerberKind). r >>= run) (sym there)
     ∙ ap (λ (b : Bool). cond b (perform_in_region k (code_of code) to) (perform k (code_of code) to)) outside
     ∙ ap (λ (c : Code). perform k c to) (sym is)
+
+-- what is said, and otherwise what was said earlier
+pub unwrap_is : {B : Type 0} (o : Option B) (earlier : B) → unwrap_or o earlier ≡ latest o earlier
+unwrap_is None earlier = refl
+unwrap_is (Some x) earlier = refl
 
 -- the settings behind it
 pub settings_are : (mid s : Settings) (x y : Option (List ℕ)) (code : Option Code) (b : Bending) (own : Code) (to : Spot) (e : Effect) → mid ≡ s → own ≡ code_of code → Goes e to → record mid { at = to; last = Some own; curve = latest b.curve mid.curve } ≡ after s (operates x y code b) (heads e) (opened e)

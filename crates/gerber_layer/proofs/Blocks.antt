@@ -10,9 +10,10 @@ use Rattle.file_reading.specs.Reading.{Clean}
 use Rattle.gerber_reading.specs.Command.{Command, defines, repeats, opens_region, closes_region, operates, ends, names_macro, body_word}
 use Rattle.gerber_reading.specs.declared.kind.GerberKind.{GerberKind}
 use Rattle.gerber_reading.specs.declared.kind.GerberKind.TheVariants as kind
-use Rattle.gerber_layer.specs.CommandEffects.{Place, Known, Effect, stays, begins_macro, performs, closes, opens, leaves, steps, concludes, ◌>>=◌, as_copies, with_copies, left, listed, ended_block, next_block, repeat, row, effect, code_of}
-use Rattle.gerber_reading.specs.CommandEffects.{ended_block_by}
-use Rattle.gerber_layer.specs.Image.{Image, image_by, image_of, pieces_of, known_before, effect_before, made, pieces_after, start_after, with_effect}
+use Rattle.gerber_layer.specs.CommandEffects.{Place, Known, Effect, stays, begins_macro, performs, closes, opens, leaves, steps, concludes, ◌>>=◌, as_copies, with_copies, left, listed, ended_block, repeat, row, effect, code_of}
+use Rattle.gerber_reading.specs.CommandEffects.{ended_block_by, next_block}
+use Rattle.gerber_reading.specs.Image.{image_by}
+use Rattle.gerber_layer.specs.Image.{Image, image_of, pieces_of, known_before, effect_before, made, pieces_after, start_after, with_effect}
 use Rattle.gerber_layer.specs.Laws.{is_repeat, up_to_block, LooksBackToItsBlock}
 use Rattle.gerber_layer.proofs.Outcome.{bind_ok, not_body, not_ok, past_test, outcome}
 use Rattle.gerber_layer.proofs.Placing.{IsSimple, simple_by, simple_effect}

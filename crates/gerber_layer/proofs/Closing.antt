@@ -1,12 +1,13 @@
 -- What closing a contour comes to.
-use Rattle.std.proofs.Common.{◌≡◌, ℕ, ◌+◌, List, [], ◌++◌, Option, Some, None, Result, Ok, Err, refl, sym, ap, ◌∙◌, subst}
+use Rattle.std.proofs.Common.{◌≡◌, ℕ, ◌+◌, List, ◌++◌, Option, Some, None, Result, Ok, Err, refl, sym, ap, ◌∙◌, subst}
 use Rattle.std.specs.Prelude.{OnOk, IfErr}
 use Rattle.planar.specs.declared.Spot.{Spot}
 use Rattle.board_shapes.specs.Figures.{Figure, filled}
 use Rattle.board_shapes.specs.Pieces.{plain_pieces}
 use Rattle.file_reading.specs.declared.halt.Halt.{Halt}
 use Rattle.gerber_reading.specs.declared.kind.GerberKind.{GerberKind}
-use Rattle.gerber_layer.specs.CommandEffects.{Place, Known, area_if, closing, contour_closed, listed, room_for}
+use Rattle.gerber_layer.specs.CommandEffects.{Place, Known, area_if, closing, contour_closed, listed}
+use Rattle.gerber_reading.specs.CommandEffects.{room_for}
 use Rattle.gerber_layer.specs.Image.{made}
 use Rattle.gerber_layer.specs.Reader.{Places, Closes, Reader, Stops, contour_of, known_of, place_of}
 

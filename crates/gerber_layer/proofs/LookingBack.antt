@@ -4,14 +4,13 @@ use Rattle.std.proofs.lemmas.List.{append-nil, map-append}
 use Rattle.planar.specs.declared.Spot.{Spot}
 use Rattle.gerber_reading.specs.Command.{Command, opens_region, closes_region, operates}
 use Rattle.gerber_reading.specs.declared.command.Code.TheVariants.{Draw, Move, Flash}
-use Rattle.gerber_reading.specs.declared.settings.Settings.{Settings}
 use Rattle.gerber_reading.specs.CommandEffects.{Leg, Outline}
-use Rattle.gerber_reading.specs.Settings.{contour_before, drawn, lengthened, point_before, region_open, settings_before, spots_of}
+use Rattle.gerber_reading.specs.Settings.{contour_before, drawn, lengthened, point_before, region_open, spots_of}
 use Rattle.gerber_layer.specs.CommandEffects.{exact_meaning}
 use Rattle.gerber_layer.specs.Laws.{begins_contour, since_begun, up_to_begun, draws_in, points_along, LooksBackToItsContour}
 
 -- spots with one more, behind the current point where they are none
-longer : List Spot → Spot → Spot → List Spot
+abbrev longer : List Spot → Spot → Spot → List Spot
 longer [] from to = from ∷ to ∷ []
 longer (p ∷ spots) from to = p ∷ spots ++ to ∷ []
 

@@ -1,23 +1,19 @@
 -- The pieces of a file stand on its layer.
-use Rattle.std.proofs.Common.{◌≡◌, ℕ, ◌+◌, ◌*◌, ℤ, pos, ◌*ℤ◌, Bool, true, false, cond, List, [], ◌∷◌, ◌++◌, length, map, take, drop, All, Option, Some, None, Result, Ok, Err, IfOk, refl, sym, subst}
+use Rattle.std.proofs.Common.{◌≡◌, ℕ, ◌+◌, ◌*◌, ℤ, pos, ◌*ℤ◌, Bool, true, false, cond, List, [], ◌∷◌, ◌++◌, take, drop, All, Option, Some, None, Result, Ok, Err, refl, sym, subst}
 use Rattle.std.specs.List.{flat_map, range_with_len}
-use Rattle.std.proofs.lemmas.List.{length-map, get_or-map}
 use Rattle.std.proofs.lemmas.List.Elements.{All-append, All-cons, All-nil, All-take, All-drop, All-map, All-weaker}
 use Rattle.board_shapes.specs.Figures.{Figure}
-use Rattle.board_shapes.specs.Pieces.{PlainPiece, plain_piece, plain_pieces}
-use Rattle.board_shapes.specs.declared.placed.Placed.{Placed}
+use Rattle.board_shapes.specs.Pieces.{PlainPiece}
 use Rattle.board_shapes.specs.declared.placed.Room.{Room}
-use Rattle.board_shapes.specs.declared.shape.Shape.{Shape}
 use Rattle.step_repeat.specs.Copies.{Refusal, out_of_range, copies_at, copies_by, copies_of, moved_block, placed_copies, are_placed, room_fault, column_of, block_at, shifted_piece}
 use Rattle.step_repeat.specs.Figures.{shape_handling}
 use Rattle.step_repeat.specs.declared.repeat.Repeat.{Repeat}
-use Rattle.file_reading.specs.Reading.{said}
 use Rattle.gerber_reading.specs.Command.{Command, defines, functions, repeats, opens_region, closes_region, operates, ends, names_macro, body_word}
 use Rattle.gerber_reading.specs.declared.kind.GerberKind.{GerberKind}
 use Rattle.gerber_reading.specs.declared.kind.GerberKind.TheVariants as kind
 use Rattle.gerber_reading.specs.declared.command.Code.{Code}
 use Rattle.gerber_reading.specs.declared.command.Code.TheVariants.{Draw, Move, Flash}
-use Rattle.aperture_macros.specs.BodyWord.{PlainPrimitive, primitive_at}
+use Rattle.aperture_macros.specs.BodyWord.{PlainPrimitive}
 use Rattle.aperture_macros.specs.declared.fault.MacroFault.{MacroFault}
 use Rattle.aperture_macros.specs.declared.primitive.Copper.{Copper}
 use Rattle.aperture_macros.specs.declared.primitive.Copper.TheVariants.{Exact, Real}

@@ -36,7 +36,7 @@ few_before_end k (seen.Fills primitive) e b h = same_few e (fills_macro (plain p
 few_before_end k (seen.Moves to) e b h = same_few e (performs to []) h refl
 few_before_end k (seen.Draws to stroke) e b h = let g = then_goes (room_for k (Some (figure_of (Round stroke)))) to e h in few_is e (performs to g.figures) g.is refl
 few_before_end k (seen.Flashes to) e b h = let g = flash_goes k to e h in few_is e (performs to g.figures) g.is refl
-few_before_end k (seen.Extends to) e b h = few_is e (extends to) (extend_is k to e h) refl
+few_before_end k (seen.Extends to) e b h = few_is e (extends to tt) (extend_is k to e h) refl
 few_before_end k (seen.Closes to) e b h = let g = close_is k to e h in few_is e (closes to g.0) g.1 refl
 few_before_end k (seen.Repeats next) e b h = let g = steps_is k next e h in few_is e (steps next g.0) g.1 refl
 few_before_end k seen.Ends e b h = absurd (cc)

@@ -1,9 +1,9 @@
 -- What a command does, or its fault, by what is known before it, where pieces are shapes and contours are straight.
-use Rattle.std.specs.Prelude.{ℕ, ◌+◌, ◌&&◌, ◌||◌, not, ◌==◌, nat_le, nat_lt, Bool, if◌then◌else◌, List, [], ◌∷◌, ◌++◌, length, sum_by, Option, Some, None, is_some, is_none, Result, Ok, Err}
+use Rattle.std.specs.Prelude.{ℕ, ◌&&◌, not, Bool, if◌then◌else◌, List, [], ◌∷◌, ◌++◌, Option, Some, None, is_none, Result, Ok, Err}
 use Rattle.planar.specs.declared.Spot.{Spot}
 use Rattle.lengths.specs.Decimal.{Fraction, other_unit}
 use Rattle.lengths.specs.declared.decimal.Unit.{Unit as Measure}
-use Rattle.board_shapes.specs.Figures.{Figure, round, filled, figure_edges}
+use Rattle.board_shapes.specs.Figures.{Figure, round, filled}
 use Rattle.board_shapes.specs.Pieces.{PlainPiece}
 use Rattle.board_shapes.specs.Pieces as plain
 use Rattle.board_shapes.specs.declared.placed.Room.{Room}

@@ -16,7 +16,7 @@ use Rattle.gerber_layer.specs.declared.macro_kind.FlattenKind.TheVariants.{Gerbe
 use Rattle.gerber_layer.specs.Radii.{radii_after, radii_of, with_radius, with_radius_of}
 use Rattle.gerber_layer.specs.CommandEffects.{Known, Effect, stays, ◌>>=◌, is_finish, kind_of_word, row}
 use Rattle.gerber_reading.specs.Settings.{has_ended}
-use Rattle.gerber_layer.specs.Image.{effect_by, known_by, pieces_after, pieces_by}
+use Rattle.gerber_layer.specs.Image.{pieces_after}
 use Rattle.gerber_layer.specs.Layer.{stop_command}
 use Rattle.gerber_layer.specs.MacroLayer.{flat_place}
 use Rattle.gerber_layer.specs.MacroCommands.{command_with_macros}
@@ -28,6 +28,7 @@ use Rattle.macro_flatten.specs.Laws.{IsFlat, MacroImagesAreFlat}
 use Rattle.macro_flatten.proofs.Images.{image_flat, then_pieces}
 use Rattle.macro_flatten.proofs.Rows.{HasFewRadii, macro_rows, shared_by_macros}
 use Rattle.gerber_reading.specs.declared.TheConstants.{MOST_APERTURES}
+use Rattle.macro_flatten.proofs.Exact.{effect_by, known_by, pieces_by}
 
 -- ---- A pen is twice a radius
 

@@ -6,11 +6,13 @@ use Rattle.gerber_reading.specs.Command.{Command, repeats, opens_region, closes_
 use Rattle.gerber_reading.specs.declared.kind.GerberKind.TheVariants as kind
 use Rattle.gerber_layer.specs.declared.macro_kind.FlattenKind.TheVariants.{Gerber, TooManyRadii}
 use Rattle.gerber_layer.specs.Radii.{radii_of}
-use Rattle.gerber_layer.specs.CommandEffects.{Known, Effect, Profile, ◌>>=◌, concludes, row, effect}
+use Rattle.gerber_layer.specs.CommandEffects.{Known, Effect, ◌>>=◌, concludes, row, effect}
 use Rattle.gerber_layer.specs.MacroTable.{effect_with_macros, few_radii, gerber, macro_row, row_with_macros}
 use Rattle.gerber_layer.proofs.Outcome.{Outcome, bind_ok, outcome, past_test}
 use Rattle.gerber_layer.proofs.MacroOutcome.{outcome_with_macros, gerber_ok}
 use Rattle.gerber_reading.specs.declared.TheConstants.{MOST_APERTURES}
+use Rattle.macro_flatten.proofs.Exact.{Table}
+use Rattle.gerber_layer.specs.CommandEffects.{exact_meaning}
 
 -- the commands that make pieces or change the contour: both tables have one row for each
 abbrev pub IsShared : Command → Type 0
@@ -22,8 +24,8 @@ IsShared ends = Unit {0}
 IsShared other = ⊥
 
 -- what the proofs want of a table
-pub record HasRows {W : Type 0} (f : Profile W) : Type 0 where
-  pub says : (k : Known) (c : Command) (e : Effect) → f k c ≡ Ok e → Outcome k c e
+pub record HasRows {W : Type 0} (f : Table W) : Type 0 where
+  pub says : (k : Known) (c : Command) (e : Effect) → f k c ≡ Ok e → Outcome exact_meaning k c e
   pub shares : (k : Known) (c : Command) (e : Effect) → IsShared c → f k c ≡ Ok e → row k c ≡ Ok e
 
 -- ---- The standard apertures

@@ -40,7 +40,7 @@ pub returns-in-Ok-Some-clause-ok : goal.returns-in-Ok-Some-clause-ok
 returns-in-Ok-Some-clause-ok c =
     let had : contour_of c.args.reader.now.contour ≡ Some (outline_of c.in-Some.contour) = ap contour_of (sym c.take.ensures.value ∙ c.in-Some.is) in
     let closed = rw c.in-Ok-Some.field-0-is at c.in-Ok-Some.ensures in
-    closes_after c.add_piece_in_room.result c.args.reader.now (record (c.args.reader.now) { contour = c.take.new.self; from_first = c.reader-1.given.0 }) c.add_piece_in_room.new.self c.in-Ok-Some.area.points.items refl refl (ap contour_of c.take.ensures.after) refl refl refl refl (ap contour_closed had ∙ sym closed) c.add_piece_in_room.ensures.ok c.add_piece_in_room.ensures.room
+    closes_after c.add_piece_in_room.result c.args.reader.now _ c.add_piece_in_room.new.self c.in-Ok-Some.area.points.items refl refl (ap contour_of c.take.ensures.after) refl refl refl refl (ap contour_closed had ∙ sym closed) c.add_piece_in_room.ensures.ok c.add_piece_in_room.ensures.room
 
 pub returns-in-Ok-Some-clause-halt : goal.returns-in-Ok-Some-clause-halt
 returns-in-Ok-Some-clause-halt c =
