@@ -8,3 +8,5 @@ pub mod Carrying
 pub mod Closed
 pub mod MacroFlash
 pub mod Defined
+pub mod Flashing
+pub mod LawfulAfter
