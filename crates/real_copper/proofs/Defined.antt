@@ -2,18 +2,22 @@
 use Rattle.std.proofs.Common.{◌≡◌, ℕ, ◌≤◌, ◌==◌, Bool, true, false, List, length, Option, Some, None, Result, Ok, Err, cond, refl, sym, ap, subst, ◌∙◌}
 use Rattle.std.specs.Prelude.{IfSome, is_some}
 use Rattle.lengths.specs.declared.decimal.Unit.{Unit as Measure}
-use Rattle.apertures.specs.Definition.{aperture_at, number_digits}
+use Rattle.std.specs.Str.Parse.{digits_value}
+use Rattle.lengths.specs.Decimal.{Fraction}
+use Rattle.aperture_macros.specs.BodyWord.{PlainPrimitive}
+use Rattle.apertures.specs.Definition.{aperture_at, name_of, name_text, number_digits}
 use Rattle.apertures.specs.declared.aperture.Aperture.{Aperture}
 use Rattle.apertures.specs.declared.fault.ApertureFault.{ApertureFault}
 use Rattle.apertures.specs.declared.fault.ApertureFault.TheVariants as fault
 use Rattle.apertures.proofs.Digits.{few_digits}
 use Rattle.gerber_reading.specs.Reader.{Adds, AllFit, AllKeep, HasMacros, KeepsTools, kept_in, macros_in, tool_of}
-use Rattle.gerber_reading.specs.Tools.{Macros}
+use Rattle.gerber_reading.specs.Tools.{Macros, macro_named, parameters_in}
 use Rattle.gerber_reading.specs.declared.dictionary.Dictionary.{Dictionary}
 use Rattle.gerber_reading.specs.declared.tool.Tool.{Tool as Given}
 use Rattle.gerber_reading.specs.declared.tool.Tool.TheVariants as given
 use Rattle.real_copper.specs.Apertures.{real_aperture_at, real_by}
-use Rattle.real_copper.specs.Table.{fits}
+use Rattle.real_copper.specs.Rows.{RealKnown}
+use Rattle.real_copper.specs.Table.{compose, compose_as, fits}
 use Rattle.real_copper.specs.declared.aperture.RealAperture.{RealAperture}
 
 -- ---- The number of an aperture of a macro has at most nine digits
@@ -36,6 +40,15 @@ numbered word unit (Err fault.OutOfRange) h = refl
 
 pub macro_short : (word : List ℕ) (unit : Measure) → real_aperture_at word unit ≡ Err fault.Macro → length (number_digits word) ≤ 9
 macro_short word unit h = few_digits is_numbered refl refl word unit (numbered word unit (aperture_at word unit) h)
+
+-- what an aperture of a macro comes to where the macro and the parameters are there
+pub compose_is : (k : RealKnown) (text word name : List ℕ) (unit : Measure) (body : List PlainPrimitive) (parameters : List Fraction) (n : ℕ) → word ≡ name_text text → name ≡ name_of word → Some body ≡ macro_named k.macros name → Some parameters ≡ parameters_in word → n ≡ digits_value 10 (number_digits text) → compose k text unit ≡ compose_as k n name body parameters unit
+unfolding compose
+compose_is k text word name unit body parameters n a b h p e =
+    let there : name ≡ name_of (name_text text) = b ∙ ap name_of a in
+    let named : macro_named k.macros (name_of (name_text text)) ≡ Some body = sym (h ∙ ap (macro_named k.macros) there) in
+    let read : parameters_in (name_text text) ≡ Some parameters = sym (p ∙ ap parameters_in a) in
+    rw (named, read) (ap (λ (m : ℕ). compose_as k m (name_of (name_text text)) body parameters unit) (sym e) ∙ ap (λ (xs : List ℕ). compose_as k n xs body parameters unit) (sym there))
 
 -- ---- What is right of the apertures of a file
 

@@ -10,3 +10,6 @@ pub mod MacroFlash
 pub mod Defined
 pub mod Flashing
 pub mod LawfulAfter
+pub mod Layers
+pub mod Outcomes
+pub mod Stops

@@ -105,8 +105,33 @@ fn judge(body: &[Primitive], parameters: &[Decimal], unit: Unit) -> Result<(), R
 /// A number and the aperture that it is of.
 pub type Numbered<'a> = (u32, Tool<'a, RealAperture>);
 
+// An aperture of the macro of this name and body.
+#[tactic(auto, unfolding(crate::specs::Table::compose_as))]
+fn compose_as<'a>(
+    reader: &RealReader<'a>,
+    alloc: Global,
+    n: u32,
+    name: &'a [u8],
+    body: &[Primitive],
+    parameters: Vec<Decimal>,
+    unit: Unit,
+) -> Result<Numbered<'a>, Halt<RealKind>>
+    ensures ok { IfOk result (λ made. spec.compose_as (known reader.now) n name.now (body_of body.now) parameters.items unit ≡ Ok (makes made.0 (tool_of made.1))) }
+    ensures new { IfOk result (λ made. defined_in reader.now.dictionary made.0 ≡ None) }
+    ensures fit { IfOk result (λ made. fits (macros_in reader.now.dictionary) made.1) }
+    ensures halt { IfErr result (Stops (spec.compose_as (known reader.now) n name.now (body_of body.now) parameters.items unit)) }
+{
+    if let Err(kind) = reader.judge_number(n) {
+        return Err(Halt::Fault(gerber(kind)));
+    }
+    match judge(body, &parameters, unit) {
+        Ok(()) => Ok((n, Tool::Composed(name, parameters, unit, Vec::new(alloc)))),
+        Err(kind) => Err(Halt::Fault(kind)),
+    }
+}
+
 // An aperture of a macro.
-#[tactic(auto, unfolding(crate::specs::Table::compose, crate::specs::Table::compose_as))]
+#[tactic(auto, unfolding(crate::specs::Table::compose))]
 fn compose<'a>(
     reader: &RealReader<'a>,
     alloc: Global,
@@ -130,14 +155,7 @@ fn compose<'a>(
     let Some(given) = given else {
         return Err(flattened(FlattenKind::BadMacro));
     };
-    let n = number(text);
-    if let Err(kind) = reader.judge_number(n) {
-        return Err(Halt::Fault(gerber(kind)));
-    }
-    if let Err(kind) = judge(body, &given, unit) {
-        return Err(Halt::Fault(kind));
-    }
-    Ok((n, Tool::Composed(name, given, unit, Vec::new(alloc))))
+    compose_as(reader, alloc, number(text), name, body, given, unit)
 }
 
 // What an `AD` word defines.
