@@ -1,13 +1,16 @@
 -- The edges of a contour, as they are kept and as plain data: where they end, and that each is within 1 m.
-use Rattle.std.proofs.Common.{◌≡◌, ◌∙◌, ℕ, ◌≤◌, ◌<◌, zero, suc, Bool, true, ◌&&◌, List, [], ◌∷◌, map, length, refl, ap, arith}
-use Rattle.std.specs.Prelude.{All, Option, Some, None, slice_index_or}
+use Rattle.std.proofs.Common.{◌≡◌, ◌∙◌, ℕ, ◌≤◌, ◌<◌, ◌-◌, zero, suc, Bool, true, ◌&&◌, List, [], ◌∷◌, ◌++◌, map, length, refl, ap, arith}
+use Rattle.std.specs.Prelude.{All, Option, Some, None, slice_get, slice_index_or}
 use Rattle.std.specs.List.{list_all}
 use Rattle.std.proofs.lemmas.List.{length-map}
 use Rattle.planar.specs.Plane.{IsPlaced, is_placed, same_spot}
 use Rattle.planar.specs.declared.Spot.{Spot}
 use Rattle.planar.proofs.Spots.{spot_is}
 use Rattle.area_contact.specs.Contour.{IsClosed, end_from}
-use Rattle.regions.specs.Contours.{leg_of}
+use Rattle.regions.specs.Contours.{Outline, leg_of}
+use Rattle.gerber_reading.specs.Reader.{AllKeep}
+use Rattle.gerber_reading.specs.Settings.{lengthened}
+use Rattle.std.proofs.lemmas.List.Elements.{All-append, All-cons, All-nil}
 use Rattle.regions.specs.declared.contour.Leg.{Leg as Seen}
 use Rattle.arc_regions.specs.declared.Part.{Part}
 use Rattle.real_copper.specs.Contours.{Edge, end_of, end_of_edge, part_by, part_of}
@@ -48,3 +51,18 @@ all_ends (l ∷ ls) h = all_first l.to (map end_of_edge (map leg_of ls)) (h 0 l 
 
 pub placed_points : (first : Spot) (ls : List (Seen (Option Bend))) (points : List Spot) → points ≡ first ∷ map end_of_edge (map leg_of ls) → IsPlaced first → All (λ (l : Seen (Option Bend)). IsPlaced l.to) ls → All IsPlaced points
 placed_points first ls points e h k = rw e (all_first first (map end_of_edge (map leg_of ls)) h (all_ends ls k))
+
+-- the last of them ends where they end
+pub last_end : (p : Spot) (ls : List (Seen (Option Bend))) (l : Seen (Option Bend)) → Some l ≡ slice_get ls (length ls - 1) → l.to ≡ end_of p (map leg_of ls)
+last_end p [] l h = absurd cc
+last_end p (a ∷ []) l h = let e : l ≡ a = cc in ap (λ (s : Seen (Option Bend)). s.to) e
+last_end p (a ∷ (b ∷ ls)) l h =
+    let e : length (a ∷ (b ∷ ls)) - 1 ≡ suc (length (b ∷ ls) - 1) = omega arith in
+    last_end a.to (b ∷ ls) l (rw e at h)
+
+-- bends are near, of a contour that is an edge longer too
+pub bends_longer : (o : Option (Outline (Option Bend))) (from to : Spot) (bend : Option Bend) → AllKeep IsNearBend o → IsNearBend bend → AllKeep IsNearBend (lengthened o from to bend)
+bends_longer None from to bend h k = All-cons (λ (l : Edge). IsNearBend l.bend) (record { to = to; bend = bend }) [] k (All-nil (λ (l : Edge). IsNearBend l.bend))
+bends_longer (Some o) from to bend h k =
+    All-append (λ (l : Edge). IsNearBend l.bend) o.legs (record { to = to; bend = bend } ∷ []) h
+    (All-cons (λ (l : Edge). IsNearBend l.bend) (record { to = to; bend = bend }) [] k (All-nil (λ (l : Edge). IsNearBend l.bend)))

@@ -10,7 +10,7 @@ use Rattle.area_contact.specs.declared.TheConstants.{MOST_CONTOUR_EDGES}
 use Rattle.board_shapes.specs.Pieces.{PieceOf}
 use Rattle.file_reading.specs.Conditions.{◌>>=◌, unless, needed}
 use Rattle.gerber_reading.specs.Command.{Bending}
-use Rattle.gerber_reading.specs.CommandEffects.{Effect, Known, closes, code_of, concludes, edges_for, edges_in, ended_block_by, exceed, extends, is_drawing, leaves, listed, next_block, performs, room_for, room_for_all, selected, steps, target}
+use Rattle.gerber_reading.specs.CommandEffects.{Effect, Known, closes, code_of, concludes, edges_for, edges_in, ended_block_by, exceed, extends, is_drawing, leaves, listed, next_block, opens, performs, room_for, room_for_all, selected, steps, target}
 use Rattle.gerber_reading.specs.Tools.{Tool, composed, macro_named, standard}
 use Rattle.gerber_reading.specs.declared.command.Code.{Code}
 use Rattle.gerber_reading.specs.declared.command.Code.TheVariants.{Draw, Move, Flash}
@@ -138,10 +138,18 @@ perform_in_region k Flash b to = Err (gerber kind.NotInRegion)
 
 -- ---- Operations
 
+-- by whether a region is open
+abbrev pub operate_at : RealKnown → Code → Bending → Spot → Result RealEffect RealKind
+operate_at k code b to = if k.settings.region then perform_in_region k code b to else perform k code b to
+
 unfoldable pub operate : RealKnown → Option (List ℕ) → Option (List ℕ) → Option Code → Bending → Result RealEffect RealKind
 operate k x y code b =
     unless (is_none code && not (is_drawing k.settings.last)) (gerber kind.NoOperation) (as_real (target k.settings x y) >>= λ to.
-    (if k.settings.region then perform_in_region k (code_of code) b to else perform k (code_of code) b to))
+    operate_at k (code_of code) b to)
+
+-- the row of `G36`
+abbrev pub enter : RealKnown → Result RealEffect RealKind
+enter k = unless k.settings.region (gerber kind.NotInRegion) (Ok opens)
 
 -- the row of `G37`
 unfoldable pub leave : RealKnown → Result RealEffect RealKind

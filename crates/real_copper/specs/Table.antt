@@ -32,7 +32,7 @@ use Rattle.real_copper.specs.Arcs.{as_real, bend_of}
 use Rattle.real_copper.specs.Figures.{RealFigure}
 use Rattle.real_copper.specs.Kinds.{gerber}
 use Rattle.real_copper.specs.Primitives.{primitive_figure}
-use Rattle.real_copper.specs.Rows.{RealEffect, RealKnown, end, leave, operate, repeat}
+use Rattle.real_copper.specs.Rows.{RealEffect, RealKnown, end, enter, leave, operate, repeat}
 use Rattle.real_copper.specs.Words.{real_command}
 use Rattle.real_copper.specs.declared.aperture.RealAperture.{RealAperture}
 use Rattle.real_copper.specs.declared.draw.Bend.{Bend}
@@ -108,7 +108,7 @@ row k (quarters quadrants) = Ok stays
 -- 4.8, D01, D02 and D03
 row k (operates x y code b) = operate k x y code b
 -- 4.10, G36
-row k opens_region = unless k.settings.region (gerber kind.NotInRegion) (Ok opens)
+row k opens_region = enter k
 -- 4.10, G37
 row k closes_region = leave k
 -- 4.12, SR
@@ -143,17 +143,10 @@ real_table = record { does = effect; means = record { edge = real_edge; aperture
 abbrev pub real : Dialect RealFigure (Option Bend) RealAperture RealKind
 real = record { command = real_command; table = real_table }
 
--- a primitive that is marked has no image with these parameters
-abbrev pub IsBlank : PlainPrimitive → List Fraction → Measure → Type 0
-IsBlank p parameters unit = (at : Spot) → primitive_figure p parameters unit at ≡ Ok None
-
-abbrev pub AreBlank : List PlainPrimitive → List Fraction → Measure → List Bool → Type 0
-AreBlank body parameters unit marks = (i : ℕ) → get_or marks i false ≡ true → IsSomeAnd (slice_get body i) (λ p. IsBlank p parameters unit)
-
--- what is right of an aperture that is defined
+-- What is right of an aperture that is defined.
 abbrev pub fits : Macros → Given RealAperture → Type 0
 fits m (given.Standard a) = IsLawful a
-fits m (given.Composed name parameters unit marks) = IsSomeAnd (macro_named m name.now) (λ body. AreBlank body parameters.items unit marks.items)
+fits m (given.Composed name parameters unit marks) = Unit {0}
 
 -- ---- A file
 

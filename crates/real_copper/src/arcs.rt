@@ -12,7 +12,6 @@ ghost use Rattle.std.specs.Prelude.{◌≡◌, ◌≤◌, pos, IfOk, Some};
 use crate::centres::{Draw, moved};
 use crate::draw::Bend;
 use crate::kind::{RealKind, gerber};
-
 use gerber_layer::is_number_if;
 use gerber_reading::{Bending, Curve, Format, GerberKind, Here, Quadrants, Settings, coordinate};
 use lengths::decimal::Unit;
@@ -98,7 +97,12 @@ fn are_numbers(offsets: &Bending) -> bool
 
 /// The bend of an arc.
 #[tactic(auto, unfolding(crate::specs::Arcs::arc_to))]
-fn arc_to(settings: &Settings, offsets: &Bending, clockwise: bool, to: Spot) -> Result<Option<Bend>, RealKind>
+fn arc_to(
+    settings: &Settings,
+    offsets: &Bending,
+    clockwise: bool,
+    to: Spot,
+) -> Result<Option<Bend>, RealKind>
     requires lawful { AreLawfulSettings settings.now }
     requires to { IsPlaced to }
     ensures value { result ≡ spec.arc_to settings.now (bending_of offsets.now) clockwise to }
@@ -142,7 +146,12 @@ pub fn no_arc(offsets: &Bending) -> Result<Option<Bend>, RealKind>
     }
 }
 
-fn bend_by(curve: Curve, settings: &Settings, offsets: &Bending, to: Spot) -> Result<Option<Bend>, RealKind>
+fn bend_by(
+    curve: Curve,
+    settings: &Settings,
+    offsets: &Bending,
+    to: Spot,
+) -> Result<Option<Bend>, RealKind>
     requires lawful { AreLawfulSettings settings.now }
     requires to { IsPlaced to }
     ensures value { result ≡ spec.bend_by curve settings.now (bending_of offsets.now) to }

@@ -1,12 +1,14 @@
 //! Operations in regions (Gerber Layer Format Specification, 4.10).
 ghost use Rattle.gerber_reading.specs.Command.{bending_of};
 ghost use Rattle.gerber_reading.specs.Reader.{Stops};
+ghost use Rattle.gerber_reading.specs.declared.command.Code.TheVariants as code;
 ghost use Rattle.planar.specs.Plane.{IsPlaced};
+ghost use Rattle.planar.specs.declared.Spot.{Spot as To};
 ghost use Rattle.real_copper.specs.Contours.{end_of as end_from};
-ghost use Rattle.real_copper.specs.RealReader.{Carried, Closes, IsCounted, IsLawful, known};
+ghost use Rattle.real_copper.specs.RealReader.{Closes, HasObeyed, IsCounted, IsLawful, IsRight, known};
 ghost use Rattle.real_copper.specs.Rows as spec;
 ghost use Rattle.regions.specs.Contours.{outline_of};
-ghost use Rattle.std.specs.Prelude.{IfErr, OnOk, ◌≡◌, ◌+◌, ◌<◌, ◌^◌};
+ghost use Rattle.std.specs.Prelude.{IfErr, None, OnOk, Some, ◌≡◌, ◌+◌, ◌<◌, ◌^◌};
 
 use crate::arcs::bend_of;
 use crate::contours::area_of;
@@ -70,8 +72,8 @@ fn extend(
 ) -> Result<(), Halt<RealKind>>
     requires lawful { IsLawful reader.old }
     requires placed { IsPlaced to }
-    ensures ok { OnOk result (Carried reader.old (spec.extend (known reader.old) (bending_of bending.now) to) reader.new) }
-    ensures counted { OnOk result (IsCounted reader.new) }
+    ensures ok { OnOk result (HasObeyed reader.old (spec.extend (known reader.old) (bending_of bending.now) to) (Some to) None reader.new) }
+    ensures right { OnOk result (IsRight reader.new) }
     ensures halt { IfErr result (Stops (spec.extend (known reader.old) (bending_of bending.now) to)) }
 {
     let edges = reader.contour_edges();
@@ -87,6 +89,20 @@ fn extend(
     }
 }
 
+// Closes the contour, so that another may begin.
+fn begin(reader: &mut RealReader, alloc: Global, bending: &Bending) -> Result<(), Halt<RealKind>>
+    requires few { reader.old.commands + 1 < 2 ^ 32 }
+    requires lawful { IsLawful reader.old }
+    ensures ok { (to : To) → OnOk result (HasObeyed reader.old (spec.perform_in_region (known reader.old) code.Move (bending_of bending.now) to) (Some to) None reader.new) }
+    ensures right { OnOk result (IsRight reader.new) }
+    ensures halt { (to : To) → IfErr result (Stops (spec.perform_in_region (known reader.old) code.Move (bending_of bending.now) to)) }
+{
+    match close(reader, alloc) {
+        Ok(()) => without_offsets(bending),
+        Err(halt) => Err(halt),
+    }
+}
+
 /// Performs an operation in a region.
 #[tactic(auto, unfolding(crate::specs::Rows::perform_in_region))]
 pub fn perform_in_region(
@@ -99,16 +115,13 @@ pub fn perform_in_region(
     requires few { reader.old.commands + 1 < 2 ^ 32 }
     requires lawful { IsLawful reader.old }
     requires placed { IsPlaced to }
-    ensures ok { OnOk result (Carried reader.old (spec.perform_in_region (known reader.old) code (bending_of bending.now) to) reader.new) }
-    ensures counted { OnOk result (IsCounted reader.new) }
+    ensures ok { OnOk result (HasObeyed reader.old (spec.perform_in_region (known reader.old) code (bending_of bending.now) to) (Some to) None reader.new) }
+    ensures right { OnOk result (IsRight reader.new) }
     ensures halt { IfErr result (Stops (spec.perform_in_region (known reader.old) code (bending_of bending.now) to)) }
 {
     match code {
         Code::Draw => extend(reader, alloc, bending, to),
-        Code::Move => {
-            close(reader, alloc)?;
-            without_offsets(bending)
-        },
+        Code::Move => begin(reader, alloc, bending),
         Code::Flash => Err(Halt::Fault(gerber(GerberKind::NotInRegion))),
     }
 }

@@ -12,10 +12,10 @@ use crate::draw::Bend;
 use crate::flashes::plain;
 use arc_regions::{Bend as Curve, Part, Region};
 use board_shapes::Shape;
-use regions::{Contour, Leg};
 use lengths::rows::NoMemory;
 use planar::Spot;
 use real_shapes::RealShape;
+use regions::{Contour, Leg};
 use std::alloc::Global;
 
 /// An edge: where it ends, with its bend or straight.

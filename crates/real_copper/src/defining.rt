@@ -1,13 +1,13 @@
 //! Definitions of apertures and macros (Gerber Layer Format Specification, 4.3 and 4.5).
-ghost use Rattle.aperture_macros.specs.Seen.{plain as plain_primitive};
-ghost use Rattle.gerber_reading.specs.Reader.{Stops, body_of, macros_in, tool_of};
-ghost use Rattle.gerber_reading.specs.Tools.{macro_named};
+ghost use Rattle.gerber_layer.specs.MacroTable.{is_reserved};
 ghost use Rattle.gerber_reading.specs.CommandEffects.{makes};
-ghost use Rattle.real_copper.specs.Arcs.{as_real};
-ghost use Rattle.real_copper.specs.RealReader.{Carried, Seen, known};
+ghost use Rattle.gerber_reading.specs.Reader.{Stops, body_of, defined_in, macros_in, tool_of};
+ghost use Rattle.gerber_reading.specs.Tools.{macro_named};
+ghost use Rattle.real_copper.specs.Apertures.{real_aperture_at};
+ghost use Rattle.real_copper.specs.RealReader.{HasObeyed, IsLawful, IsRight, Seen, known};
 ghost use Rattle.real_copper.specs.Table as spec;
-ghost use Rattle.real_copper.specs.Table.{AreBlank, fits};
-ghost use Rattle.std.specs.Prelude.{IfErr, IfOk, Ok, OnOk, ◌≡◌};
+ghost use Rattle.real_copper.specs.Table.{fits};
+ghost use Rattle.std.specs.Prelude.{Err, IfErr, IfOk, None, Ok, OnOk, ◌≡◌};
 
 use crate::aperture::RealAperture;
 use crate::definitions::read_real_aperture;
@@ -24,7 +24,7 @@ use texts::{before_byte, is_word};
 
 // A name that is none, or that of a standard aperture.
 fn is_reserved(name: &[u8]) -> bool
-    ensures { result ≡ spec.is_reserved name.now }
+    ensures { result ≡ is_reserved name.now }
 {
     if name.is_empty() {
         return true;
@@ -45,8 +45,9 @@ pub fn name_macro<'a>(
     alloc: Global,
     name: &'a [u8],
 ) -> Result<(), Halt<RealKind>>
-    ensures ok { OnOk result (Carried reader.old (spec.name_macro (known reader.old) name.now) reader.new) }
-    ensures edges { reader.new.edges ≡ reader.old.edges }
+    requires lawful { IsLawful reader.old }
+    ensures ok { OnOk result (HasObeyed reader.old (spec.name_macro (known reader.old) name.now) None None reader.new) }
+    ensures right { OnOk result (IsRight reader.new) }
     ensures halt { IfErr result (Stops (spec.name_macro (known reader.old) name.now)) }
 {
     if is_reserved(name) {
@@ -64,8 +65,9 @@ pub fn name_macro<'a>(
 /// A word of a macro's body.
 #[tactic(auto, unfolding(crate::specs::Table::fill_macro))]
 pub fn fill_macro<'a>(reader: &mut RealReader<'a>, text: &'a [u8]) -> Result<(), Halt<RealKind>>
-    ensures ok { OnOk result (Carried reader.old (spec.fill_macro (known reader.old) text.now) reader.new) }
-    ensures edges { reader.new.edges ≡ reader.old.edges }
+    requires lawful { IsLawful reader.old }
+    ensures ok { OnOk result (HasObeyed reader.old (spec.fill_macro (known reader.old) text.now) None None reader.new) }
+    ensures right { OnOk result (IsRight reader.new) }
     ensures halt { IfErr result (Stops (spec.fill_macro (known reader.old) text.now)) }
 {
     let room = reader.dictionary.has_room();
@@ -87,43 +89,58 @@ pub fn fill_macro<'a>(reader: &mut RealReader<'a>, text: &'a [u8]) -> Result<(),
     }
 }
 
-// Judges the primitives of a macro with parameters, and marks those that have no image with them.
+// Judges the primitives of a macro with parameters.
 #[tactic(auto, unfolding(crate::specs::Table::all_judged))]
-fn judge(
-    alloc: Global,
-    body: &[Primitive],
-    parameters: &[Decimal],
-    unit: Unit,
-) -> Result<Vec<bool>, Halt<RealKind>>
-    ensures ok { IfOk result (λ marks. spec.all_judged (body_of body.now) parameters.now unit ≡ Ok tt) }
-    ensures blank { IfOk result (λ marks. AreBlank (body_of body.now) parameters.now unit marks.items) }
-    ensures halt { IfErr result (Stops (spec.as_macro (spec.all_judged (body_of body.now) parameters.now unit))) }
+fn judge(body: &[Primitive], parameters: &[Decimal], unit: Unit) -> Result<(), RealKind>
+    ensures { result ≡ spec.as_macro (spec.all_judged (body_of body.now) parameters.now unit) }
 {
-    let mut marks = Vec::new(alloc);
     for primitive in body {
-        let has_image = match primitive.has_image(Copper::Real, parameters, unit) {
-            Ok(has_image) => has_image,
-            Err(fault) => return Err(flattened(FlattenKind::from(fault))),
-        };
-        if let Err(_) = marks.push(!has_image) {
-            return Err(Halt::NoMemory);
+        if let Err(fault) = primitive.judge(Copper::Real, parameters, unit) {
+            return Err(RealKind::Copper(FlattenKind::from(fault)));
         }
     }
-    Ok(marks)
+    Ok(())
 }
 
 /// A number and the aperture that it is of.
 pub type Numbered<'a> = (u32, Tool<'a, RealAperture>);
 
+// An aperture of the macro of this name and body.
+#[tactic(auto, unfolding(crate::specs::Table::compose_as))]
+fn compose_as<'a>(
+    reader: &RealReader<'a>,
+    alloc: Global,
+    n: u32,
+    name: &'a [u8],
+    body: &[Primitive],
+    parameters: Vec<Decimal>,
+    unit: Unit,
+) -> Result<Numbered<'a>, Halt<RealKind>>
+    ensures ok { IfOk result (λ made. spec.compose_as (known reader.now) n name.now (body_of body.now) parameters.items unit ≡ Ok (makes made.0 (tool_of made.1))) }
+    ensures new { IfOk result (λ made. defined_in reader.now.dictionary made.0 ≡ None) }
+    ensures fit { IfOk result (λ made. fits (macros_in reader.now.dictionary) made.1) }
+    ensures halt { IfErr result (Stops (spec.compose_as (known reader.now) n name.now (body_of body.now) parameters.items unit)) }
+{
+    if let Err(kind) = reader.judge_number(n) {
+        return Err(Halt::Fault(gerber(kind)));
+    }
+    match judge(body, &parameters, unit) {
+        Ok(()) => Ok((n, Tool::Composed(name, parameters, unit, Vec::new(alloc)))),
+        Err(kind) => Err(Halt::Fault(kind)),
+    }
+}
+
 // An aperture of a macro.
-#[tactic(auto, unfolding(crate::specs::Table::compose, crate::specs::Table::compose_as))]
+#[tactic(auto, unfolding(crate::specs::Table::compose))]
 fn compose<'a>(
     reader: &RealReader<'a>,
     alloc: Global,
     text: &'a [u8],
     unit: Unit,
 ) -> Result<Numbered<'a>, Halt<RealKind>>
+    requires of_macro { real_aperture_at text.now unit ≡ Err ApertureFault.Macro }
     ensures ok { IfOk result (λ made. spec.compose (known reader.now) text.now unit ≡ Ok (makes made.0 (tool_of made.1))) }
+    ensures new { IfOk result (λ made. defined_in reader.now.dictionary made.0 ≡ None) }
     ensures fit { IfOk result (λ made. fits (macros_in reader.now.dictionary) made.1) }
     ensures halt { IfErr result (Stops (spec.compose (known reader.now) text.now unit)) }
 {
@@ -138,12 +155,7 @@ fn compose<'a>(
     let Some(given) = given else {
         return Err(flattened(FlattenKind::BadMacro));
     };
-    let n = number(text);
-    if let Err(kind) = reader.judge_number(n) {
-        return Err(Halt::Fault(gerber(kind)));
-    }
-    let marks = judge(alloc, body, &given, unit)?;
-    Ok((n, Tool::Composed(name, given, unit, marks)))
+    compose_as(reader, alloc, number(text), name, body, given, unit)
 }
 
 // What an `AD` word defines.
@@ -154,6 +166,7 @@ fn defined<'a>(
     text: &'a [u8],
 ) -> Result<Numbered<'a>, Halt<RealKind>>
     ensures ok { IfOk result (λ made. spec.define (known reader.now) text.now ≡ Ok (makes made.0 (tool_of made.1))) }
+    ensures new { IfOk result (λ made. defined_in reader.now.dictionary made.0 ≡ None) }
     ensures fit { IfOk result (λ made. fits (macros_in reader.now.dictionary) made.1) }
     ensures halt { IfErr result (Stops (spec.define (known reader.now) text.now)) }
 {
@@ -176,8 +189,9 @@ pub fn define<'a>(
     alloc: Global,
     text: &'a [u8],
 ) -> Result<(), Halt<RealKind>>
-    ensures ok { OnOk result (Carried reader.old (spec.define (known reader.old) text.now) reader.new) }
-    ensures edges { reader.new.edges ≡ reader.old.edges }
+    requires lawful { IsLawful reader.old }
+    ensures ok { OnOk result (HasObeyed reader.old (spec.define (known reader.old) text.now) None None reader.new) }
+    ensures right { OnOk result (IsRight reader.new) }
     ensures halt { IfErr result (Stops (spec.define (known reader.old) text.now)) }
 {
     let (n, tool) = defined(reader, alloc, text)?;

@@ -1,18 +1,18 @@
 //! Draws and flashes outside regions (Gerber Layer Format Specification, 4.4, 4.5 and 4.8).
 ghost use Rattle.apertures.specs.Flash.{IsNarrow};
 ghost use Rattle.gerber_reading.specs.Command.{bending_of};
-ghost use Rattle.gerber_reading.specs.Reader.{Stops, body_of, macros_in};
+ghost use Rattle.gerber_reading.specs.CommandEffects.{listed};
+ghost use Rattle.gerber_reading.specs.Image.{made};
+ghost use Rattle.gerber_reading.specs.Reader.{Stops, body_of, macros_in, place_of};
 ghost use Rattle.gerber_reading.specs.Tools.{macro_named, standard};
+ghost use Rattle.step_repeat.specs.Copies.{pieces_by};
 ghost use Rattle.planar.specs.Plane.{IsPlaced};
 ghost use Rattle.real_copper.specs.Apertures.{IsLawful as IsLawfulAperture};
-ghost use Rattle.aperture_macros.specs.Seen.{plain as plain_primitive};
 ghost use Rattle.real_copper.specs.Arcs as spec_arcs;
-ghost use Rattle.real_copper.specs.Flashed.{Makes};
-ghost use Rattle.real_copper.specs.Primitives.{primitive_figure};
-ghost use Rattle.real_copper.specs.RealReader.{Carried, Flashed, IsCounted, IsFlashed, IsLawful, halt_of, known, seen_stroke};
+ghost use Rattle.real_copper.specs.Flashed.{option_figure};
+ghost use Rattle.real_copper.specs.RealReader.{Flashed, HasObeyed, IsCounted, IsFlashed, IsLawful, IsRight, KeepsRest, figure_halt, halt_of, known, plain, seen_stroke};
 ghost use Rattle.real_copper.specs.Rows as spec;
-ghost use Rattle.real_copper.specs.Table.{AreBlank, IsBlank};
-ghost use Rattle.std.specs.Prelude.{IfErr, IfOk, IfSome, IsSomeAnd, None, Ok, OnOk, false, get_or, length, true, ◌≡◌, ◌+◌, ◌<◌, ◌^◌};
+ghost use Rattle.std.specs.Prelude.{IfErr, IfOk, IfSome, None, Ok, OnOk, Some, length, ◌≡◌, ◌+◌, ◌++◌, ◌<◌, ◌^◌};
 
 use crate::anchored::Anchored;
 use crate::aperture::RealAperture;
@@ -87,8 +87,8 @@ fn draw(reader: &mut RealReader, bending: &Bending, to: Spot) -> Result<(), Halt
     requires few { reader.old.commands + 1 < 2 ^ 32 }
     requires lawful { IsLawful reader.old }
     requires placed { IsPlaced to }
-    ensures ok { OnOk result (Carried reader.old (spec.draw (known reader.old) (bending_of bending.now) to) reader.new) }
-    ensures counted { OnOk result (IsCounted reader.new) }
+    ensures ok { OnOk result (HasObeyed reader.old (spec.draw (known reader.old) (bending_of bending.now) to) (Some to) None reader.new) }
+    ensures keeps { OnOk result (KeepsRest reader.old reader.new) }
     ensures halt { IfErr result (Stops (spec.draw (known reader.old) (bending_of bending.now) to)) }
 {
     match stroke(reader, bending, to) {
@@ -101,27 +101,15 @@ fn draw(reader: &mut RealReader, bending: &Bending, to: Spot) -> Result<(), Halt
     }
 }
 
-// A flash of a standard aperture.
-fn flash_standard(
-    reader: &mut RealReader,
-    alloc: Global,
-    aperture: RealAperture,
-    to: Spot,
-) -> Result<(), Halt<RealKind>>
+// Takes the figure of a flash on, if there is room for one piece more and for its edges.
+#[tactic(auto, unfolding(gerber_reading::specs::CommandEffects::room_for, gerber_reading::specs::CommandEffects::edges_for))]
+fn add_flash(reader: &mut RealReader, figure: Anchored) -> Result<(), Halt<RealKind>>
     requires few { reader.old.commands + 1 < 2 ^ 32 }
     requires counted { IsCounted reader.old }
-    requires lawful { IsLawfulAperture aperture }
-    requires placed { IsPlaced to }
-    ensures ok { OnOk result (Flashed reader.old (spec.flash_with (known reader.old) (standard aperture) to) reader.new) }
-    ensures counted { OnOk result (IsCounted reader.new) }
-    ensures halt { IfErr result (Stops (spec.flash_with (known reader.old) (standard aperture) to)) }
+    ensures ok { OnOk result (Flashed reader.old (spec.flash_in_room (known reader.old) (Some (plain figure))) reader.new) }
+    ensures keeps { OnOk result (KeepsRest reader.old reader.new) }
+    ensures halt { IfErr result (Stops (spec.flash_in_room (known reader.old) (Some (plain figure)))) }
 {
-    let figure = match flash(alloc, aperture, to) {
-        Ok(Some(figure)) => figure,
-        Ok(None) => return Ok(()),
-        Err(FlashFault::OutOfRange) => return Err(Halt::Fault(gerber(GerberKind::OutOfRange))),
-        Err(FlashFault::NoMemory) => return Err(Halt::NoMemory),
-    };
     if reader.is_full() {
         return Err(Halt::Fault(gerber(GerberKind::TooManyPieces)));
     }
@@ -134,75 +122,91 @@ fn flash_standard(
     }
 }
 
-fn is_marked(marks: &[bool], i: usize) -> bool
-    ensures { result ≡ get_or marks.now i false }
-{
-    match marks.get(i) {
-        Some(mark) => *mark,
-        None => false,
-    }
-}
-
-// What a primitive flashes, which is nothing where it has no image.
-fn figure_unless(
+// A flash of a standard aperture.
+#[tactic(auto, unfolding(crate::specs::Rows::flash_with, gerber_reading::specs::CommandEffects::room_for, gerber_reading::specs::CommandEffects::edges_for))]
+fn flash_standard(
+    reader: &mut RealReader,
     alloc: Global,
-    blank: bool,
-    primitive: &Primitive,
-    parameters: &[Decimal],
-    unit: Unit,
+    aperture: RealAperture,
     to: Spot,
-) -> Result<Option<Anchored>, FigureFault>
-    requires blank { blank ≡ true → IsBlank (plain_primitive primitive.now) parameters.now unit }
+) -> Result<(), Halt<RealKind>>
+    requires few { reader.old.commands + 1 < 2 ^ 32 }
+    requires counted { IsCounted reader.old }
+    requires lawful { IsLawfulAperture aperture }
     requires placed { IsPlaced to }
-    ensures { Makes result (primitive_figure (plain_primitive primitive.now) parameters.now unit to) }
+    ensures ok { OnOk result (Flashed reader.old (spec.flash_with (known reader.old) (standard aperture) to) reader.new) }
+    ensures keeps { OnOk result (KeepsRest reader.old reader.new) }
+    ensures halt { IfErr result (Stops (spec.flash_with (known reader.old) (standard aperture) to)) }
 {
-    if blank {
-        return Ok(None);
+    match flash(alloc, aperture, to) {
+        Ok(Some(figure)) => add_flash(reader, figure),
+        Ok(None) => Ok(()),
+        Err(FlashFault::OutOfRange) => Err(Halt::Fault(gerber(GerberKind::OutOfRange))),
+        Err(FlashFault::NoMemory) => Err(Halt::NoMemory),
     }
-    primitive_at(alloc, primitive, parameters, unit, to)
 }
 
-// The pieces that the primitives of a macro flash, in order. One that is marked has no image with these parameters.
+// What stops the reader where a primitive has no figure: its lengths were judged before.
+fn halt_of_figure(fault: FigureFault) -> Halt<RealKind>
+    ensures { result ≡ figure_halt fault }
+{
+    match fault {
+        FigureFault::Macro(_) => Halt::Fault(gerber(GerberKind::OutOfRange)),
+        FigureFault::NoMemory => Halt::NoMemory,
+    }
+}
+
+// A piece of the next command more, if there is a figure.
+fn push_figure(
+    reader: &RealReader,
+    figure: Option<Anchored>,
+    pieces: &mut Vec<Placed<Anchored>>,
+) -> Result<(), Halt<RealKind>>
+    requires few { reader.now.commands + 1 < 2 ^ 32 }
+    ensures ok { OnOk result (pieces_by plain pieces.new.items ≡ pieces_by plain pieces.old.items ++ made (place_of reader.now) (reader.now.commands + 1) (listed (option_figure figure))) }
+    ensures halt { IfErr result (λ h. h ≡ Halt.NoMemory) }
+{
+    let Some(shape) = figure else {
+        return Ok(());
+    };
+    let origin = Origin {
+        file: reader.file,
+        command: reader.commands + 1,
+        copy: 0,
+    };
+    let piece = Placed {
+        shape,
+        top: reader.layer,
+        bottom: reader.layer,
+        origin,
+    };
+    match pieces.push(piece) {
+        Ok(()) => Ok(()),
+        Err(_) => Err(Halt::NoMemory),
+    }
+}
+
+// The pieces that the primitives of a macro flash, in order.
 fn macro_pieces(
     reader: &RealReader,
     alloc: Global,
     body: &[Primitive],
     parameters: &[Decimal],
     unit: Unit,
-    marks: &[bool],
     to: Spot,
 ) -> Result<Vec<Placed<Anchored>>, Halt<RealKind>>
     requires few { reader.now.commands + 1 < 2 ^ 32 }
-    requires blank { AreBlank (body_of body.now) parameters.now unit marks.now }
     requires placed { IsPlaced to }
     ensures ok { IfOk result (λ pieces. IsFlashed reader.now (spec.all_flashed (spec.figures_of (body_of body.now) parameters.now unit to)) pieces.items) }
     ensures halt { IfErr result (Stops (spec.all_flashed (spec.figures_of (body_of body.now) parameters.now unit to))) }
 {
-    let origin = Origin {
-        file: reader.file,
-        command: reader.commands + 1,
-        copy: 0,
-    };
     let mut pieces = Vec::new(alloc);
-    for (i, primitive) in body.iter().enumerate() {
-        let blank = is_marked(marks, i);
-        let shape = match figure_unless(alloc, blank, primitive, parameters, unit, to) {
-            Ok(Some(shape)) => shape,
-            Ok(None) => continue,
-            Err(FigureFault::Macro(_)) => {
-                return Err(Halt::Fault(gerber(GerberKind::OutOfRange)));
-            },
-            Err(FigureFault::NoMemory) => return Err(Halt::NoMemory),
+    for primitive in body {
+        let figure = match primitive_at(alloc, primitive, parameters, unit, to) {
+            Ok(figure) => figure,
+            Err(fault) => return Err(halt_of_figure(fault)),
         };
-        let piece = Placed {
-            shape,
-            top: reader.layer,
-            bottom: reader.layer,
-            origin,
-        };
-        if let Err(_) = pieces.push(piece) {
-            return Err(Halt::NoMemory);
-        }
+        push_figure(reader, figure, &mut pieces)?;
     }
     Ok(pieces)
 }
@@ -214,28 +218,27 @@ fn composed_pieces(
     name: &[u8],
     parameters: &[Decimal],
     unit: Unit,
-    marks: &[bool],
     to: Spot,
 ) -> Result<Vec<Placed<Anchored>>, Halt<RealKind>>
     requires few { reader.now.commands + 1 < 2 ^ 32 }
-    requires blank { IsSomeAnd (macro_named (macros_in reader.now.dictionary) name.now) (λ body. AreBlank body parameters.now unit marks.now) }
     requires placed { IsPlaced to }
     ensures ok { IfOk result (λ pieces. IsFlashed reader.now (spec.all_flashed (spec.macro_figures (macro_named (macros_in reader.now.dictionary) name.now) parameters.now unit to)) pieces.items) }
     ensures halt { IfErr result (Stops (spec.all_flashed (spec.macro_figures (macro_named (macros_in reader.now.dictionary) name.now) parameters.now unit to))) }
 {
     match reader.dictionary.body(name) {
         None => Ok(Vec::new(alloc)),
-        Some(body) => macro_pieces(reader, alloc, body, parameters, unit, marks, to),
+        Some(body) => macro_pieces(reader, alloc, body, parameters, unit, to),
     }
 }
 
 // The figures of a flash of the selected aperture.
+#[tactic(auto, unfolding(crate::specs::Rows::flashed, crate::specs::Rows::flash_with))]
 fn flash_at(reader: &mut RealReader, alloc: Global, to: Spot) -> Result<(), Halt<RealKind>>
     requires few { reader.old.commands + 1 < 2 ^ 32 }
     requires lawful { IsLawful reader.old }
     requires placed { IsPlaced to }
     ensures ok { OnOk result (Flashed reader.old (spec.flashed (known reader.old) to) reader.new) }
-    ensures counted { OnOk result (IsCounted reader.new) }
+    ensures keeps { OnOk result (KeepsRest reader.old reader.new) }
     ensures halt { IfErr result (Stops (spec.flashed (known reader.old) to)) }
 {
     match reader.selected() {
@@ -244,11 +247,13 @@ fn flash_at(reader: &mut RealReader, alloc: Global, to: Spot) -> Result<(), Halt
             let aperture = *aperture;
             flash_standard(reader, alloc, aperture, to)
         },
-        Some(Tool::Composed(name, parameters, unit, marks)) => {
-            let pieces = composed_pieces(reader, alloc, name, parameters, *unit, marks, to)?;
-            match reader.take_on(pieces) {
-                Ok(()) => Ok(()),
-                Err(halt) => Err(halted(halt)),
+        Some(Tool::Composed(name, parameters, unit, _)) => {
+            match composed_pieces(reader, alloc, name, parameters, *unit, to) {
+                Ok(pieces) => match reader.take_on(pieces) {
+                    Ok(()) => Ok(()),
+                    Err(halt) => Err(halted(halt)),
+                },
+                Err(halt) => Err(halt),
             }
         },
     }
@@ -265,8 +270,28 @@ pub fn without_offsets(bending: &Bending) -> Result<(), Halt<RealKind>>
     }
 }
 
+// Flashes the selected aperture.
+fn flash_without_offsets(
+    reader: &mut RealReader,
+    alloc: Global,
+    bending: &Bending,
+    to: Spot,
+) -> Result<(), Halt<RealKind>>
+    requires few { reader.old.commands + 1 < 2 ^ 32 }
+    requires lawful { IsLawful reader.old }
+    requires placed { IsPlaced to }
+    ensures ok { OnOk result (HasObeyed reader.old (spec.flash (known reader.old) (bending_of bending.now) to) (Some to) None reader.new) }
+    ensures keeps { OnOk result (KeepsRest reader.old reader.new) }
+    ensures halt { IfErr result (Stops (spec.flash (known reader.old) (bending_of bending.now) to)) }
+{
+    match flash_at(reader, alloc, to) {
+        Ok(()) => without_offsets(bending),
+        Err(halt) => Err(halt),
+    }
+}
+
 /// Performs an operation outside a region.
-#[tactic(auto, unfolding(crate::specs::Rows::perform, crate::specs::Rows::flash))]
+#[tactic(auto, unfolding(crate::specs::Rows::perform))]
 pub fn perform(
     reader: &mut RealReader,
     alloc: Global,
@@ -277,16 +302,13 @@ pub fn perform(
     requires few { reader.old.commands + 1 < 2 ^ 32 }
     requires lawful { IsLawful reader.old }
     requires placed { IsPlaced to }
-    ensures ok { OnOk result (Carried reader.old (spec.perform (known reader.old) code (bending_of bending.now) to) reader.new) }
-    ensures counted { OnOk result (IsCounted reader.new) }
+    ensures ok { OnOk result (HasObeyed reader.old (spec.perform (known reader.old) code (bending_of bending.now) to) (Some to) None reader.new) }
+    ensures right { OnOk result (IsRight reader.new) }
     ensures halt { IfErr result (Stops (spec.perform (known reader.old) code (bending_of bending.now) to)) }
 {
     match code {
         Code::Draw => draw(reader, bending, to),
         Code::Move => without_offsets(bending),
-        Code::Flash => {
-            flash_at(reader, alloc, to)?;
-            without_offsets(bending)
-        },
+        Code::Flash => flash_without_offsets(reader, alloc, bending, to),
     }
 }

@@ -137,9 +137,15 @@ fn cut_in(centre: Spot, border: Spot, low: Spot, high: Spot) -> [Part; 8]
         }),
         Part::Straight(right),
         Part::Straight(high),
-        Part::Straight(Spot { x: low.x, y: high.y }),
+        Part::Straight(Spot {
+            x: low.x,
+            y: high.y,
+        }),
         Part::Straight(low),
-        Part::Straight(Spot { x: high.x, y: low.y }),
+        Part::Straight(Spot {
+            x: high.x,
+            y: low.y,
+        }),
         Part::Straight(right),
         Part::Straight(border),
     ]
@@ -203,7 +209,11 @@ fn exact_flash(alloc: Global, aperture: Aperture, at: Spot) -> Result<Option<Anc
 /// What an aperture flashes at a spot within 1 m of 0; `None` for a circle of diameter 0.
 ///
 /// `OutOfRange` comes exactly where an end, a corner, a middle or the spot right of a hole at its border is over 1 m from 0 in x or y.
-pub fn flash(alloc: Global, aperture: RealAperture, at: Spot) -> Result<Option<Anchored>, FlashFault>
+pub fn flash(
+    alloc: Global,
+    aperture: RealAperture,
+    at: Spot,
+) -> Result<Option<Anchored>, FlashFault>
     requires lawful { IsLawful aperture }
     requires placed { IsPlaced at }
     ensures { Flashes result (spec.real_flash aperture at) }

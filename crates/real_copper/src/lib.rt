@@ -15,6 +15,7 @@ mod drawing;
 mod flashes;
 mod kind;
 pub mod laws;
+mod leads;
 mod moving;
 mod obeying;
 mod real;

@@ -189,8 +189,20 @@ fn moved_sides(b: &Bounds, by: Way) -> Bounds
     requires near { is_odd_placed (FineFigure.Rectangle b.now) ≡ true }
     ensures { FineFigure.Rectangle result ≡ shifted_odd by.x by.y (FineFigure.Rectangle b.now) }
 {
-    let low = moved_half(Spot { x: b.left, y: b.low }, by);
-    let high = moved_half(Spot { x: b.right, y: b.high }, by);
+    let low = moved_half(
+        Spot {
+            x: b.left,
+            y: b.low,
+        },
+        by,
+    );
+    let high = moved_half(
+        Spot {
+            x: b.right,
+            y: b.high,
+        },
+        by,
+    );
     Bounds {
         left: low.x,
         low: low.y,
@@ -271,7 +283,13 @@ fn is_odd_placed(f: &FineFigure) -> bool
 fn are_corners_placed(b: &Bounds) -> bool
     ensures { result ≡ spec.is_odd_placed (FineFigure.Rectangle b.now) }
 {
-    is_half_placed(Spot { x: b.left, y: b.low }) && is_half_placed(Spot { x: b.right, y: b.high })
+    is_half_placed(Spot {
+        x: b.left,
+        y: b.low,
+    }) && is_half_placed(Spot {
+        x: b.right,
+        y: b.high,
+    })
 }
 
 /// Whether each end, corner, centre and spot that it is turned about is at most 1 m from 0 in x and y.

@@ -1,8 +1,8 @@
 // Files in which draws may be arcs, and their copper. The rows without a comment are what the script of
 // bounds, tools/show_board, makes of them.
 use crate::{RealFault, RealPiece, RealShape, read_real};
-use arcs::Arc;
 use arc_regions::Part;
+use arcs::Arc;
 use board_shapes::{Room, Shape};
 use fine_figures::FineFigure;
 use gerber_reading::Place;

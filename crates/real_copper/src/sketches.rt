@@ -21,8 +21,10 @@ ghost use Rattle.std.specs.Prelude.{Some, length, map, unsigned_abs, ◌≡◌, 
 use crate::anchored::Anchored;
 use crate::flashes::{plain, sides_about, stroke_about};
 use crate::moving::is_anchored;
+use aperture_macros::{
+    FigureFault, FineKind, FineSketch, Form, MacroFault, Placing, Primitive, Rotation, Sketch, Turn,
+};
 use apertures::half;
-use aperture_macros::{FigureFault, FineKind, FineSketch, Form, MacroFault, Placing, Primitive, Rotation, Sketch, Turn};
 use board_shapes::{Shape, rectangle};
 use contact::{Bounds, Capsule};
 use fine_figures::FineFigure;
@@ -62,7 +64,12 @@ fn unturned(alloc: Global, contour: Vec<Spot>) -> Result<Option<Anchored>, Figur
 }
 
 // A contour that is turned about a spot by what is left of its turn, if anything is.
-fn contour_turned(alloc: Global, about: Spot, rest: u32, contour: Vec<Spot>) -> Result<Option<Anchored>, FigureFault>
+fn contour_turned(
+    alloc: Global,
+    about: Spot,
+    rest: u32,
+    contour: Vec<Spot>,
+) -> Result<Option<Anchored>, FigureFault>
     requires closed { IsClosed contour.items }
     requires enough { 4 ≤ length contour.items }
     requires few { length contour.items ≤ MOST_CONTOUR_POINTS }
@@ -119,7 +126,13 @@ fn quarters_of(rotation: Rotation) -> u32
 }
 
 // A polygon by its middle, the diameter of its circle in parts of a u, and its corners.
-fn polygon_turned(turn: Turn, about: Spot, p: Spot, d: u64, n: u32) -> Result<Option<Anchored>, FigureFault>
+fn polygon_turned(
+    turn: Turn,
+    about: Spot,
+    p: Spot,
+    d: u64,
+    n: u32,
+) -> Result<Option<Anchored>, FigureFault>
     requires below { turn.rest < RIGHT_ANGLE }
     ensures { Makes result (spec.within (spec.polygon_turned turn about p d n)) }
 {
@@ -156,7 +169,13 @@ fn corners(by: Placing, low: Spot, high: Spot) -> [Spot; 5]
 }
 
 // A rectangle, set down and turned by what is left.
-fn rectangle_turned(alloc: Global, by: Placing, rest: u32, low: Spot, high: Spot) -> Result<Option<Anchored>, FigureFault>
+fn rectangle_turned(
+    alloc: Global,
+    by: Placing,
+    rest: u32,
+    low: Spot,
+    high: Spot,
+) -> Result<Option<Anchored>, FigureFault>
     requires low { IsReachable low }
     requires high { IsReachable high }
     ensures { Makes result (spec.within (spec.contour_turned by.at rest (map (set_down by.rotation by.at) (rectangle_of low high)))) }
@@ -168,7 +187,12 @@ fn rectangle_turned(alloc: Global, by: Placing, rest: u32, low: Spot, high: Spot
 }
 
 // A figure about the origin, set down at a spot and turned by what is left about it.
-fn sketched(alloc: Global, turn: Turn, at: Spot, sketch: Sketch) -> Result<Option<Anchored>, FigureFault>
+fn sketched(
+    alloc: Global,
+    turn: Turn,
+    at: Spot,
+    sketch: Sketch,
+) -> Result<Option<Anchored>, FigureFault>
     requires placed { IsPlaced at }
     requires below { turn.rest < RIGHT_ANGLE }
     requires near { IsNear (Some sketch) }
@@ -250,7 +274,11 @@ fn odd_shape(kind: FineKind, by: Placing, p: Spot, fine: FineSketch) -> RealShap
 }
 
 // One of an odd size, set down by quarter turns.
-fn odd_sketched(rotation: Rotation, at: Spot, fine: FineSketch) -> Result<Option<Anchored>, FigureFault>
+fn odd_sketched(
+    rotation: Rotation,
+    at: Spot,
+    fine: FineSketch,
+) -> Result<Option<Anchored>, FigureFault>
     requires at_placed { IsPlaced at }
     requires near { IsNearFine (Some fine) }
     ensures { Makes result (spec.within (spec.odd_sketch_at rotation at fine)) }

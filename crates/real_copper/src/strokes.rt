@@ -53,7 +53,11 @@ fn arc_draw(bend: Bend, from: Spot, to: Spot, pen: u64) -> Anchored
     requires centre { IsPlaced bend.centre }
     ensures { real_figure result.shape ≡ spec.arc_draw bend from to pen }
 {
-    let (start, end) = if bend.clockwise { (to, from) } else { (from, to) };
+    let (start, end) = if bend.clockwise {
+        (to, from)
+    } else {
+        (from, to)
+    };
     Anchored {
         shape: RealShape::ArcDraw(Arc {
             centre: bend.centre,

@@ -8,7 +8,10 @@ use step_repeat::Figure;
 #[test]
 fn an_arc_is_moved_with_its_centre(rt: HostRuntime) -> Result<(), Fail> {
     let centre = Spot { x: 5, y: 0 };
-    let bend = Bend { clockwise: true, centre };
+    let bend = Bend {
+        clockwise: true,
+        centre,
+    };
     let draw = draw_of(Some(bend), Spot { x: 0, y: 0 }, Spot { x: 10, y: 0 }, 3);
     let moved = draw.shifted(rt.alloc(), 7, -1)?;
     let RealShape::ArcDraw(arc) = moved.shape else {

@@ -6,7 +6,9 @@ ghost use Rattle.real_copper.specs.Words as spec;
 ghost use Rattle.std.specs.Option.{option_copied};
 ghost use Rattle.std.specs.Prelude.{length, ◌≡◌, ◌≤◌};
 
-use gerber_layer::{Offsets, behind_line_code, code_in, from_x, goes_on, is_number_if, macro_or, part, read_command};
+use gerber_layer::{
+    Offsets, behind_line_code, code_in, from_x, goes_on, is_number_if, macro_or, part, read_command,
+};
 use gerber_reading::{Bending, Command, Curve, GerberKind, Quadrants};
 use gerber_words::Word;
 use texts::{begins, is_word, run_len};
@@ -81,7 +83,12 @@ fn bending<'a>(curve: Option<Curve>, offsets: &'a [u8]) -> Bending<'a>
 
 // An operation by its numbers and its text from the offsets on.
 #[tactic(auto, unfolding(crate::specs::Words::past_numbers))]
-fn past_numbers<'a>(curve: Option<Curve>, x: Option<&'a [u8]>, y: Option<&'a [u8]>, text: &'a [u8]) -> Command<'a>
+fn past_numbers<'a>(
+    curve: Option<Curve>,
+    x: Option<&'a [u8]>,
+    y: Option<&'a [u8]>,
+    text: &'a [u8],
+) -> Command<'a>
     ensures value { view result ≡ spec.past_numbers curve (option_copied x.entry) (option_copied y.entry) text.now }
     ensures lawful { IsLawfulCommand (view result) }
 {
@@ -160,7 +167,12 @@ fn unbent<'a>(command: Command<'a>, text: &'a [u8]) -> Command<'a>
 {
     match command {
         Command::Nothing => idle(text),
-        Command::Operate(x, y, code, _) => Command::Operate(x, y, code, bending(curve_in(text), b"")),
+        Command::Operate(x, y, code, _) => Command::Operate(
+            x,
+            y,
+            code,
+            bending(curve_in(text), b""),
+        ),
         other => other,
     }
 }
