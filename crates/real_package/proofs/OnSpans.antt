@@ -2,7 +2,8 @@
 use Rattle.std.proofs.Common.{◌≡◌, ℕ, List, All, sym, subst}
 use Rattle.std.proofs.lemmas.List.{length-map, get_or-map}
 use Rattle.std.proofs.lemmas.List.Elements.{All-map}
-use Rattle.arc_layer.specs.Real.{PlainReal, plain_real, plain_reals}
+use Rattle.real_copper.specs.Table.{PlainReal}
+use Rattle.real_copper.specs.RealReader.{plain_reals}
 use Rattle.real_shapes.specs.declared.RealShape.{RealShape}
 use Rattle.board_shapes.specs.Lawful.{IsSpan}
 use Rattle.board_shapes.specs.Pieces.{plain_piece, plain_pieces}
@@ -12,7 +13,7 @@ use Rattle.board_package.specs.Manifest.{IsOnBoard}
 use Rattle.board_package.specs.declared.entry.Role.{Role}
 use Rattle.board_package.specs.declared.entry.Role.TheVariants as role
 use Rattle.board_package.specs.Parts.{StandsOn}
-use Rattle.real_package.specs.RealBoards.{as_real, as_reals}
+use Rattle.real_package.specs.RealBoards.{as_real, as_reals, plain_real}
 
 abbrev Spans : ℕ → PlainReal → Type 0
 Spans layers q = IsSpan layers q.top q.bottom

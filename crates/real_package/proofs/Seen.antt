@@ -1,13 +1,14 @@
 -- What the parts of a real board are, seen as plain data.
 use Rattle.std.proofs.Common.{◌≡◌, ℕ, List, [], ◌++◌}
-use Rattle.arc_layer.specs.Real.{PlainReal, plain_real, plain_reals}
+use Rattle.real_copper.specs.Table.{PlainReal}
+use Rattle.real_copper.specs.RealReader.{plain_reals}
 use Rattle.real_shapes.specs.declared.RealShape.{RealShape}
 use Rattle.board_package.proofs.Seen.{seen}
 use Rattle.board_package.specs.Parts.{Has}
 use Rattle.board_package.specs.declared.parts.Parts.{Parts}
 use Rattle.board_shapes.specs.declared.placed.Placed.{Placed}
 use Rattle.board_shapes.specs.declared.probe.Probe.{Probe}
-use Rattle.real_package.specs.RealBoards.{PlainRealBoard, empty_real, plain_real_board, with_reals}
+use Rattle.real_package.specs.RealBoards.{PlainRealBoard, empty_real, plain_real_board, with_reals, plain_real}
 
 abbrev real_of : List PlainReal → List Probe → List (List ℕ) → ℕ → PlainRealBoard
 real_of pieces probes names layers = record { pieces = pieces; probes = probes; names = names; layers = layers }

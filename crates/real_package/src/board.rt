@@ -1,9 +1,11 @@
 //! A board whose pieces may be other copper than figures, as arc draws.
-ghost use Rattle.arc_layer.specs.Real.{plain_reals, real_figure};
+ghost use Rattle.real_copper.specs.Figures.{real_edges};
+ghost use Rattle.real_copper.specs.RealReader.{plain_reals};
+ghost use Rattle.real_copper.specs.Shapes.{real_figure};
 ghost use Rattle.board_shapes.specs.Pieces.{plain_pieces};
 ghost use Rattle.board_shapes.specs.Plain.{plain_board};
 ghost use Rattle.real_package.specs.RealBoards as spec;
-ghost use Rattle.real_package.specs.RealBoards.{HasNetlistOf, as_reals, plain_real_board, real_edges};
+ghost use Rattle.real_package.specs.RealBoards.{HasNetlistOf, as_reals, plain_real_board};
 ghost use Rattle.std.specs.Prelude.{◌≡◌, ◌<◌, ◌≤◌, ◌^◌, ◌↔◌, length, IfOk, IsTrue};
 
 use board_package::{Parts, room_for};
@@ -26,19 +28,9 @@ fn counted(n: usize) -> u32
 }
 
 fn edges_of(shape: &RealShape) -> u32
-    ensures { result ≡ real_edges (real_figure shape.now) }
+    ensures { result ≡ spec.counted (real_edges (real_figure shape.now)) }
 {
-    match shape {
-        RealShape::Plain(shape) => shape.edges(),
-        RealShape::ArcDraw(_) => 0,
-        RealShape::Slanted(_) => 0,
-        RealShape::Region(region) => counted(region.parts.len()),
-        RealShape::Turned(figure) => counted(figure.contour.len().saturating_sub(1)),
-        RealShape::TurnedDisc(_) => 0,
-        RealShape::Polygon(turned) => turned.polygon.corners,
-        RealShape::Fine(_) => 0,
-        RealShape::Holed(_) => 0,
-    }
+    counted(real_copper::edges_of(shape))
 }
 
 /// How many edges the contours of the pieces have.
