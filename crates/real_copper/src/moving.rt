@@ -331,6 +331,22 @@ fn odd_edges(f: &FineFigure) -> u32
     }
 }
 
+/// How many edges a shape counts for the room: those of its border that are straight or arcs of a contour.
+pub fn edges_of(shape: &RealShape) -> u64
+    ensures { result ≡ real_edges (real_figure shape.now) }
+{
+    match shape {
+        RealShape::Plain(shape) => u64::from(shape.edges()),
+        RealShape::Slanted(_) => 4,
+        RealShape::Region(area) => area.parts.len() as u64,
+        RealShape::Turned(t) => t.contour.len().saturating_sub(1) as u64,
+        RealShape::Polygon(g) => u64::from(g.polygon.corners),
+        RealShape::Fine(f) => u64::from(odd_edges(f)),
+        RealShape::Holed(h) => u64::from(odd_edges(&h.outline)),
+        _ => 0,
+    }
+}
+
 impl Figure for Anchored {
     ghost Plain = { RealFigure };
 
@@ -339,16 +355,7 @@ impl Figure for Anchored {
     ghost handling = { real_handling };
 
     fn edges(&self) -> u32 {
-        match &self.shape {
-            RealShape::Plain(shape) => shape.edges(),
-            RealShape::Slanted(_) => 4,
-            RealShape::Region(area) => area.parts.len() as u32,
-            RealShape::Turned(t) => t.contour.len().saturating_sub(1) as u32,
-            RealShape::Polygon(g) => g.polygon.corners,
-            RealShape::Fine(f) => odd_edges(f),
-            RealShape::Holed(h) => odd_edges(&h.outline),
-            _ => 0,
-        }
+        edges_of(&self.shape) as u32
     }
 
     fn shifted(&self, alloc: Global, dx: i64, dy: i64) -> Result<Anchored, MoveFault> {

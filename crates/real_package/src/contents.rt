@@ -10,7 +10,7 @@ ghost use Rattle.real_package.specs.declared.fault.RealBuildFault.TheVariants as
 
 use crate::board::{RealBoard, as_real_pieces, room_left};
 use crate::fault::RealBuildFault;
-use arc_layer::{RealFault, RealKind, read_real};
+use real_copper::{RealFault, RealKind, read_real};
 use board_package::{BuildFault, Entry, Refusal, Role, refused};
 use gerber_layer::FlattenKind;
 use gerber_reading::Place;

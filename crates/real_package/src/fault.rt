@@ -2,7 +2,7 @@
 ghost use Rattle.std.specs.Prelude.{◌≡◌};
 ghost use Rattle.real_package.specs.declared.fault.RealBuildFault.TheVariants as fault;
 
-use arc_layer::RealKind;
+use real_copper::RealKind;
 use board_package::BuildFault;
 use lengths::text::Text;
 
