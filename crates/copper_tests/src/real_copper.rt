@@ -1,6 +1,6 @@
 // Files in which draws may be arcs, and their copper. The rows without a comment are what the script of
 // bounds, tools/show_board, makes of them.
-use arc_layer::{Arc, RealFault, RealPiece, RealShape, read_real};
+use real_copper::{Arc, RealFault, RealPiece, RealShape, read_real};
 use arc_regions::Part;
 use board_shapes::{Room, Shape};
 use fine_figures::FineFigure;

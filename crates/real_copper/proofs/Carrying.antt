@@ -1,8 +1,7 @@
 -- What the reader has carried out, by what a row says.
-use Rattle.std.proofs.Common.{◌≡◌, ℕ, ◌+◌, List, [], ◌∷◌, ◌++◌, Option, Some, None, Result, Ok, Err, refl, sym, ap, subst, ◌∙◌, append-nil}
-use Rattle.std.specs.Prelude.{IfErr, OnOk}
+use Rattle.std.proofs.Common.{◌≡◌, ◌+◌, List, [], Option, Some, None, Result, Ok, Err, refl, sym, ap, subst, append-nil}
+use Rattle.std.specs.Prelude.{IfErr, IfOk, OnOk}
 use Rattle.planar.specs.declared.Spot.{Spot}
-use Rattle.file_reading.specs.Conditions.{◌>>=◌}
 use Rattle.file_reading.specs.declared.halt.Halt.{Halt}
 use Rattle.file_reading.specs.declared.halt.Halt.TheVariants as halt
 use Rattle.gerber_reading.specs.Command.{Bending}
@@ -22,6 +21,10 @@ use Rattle.real_copper.specs.declared.draw.Bend.{Bend}
 use Rattle.real_copper.specs.declared.kind.RealKind.{RealKind}
 
 -- what follows of a value, or of a fault, follows of an answer
+pub if_ok : {A E : Type 0} (P Q : A → Type 0) → ((x : A) → P x → Q x) → (r : Result A E) → IfOk r P → IfOk r Q
+if_ok P Q f (Ok x) h = f x h
+if_ok P Q f (Err e) h = tt
+
 pub if_err : {A E : Type 0} (P Q : E → Type 0) → ((e : E) → P e → Q e) → (r : Result A E) → IfErr r P → IfErr r Q
 if_err P Q f (Ok x) h = tt
 if_err P Q f (Err e) h = f e h

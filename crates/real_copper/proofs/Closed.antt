@@ -1,18 +1,16 @@
 -- What closing a contour, and ending a block, come to.
-use Rattle.std.proofs.Common.{◌≡◌, ℕ, ◌+◌, Bool, true, false, not, List, length, ◌++◌, Option, Some, None, Result, Ok, Err, refl, sym, ap, subst, ◌∙◌}
+use Rattle.std.proofs.Common.{◌≡◌, ℕ, ◌+◌, true, false, List, length, ◌++◌, Option, Some, None, Ok, Err, refl, sym, ap, subst, ◌∙◌}
 use Rattle.std.specs.Prelude.{nat_le, nat_lt}
 use Rattle.std.proofs.lemmas.List.{length-map}
 use Rattle.planar.specs.Plane.{same_spot}
 use Rattle.planar.specs.declared.Spot.{Spot}
 use Rattle.area_contact.specs.declared.TheConstants.{MOST_CONTOUR_EDGES}
-use Rattle.board_shapes.specs.declared.placed.Placed.{Placed}
-use Rattle.file_reading.specs.Conditions.{◌>>=◌}
 use Rattle.file_reading.specs.declared.halt.Halt.{Halt}
 use Rattle.file_reading.specs.declared.halt.Halt.TheVariants as halt
 use Rattle.gerber_reading.specs.Command.{Bending}
 use Rattle.gerber_reading.specs.CommandEffects.{closes, concludes, edges_in, ended_block_by, exceed, extend_by, extends, leaves, listed, next_block, steps}
 use Rattle.gerber_reading.specs.Image.{made}
-use Rattle.gerber_reading.specs.Reader.{AllFit, AllKeep, EndsBlock, Lengthens, Places, Stops, contour_of, known_of, place_of}
+use Rattle.gerber_reading.specs.Reader.{AllFit, AllKeep, EndsBlock, Lengthens, Places, Stops, contour_of, place_of}
 use Rattle.gerber_reading.specs.declared.command.Code.TheVariants.{Move}
 use Rattle.gerber_reading.specs.declared.dictionary.Dictionary.{Dictionary}
 use Rattle.gerber_reading.specs.declared.kind.GerberKind.{GerberKind}
@@ -20,14 +18,13 @@ use Rattle.gerber_reading.specs.declared.place.Place.{Place}
 use Rattle.regions.specs.Contours.{Outline}
 use Rattle.step_repeat.specs.Copies.{pieces_by}
 use Rattle.step_repeat.specs.declared.repeat.Repeat.{Repeat}
-use Rattle.real_copper.specs.Arcs.{as_real, bend_of, no_arc}
+use Rattle.real_copper.specs.Arcs.{as_real, no_arc}
 use Rattle.real_copper.specs.Contours.{area_of, end_of}
 use Rattle.real_copper.specs.Draws.{IsNearBend}
 use Rattle.real_copper.specs.Figures.{RealFigure, real_handling}
 use Rattle.real_copper.specs.RealReader.{Closes, HasObeyed, IsCounted, IsLawful, IsRight, Seen, halt_of, known, plain}
-use Rattle.real_copper.specs.Rows.{RealEffect, RealKnown, closing, end, extend, is_full, leave, perform_in_region, repeat}
+use Rattle.real_copper.specs.Rows.{RealKnown, closing, end, extend, is_full, leave, perform_in_region, repeat}
 use Rattle.real_copper.specs.Table.{fits}
-use Rattle.real_copper.specs.declared.anchored.Anchored.{Anchored}
 use Rattle.real_copper.specs.declared.aperture.RealAperture.{RealAperture}
 use Rattle.real_copper.specs.declared.draw.Bend.{Bend}
 use Rattle.real_copper.specs.declared.kind.RealKind.{RealKind}

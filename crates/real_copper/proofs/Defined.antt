@@ -10,7 +10,7 @@ use Rattle.apertures.specs.declared.aperture.Aperture.{Aperture}
 use Rattle.apertures.specs.declared.fault.ApertureFault.{ApertureFault}
 use Rattle.apertures.specs.declared.fault.ApertureFault.TheVariants as fault
 use Rattle.apertures.proofs.Digits.{few_digits}
-use Rattle.gerber_reading.specs.Reader.{Adds, AllFit, AllKeep, HasMacros, KeepsTools, kept_in, macros_in, tool_of}
+use Rattle.gerber_reading.specs.Reader.{AllFit, KeepsTools, kept_in, macros_in}
 use Rattle.gerber_reading.specs.Tools.{Macros, macro_named, parameters_in}
 use Rattle.gerber_reading.specs.declared.dictionary.Dictionary.{Dictionary}
 use Rattle.gerber_reading.specs.declared.tool.Tool.{Tool as Given}

@@ -1,9 +1,9 @@
 -- The edges of a contour, as they are kept and as plain data: where they end, and that each is within 1 m.
-use Rattle.std.proofs.Common.{◌≡◌, ◌∙◌, ℕ, ◌≤◌, ◌<◌, ◌-◌, zero, suc, Bool, true, ◌&&◌, List, [], ◌∷◌, ◌++◌, map, length, refl, ap, arith}
+use Rattle.std.proofs.Common.{◌≡◌, ◌∙◌, ℕ, ◌<◌, ◌-◌, zero, suc, true, List, [], ◌∷◌, map, length, refl, ap, arith}
 use Rattle.std.specs.Prelude.{All, Option, Some, None, slice_get, slice_index_or}
 use Rattle.std.specs.List.{list_all}
 use Rattle.std.proofs.lemmas.List.{length-map}
-use Rattle.planar.specs.Plane.{IsPlaced, is_placed, same_spot}
+use Rattle.planar.specs.Plane.{IsPlaced, same_spot}
 use Rattle.planar.specs.declared.Spot.{Spot}
 use Rattle.planar.proofs.Spots.{spot_is}
 use Rattle.area_contact.specs.Contour.{IsClosed, end_from}

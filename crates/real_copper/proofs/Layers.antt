@@ -17,14 +17,12 @@ use Rattle.gerber_reading.specs.declared.kind.GerberKind.TheVariants as kind
 use Rattle.gerber_reading.specs.declared.place.Place.{Place}
 use Rattle.planar.specs.declared.Spot.{Spot}
 use Rattle.step_repeat.specs.Copies.{Refusal, are_placed, block_at, column_of, copies_by, copies_of, moved_block, out_of_range, placed_copies, room_fault, shifted_piece}
-use Rattle.step_repeat.specs.Figures.{Handling}
 use Rattle.step_repeat.specs.declared.repeat.Repeat.{Repeat}
 use Rattle.real_copper.specs.Figures.{RealFigure, real_handling}
 use Rattle.real_copper.specs.Kinds.{gerber}
 use Rattle.real_copper.specs.Rows.{RealEffect, RealKnown}
 use Rattle.real_copper.specs.Table.{effect, real_edge, real_table, row}
 use Rattle.real_copper.specs.declared.draw.Bend.{Bend}
-use Rattle.real_copper.specs.declared.kind.RealKind.{RealKind}
 use Rattle.real_copper.proofs.Outcomes.{end_did, repeat_did, row_did, same_effect}
 
 abbrev Pieces : Type 0

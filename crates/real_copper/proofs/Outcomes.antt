@@ -16,12 +16,12 @@ use Rattle.board_shapes.specs.Pieces.{PieceOf}
 use Rattle.file_reading.specs.Conditions.{◌>>=◌, unless, needed}
 use Rattle.step_repeat.specs.declared.repeat.Repeat.{Repeat}
 use Rattle.gerber_layer.proofs.Outcome.{bind_ok, got, past_test}
-use Rattle.gerber_layer.specs.MacroTable.{is_reserved, kind_of_macro}
+use Rattle.gerber_layer.specs.MacroTable.{is_reserved}
 use Rattle.gerber_layer.specs.declared.macro_kind.FlattenKind.TheVariants.{BadMacro, MacroTwice, NoMacro}
 use Rattle.gerber_reading.specs.Command.{Bending, Command, body_word, breaks, closes_region, counts_in, curves, defines, ends, finishes, formats, functions, names_macro, nothing, opens_region, operates, quarters, refused, repeats, selects}
 use Rattle.gerber_reading.specs.CommandEffects.{begins_macro, closes, code_of, concludes, coordinate, define_as, ended_block_by, exceed, edges_in, extends, fills_macro, is_drawing, is_finish, is_of_layer, leaves, listed, makes, next_block, opens, other_format, performs, stays, steps, target}
-use Rattle.gerber_reading.specs.Outcomes.{Defined, Goes, HasOutcomes, IsEffect, IsFilled, Outcome, Performed, Repeated}
-use Rattle.gerber_reading.specs.Tools.{composed, composed_in, has_room, macro_named, parameters_in, standard, tool_by, tool_in}
+use Rattle.gerber_reading.specs.Outcomes.{Defined, Goes, HasOutcomes, IsEffect, IsFilled, Outcome, Performed}
+use Rattle.gerber_reading.specs.Tools.{composed, composed_in, has_room, macro_named, parameters_in, standard, tool_by}
 use Rattle.gerber_reading.specs.declared.TheConstants.{MOST_APERTURES}
 use Rattle.gerber_reading.specs.declared.command.Code.{Code}
 use Rattle.gerber_reading.specs.declared.command.Code.TheVariants.{Draw, Move, Flash}
@@ -33,7 +33,7 @@ use Rattle.real_copper.specs.Apertures.{real_aperture_at}
 use Rattle.real_copper.specs.Arcs.{as_real, bend_of, no_arc}
 use Rattle.real_copper.specs.Figures.{RealFigure, real_handling}
 use Rattle.real_copper.specs.Kinds.{gerber}
-use Rattle.real_copper.specs.Rows.{RealEffect, RealKnown, closing, draw, end, enter, extend, flash, flashed, leave, operate, operate_at, perform, perform_in_region, repeat, stroke}
+use Rattle.real_copper.specs.Rows.{RealEffect, RealKnown, closing, draw, end, extend, flash, flashed, leave, operate, operate_at, perform, perform_in_region, repeat, stroke}
 use Rattle.real_copper.specs.Table.{all_judged, as_macro, bend_or_none, compose, compose_as, define, define_by, effect, fill_by, fill_macro, name_macro, real_edge, real_table, row}
 use Rattle.real_copper.specs.declared.aperture.RealAperture.{RealAperture}
 use Rattle.real_copper.specs.declared.draw.Bend.{Bend}

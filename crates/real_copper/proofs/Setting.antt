@@ -1,5 +1,5 @@
 -- Where the middle of a figure comes to lie.
-use Rattle.std.proofs.Common.{◌≡◌, ℤ, arith}
+use Rattle.std.proofs.Common.{◌≡◌, arith}
 use Rattle.std.proofs.lemmas.Int.{ints}
 use Rattle.planar.specs.Plane.{IsPlaced, IsReachable}
 use Rattle.planar.specs.declared.Spot.{Spot}

@@ -1,6 +1,6 @@
 -- What an `AD` word defines in real copper, where circles, rectangles and obrounds may have a round hole, and sizes may be odd (Gerber
 -- Layer Format Specification, 4.4.2 to 4.4.4 and 4.4.6).
-use Rattle.std.specs.Prelude.{◌≡◌, ℕ, ◌+◌, ◌%◌, ◌<◌, ◌≤◌, Bool, true, false, ◌&&◌, ◌==◌, min, nat_lt, int_lt, if◌then◌else◌, List, codes, ℤ, pos, unsigned_abs, Option, Some, None, option_map, Result, Ok, Err}
+use Rattle.std.specs.Prelude.{◌≡◌, ℕ, ◌+◌, ◌%◌, ◌<◌, ◌≤◌, Bool, false, ◌&&◌, ◌==◌, min, nat_lt, int_lt, if◌then◌else◌, List, codes, ℤ, pos, unsigned_abs, Option, Some, None, option_map, Result, Ok, Err}
 use Rattle.std.specs.List.{after_first, before_first}
 use Rattle.std.specs.Str.Parse.{digits_value}
 use Rattle.texts.specs.Words.{is_word}

@@ -1,5 +1,5 @@
 -- What a contour bounds (Gerber Layer Format Specification, 4.10).
-use Rattle.std.specs.Prelude.{ℕ, ◌≤◌, ◌≡◌, Bool, true, not, if◌then◌else◌, List, [], ◌∷◌, length, map, Option, Some, None, is_none}
+use Rattle.std.specs.Prelude.{◌≤◌, ◌≡◌, Bool, true, not, if◌then◌else◌, List, [], ◌∷◌, length, map, Option, Some, None, is_none}
 use Rattle.std.specs.List.{list_all}
 use Rattle.planar.specs.Plane.{same_spot}
 use Rattle.planar.specs.declared.Spot.{Spot}

@@ -1,10 +1,9 @@
 -- Figures of real copper: what a flash, a draw or a contour makes. Which points each has, the crates of `real_shapes` say.
-use Rattle.std.specs.Prelude.{ℕ, ◌+◌, ◌*◌, ◌-◌, Bool, ◌&&◌, nat_le, List, [], ◌∷◌, length, map, ℤ, pos, ◌+ℤ◌, ◌*ℤ◌, unsigned_abs}
+use Rattle.std.specs.Prelude.{ℕ, ◌-◌, Bool, ◌&&◌, nat_le, List, length, map, ℤ, pos, ◌+ℤ◌, ◌*ℤ◌, unsigned_abs}
 use Rattle.std.specs.List.{list_all}
 use Rattle.planar.specs.Plane.{is_placed}
 use Rattle.planar.specs.declared.Spot.{Spot}
 use Rattle.planar.specs.declared.TheConstants.{TWO_METRES}
-use Rattle.contact.specs.declared.Bounds.{Bounds}
 use Rattle.board_shapes.specs.Figures.{Figure, figure_edges}
 use Rattle.board_shapes.specs.Moved.{corners, shifted, shifted_figure}
 use Rattle.arcs.specs.declared.Arc.{Arc}

@@ -1,11 +1,11 @@
 -- Moved figures: none stays within 1 m of 0 that is moved farther than 2 m.
-use Rattle.std.specs.Prelude.{◌≡◌, ℕ, ◌≤◌, Bool, true, false, ◌&&◌, nat_le, ℤ, pos, neg_ℤ, ◌+ℤ◌, ◌*ℤ◌, ◌≤ℤ◌, unsigned_abs, refl}
+use Rattle.std.specs.Prelude.{◌≡◌, ◌≤◌, Bool, true, false, ◌&&◌, nat_le, ℤ, pos, ◌+ℤ◌, ◌*ℤ◌, unsigned_abs, refl}
 use Rattle.std.proofs.Common.{arith}
 use Rattle.std.proofs.lemmas.Int.{ints}
 use Rattle.std.proofs.lemmas.Bool.Decides.{nat_tests}
 use Rattle.planar.specs.Plane.{IsPlaced, IsReached, is_placed}
 use Rattle.planar.specs.declared.Spot.{Spot}
-use Rattle.planar.specs.declared.TheConstants.{METRE, TWO_METRES}
+use Rattle.planar.specs.declared.TheConstants.{TWO_METRES}
 use Rattle.board_shapes.specs.Moved.{IsShift, shifted}
 use Rattle.fine_figures.specs.declared.FineFigure.{FineFigure}
 use Rattle.fine_figures.specs.declared.FineFigure.TheVariants.{Round, Rectangle}

@@ -1,6 +1,6 @@
 -- What primitives of macros flash: figures about the origin, turned by quarter turns and what is left, and set down (Gerber Layer Format
 -- Specification, 4.5.1).
-use Rattle.std.specs.Prelude.{ℕ, ◌+◌, ◌*◌, ◌/◌, ◌==◌, ◌||◌, Bool, if◌then◌else◌, List, map, Option, Some, None, Result, Ok, Err, pos, ◌-ℤ◌, unsigned_abs}
+use Rattle.std.specs.Prelude.{ℕ, ◌+◌, ◌*◌, ◌/◌, ◌==◌, ◌||◌, if◌then◌else◌, List, map, Option, Some, None, Result, Ok, Err, ◌-ℤ◌, unsigned_abs}
 use Rattle.planar.specs.Plane.{same_spot}
 use Rattle.planar.specs.declared.Spot.{Spot}
 use Rattle.board_shapes.specs.Figures.{filled, round}
@@ -28,7 +28,6 @@ use Rattle.aperture_macros.specs.declared.primitive.Rotation.TheVariants.{Unturn
 use Rattle.fine_figures.specs.declared.FineFigure.TheVariants as odd_figure
 use Rattle.slants.specs.declared.cones.TheConstants.{RIGHT_ANGLE}
 use Rattle.slants.specs.declared.polygons.RegularPolygon.{RegularPolygon}
-use Rattle.turned_polygons.specs.declared.TurnedPolygon.{TurnedPolygon}
 use Rattle.real_copper.specs.Figures.{RealFigure, exact, is_real_placed, line, odd, polygon, turned, turned_disc}
 use Rattle.real_copper.specs.Flashes.{sides_about, stroke_about}
 

@@ -1,5 +1,5 @@
 -- What the reader of real copper keeps, and how it goes on.
-use Rattle.std.specs.Prelude.{◌≡◌, ◌+◌, List, ◌++◌, IfSome, Option, Some, None, Result, Ok, Err, option_map}
+use Rattle.std.specs.Prelude.{◌≡◌, ◌+◌, List, ◌++◌, IfSome, Option, None, Result, Ok, Err, option_map}
 use Rattle.board_shapes.specs.declared.placed.Placed.{Placed}
 use Rattle.file_reading.specs.declared.halt.Halt.{Halt}
 use Rattle.file_reading.specs.declared.halt.Halt.TheVariants as halt
@@ -24,7 +24,7 @@ use Rattle.real_copper.specs.Kinds.{gerber}
 use Rattle.real_copper.specs.Rows.{RealEffect, RealKnown, closing}
 use Rattle.real_copper.specs.Shapes.{real_figure}
 use Rattle.real_shapes.specs.declared.RealShape.{RealShape}
-use Rattle.real_copper.specs.Table.{PlainReal, fits}
+use Rattle.real_copper.specs.Table.{fits}
 use Rattle.real_copper.specs.declared.anchored.Anchored.{Anchored}
 use Rattle.real_copper.specs.declared.aperture.RealAperture.{RealAperture}
 use Rattle.real_copper.specs.declared.draw.Bend.{Bend}
@@ -33,10 +33,6 @@ use Rattle.real_copper.specs.declared.kind.RealKind.{RealKind}
 -- the figure of a shape that is kept
 abbrev pub plain : Anchored → RealFigure
 plain f = real_figure f.shape
-
--- pieces as plain data
-abbrev pub plain_reals : List (Placed RealShape) → List PlainReal
-plain_reals pieces = pieces_by real_figure pieces
 
 abbrev pub Seen : Type 0
 Seen = Reader Anchored (Option Bend) RealAperture

@@ -1,13 +1,12 @@
 -- The rows of real copper that make pieces: of draws, of flashes, of contours, and of blocks (Gerber Layer Format Specification, 4.4, 4.5, 4.8,
 -- 4.10 and 4.12).
-use Rattle.std.specs.Prelude.{ℕ, Bool, ◌+◌, ◌-◌, ◌&&◌, ◌||◌, not, nat_le, nat_lt, if◌then◌else◌, List, [], ◌∷◌, ◌++◌, length, take, drop, Option, Some, None, is_none, Result, Ok, Err}
+use Rattle.std.specs.Prelude.{ℕ, Bool, ◌+◌, ◌&&◌, ◌||◌, not, nat_le, nat_lt, if◌then◌else◌, List, [], ◌∷◌, ◌++◌, length, Option, Some, None, is_none, Result, Ok, Err}
 use Rattle.planar.specs.Plane.{same_spot}
 use Rattle.planar.specs.declared.Spot.{Spot}
 use Rattle.apertures.specs.Flash.{NoFlash}
 use Rattle.aperture_macros.specs.BodyWord.{PlainPrimitive}
 use Rattle.aperture_macros.specs.declared.fault.MacroFault.{MacroFault}
 use Rattle.area_contact.specs.declared.TheConstants.{MOST_CONTOUR_EDGES}
-use Rattle.board_shapes.specs.Pieces.{PieceOf}
 use Rattle.file_reading.specs.Conditions.{◌>>=◌, unless, needed}
 use Rattle.gerber_reading.specs.Command.{Bending}
 use Rattle.gerber_reading.specs.CommandEffects.{Effect, Known, closes, code_of, concludes, edges_for, edges_in, ended_block_by, exceed, extends, is_drawing, leaves, listed, next_block, opens, performs, room_for, room_for_all, selected, steps, target}

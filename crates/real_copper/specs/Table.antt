@@ -1,8 +1,6 @@
 -- The table of real copper, and how a file of it is read.
-use Rattle.std.specs.Prelude.{◌≡◌, ℕ, Bool, true, false, ◌||◌, not, nat_le, get_or, slice_get, if◌then◌else◌, List, [], ◌∷◌, length, codes, Option, Some, None, is_none, is_some, IsSomeAnd, Result, Ok, Err}
+use Rattle.std.specs.Prelude.{ℕ, Bool, not, nat_le, if◌then◌else◌, List, [], ◌∷◌, Option, Some, None, is_none, is_some, Result, Ok, Err}
 use Rattle.std.specs.Str.Parse.{digits_value}
-use Rattle.texts.specs.Words.{is_word}
-use Rattle.planar.specs.declared.Spot.{Spot}
 use Rattle.apertures.specs.Definition.{name_of, name_text, number_digits}
 use Rattle.apertures.specs.declared.fault.ApertureFault.{ApertureFault}
 use Rattle.apertures.specs.declared.fault.ApertureFault.TheVariants as aperture
@@ -16,7 +14,7 @@ use Rattle.file_reading.specs.declared.fault.FileFault.{FileFault}
 use Rattle.gerber_layer.specs.MacroTable.{is_reserved, kind_of_macro}
 use Rattle.gerber_layer.specs.declared.macro_kind.FlattenKind.TheVariants.{BadMacro, MacroTwice, NoMacro}
 use Rattle.gerber_reading.specs.Command.{Command, body_word, breaks, closes_region, counts_in, curves, defines, ends, finishes, formats, functions, names_macro, nothing, opens_region, operates, quarters, refused, repeats, selects}
-use Rattle.gerber_reading.specs.CommandEffects.{Profile, begins_macro, code_of, define_as, fills_macro, is_finish, is_of_layer, kind_of_aperture, kind_of_word, makes, opens, other_format, stays, target}
+use Rattle.gerber_reading.specs.CommandEffects.{Profile, begins_macro, define_as, fills_macro, is_finish, is_of_layer, kind_of_aperture, kind_of_word, makes, other_format, stays, target}
 use Rattle.gerber_reading.specs.Dialect.{Dialect, HasOneAnswerBy, IsFaultBy, IsReadBy, IsRefusedBy}
 use Rattle.gerber_reading.specs.Tools.{Macros, composed, has_room, macro_named, parameters_in}
 use Rattle.gerber_reading.specs.declared.TheConstants.{MOST_APERTURES}
@@ -31,8 +29,8 @@ use Rattle.real_copper.specs.Apertures.{IsLawful, real_aperture_at}
 use Rattle.real_copper.specs.Arcs.{as_real, bend_of}
 use Rattle.real_copper.specs.Figures.{RealFigure}
 use Rattle.real_copper.specs.Kinds.{gerber}
-use Rattle.real_copper.specs.Primitives.{primitive_figure}
 use Rattle.real_copper.specs.Rows.{RealEffect, RealKnown, end, enter, leave, operate, repeat}
+use Rattle.real_copper.specs.Shapes.{PlainReal}
 use Rattle.real_copper.specs.Words.{real_command}
 use Rattle.real_copper.specs.declared.aperture.RealAperture.{RealAperture}
 use Rattle.real_copper.specs.declared.draw.Bend.{Bend}
@@ -149,10 +147,6 @@ fits m (given.Standard a) = IsLawful a
 fits m (given.Composed name parameters unit marks) = Unit {0}
 
 -- ---- A file
-
--- one figure on a span of layers
-abbrev pub PlainReal : Type 0
-PlainReal = PieceOf RealFigure
 
 -- The real copper of a file: no command has a fault, and these are the pieces that they make.
 abbrev pub IsRealCopper : List ℕ → Place → List PlainReal → Type 0

@@ -3,7 +3,8 @@ ghost use Rattle.gerber_reading.specs.Laws.{PrefixMakesTheSame, PrefixesAreRefus
 ghost use Rattle.gerber_reading.specs.declared.kind.GerberKind.TheVariants as kinds;
 ghost use Rattle.gerber_reading.specs.declared.place.Place.{Place};
 ghost use Rattle.real_copper.specs.Kinds.{RealKindsHaveOwnNumbers, gerber};
-ghost use Rattle.real_copper.specs.Table.{HasOneRealAnswer, IsRealCopper, PlainReal, real};
+ghost use Rattle.real_copper.specs.Shapes.{PlainReal};
+ghost use Rattle.real_copper.specs.Table.{HasOneRealAnswer, IsRealCopper, real};
 ghost use Rattle.std.specs.Prelude.{List, ℕ};
 
 use crate::real::RealCopper;

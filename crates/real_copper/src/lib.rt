@@ -37,6 +37,4 @@ pub use sketches::primitive_at;
 pub use strokes::draw_of;
 
 #[cfg(test)]
-mod oracle;
-#[cfg(test)]
 mod tests;

@@ -331,18 +331,18 @@ fn odd_edges(f: &FineFigure) -> u32
     }
 }
 
-/// How many edges a shape counts for the room: those of its border that are straight or arcs of a contour, and none of what is round.
-pub fn edges_of(shape: &RealShape) -> usize
+/// How many edges a shape counts for the room: those of its border that are straight or arcs of a contour.
+pub fn edges_of(shape: &RealShape) -> u64
     ensures { result ≡ real_edges (real_figure shape.now) }
 {
     match shape {
-        RealShape::Plain(shape) => shape.edges() as usize,
+        RealShape::Plain(shape) => u64::from(shape.edges()),
         RealShape::Slanted(_) => 4,
-        RealShape::Region(area) => area.parts.len(),
-        RealShape::Turned(t) => t.contour.len().saturating_sub(1),
-        RealShape::Polygon(g) => g.polygon.corners as usize,
-        RealShape::Fine(f) => odd_edges(f) as usize,
-        RealShape::Holed(h) => odd_edges(&h.outline) as usize,
+        RealShape::Region(area) => area.parts.len() as u64,
+        RealShape::Turned(t) => t.contour.len().saturating_sub(1) as u64,
+        RealShape::Polygon(g) => u64::from(g.polygon.corners),
+        RealShape::Fine(f) => u64::from(odd_edges(f)),
+        RealShape::Holed(h) => u64::from(odd_edges(&h.outline)),
         _ => 0,
     }
 }

@@ -2,7 +2,8 @@
 ghost use Rattle.file_reading.specs.declared.fault.FileFault.{FileFault};
 ghost use Rattle.real_copper.specs.Draws.{IsNearBend};
 ghost use Rattle.real_copper.specs.Figures.{RealFigure, real_handling};
-ghost use Rattle.real_copper.specs.RealReader.{plain, plain_reals};
+ghost use Rattle.real_copper.specs.RealReader.{plain};
+ghost use Rattle.real_copper.specs.Shapes.{plain_reals};
 ghost use Rattle.real_copper.specs.Table.{IsRealCopper, IsRealFault, fits, real};
 ghost use Rattle.step_repeat.specs.Copies.{pieces_by};
 ghost use Rattle.std.specs.Prelude.{All, IfErr, IfOk, length, ◌≡◌, ◌≤◌};

@@ -1,6 +1,7 @@
 -- A refusal of a reader is why the file of an entry is not read.
 use Rattle.std.proofs.Common.{◌≡◌, ◌⊎◌, inl, inr, ℕ, List, refl, sym, subst}
-use Rattle.real_copper.specs.Table.{IsRealCopper, IsRealFault, IsRealRefused, PlainReal}
+use Rattle.real_copper.specs.Shapes.{PlainReal}
+use Rattle.real_copper.specs.Table.{IsRealCopper, IsRealFault, IsRealRefused}
 use Rattle.file_reading.specs.declared.fault.FileFault.{FileFault}
 use Rattle.file_reading.specs.declared.fault.FileFault.TheVariants as real_fault
 use Rattle.real_copper.specs.declared.kind.RealKind.{RealKind}

@@ -1,11 +1,7 @@
 -- Boards of real copper as plain data, and what such a board keeps.
 use Rattle.std.specs.Prelude.{◌≡◌, ℕ, ◌-◌, ◌^◌, nat_lt, if◌then◌else◌, List, [], ◌++◌, map, sum_by, length}
-use Rattle.real_copper.specs.Table.{PlainReal}
 use Rattle.real_copper.specs.Figures.{exact, real_edges}
-use Rattle.real_copper.specs.RealReader.{plain_reals}
-use Rattle.real_copper.specs.Shapes.{real_figure}
-use Rattle.step_repeat.specs.Copies.{piece_by}
-use Rattle.board_shapes.specs.declared.placed.Placed.{Placed}
+use Rattle.real_copper.specs.Shapes.{PlainReal, plain_reals}
 use Rattle.real_shapes.specs.declared.RealShape.{RealShape}
 use Rattle.board_shapes.specs.Pieces.{PlainPiece}
 use Rattle.board_shapes.specs.Plain.{PlainBoard}
@@ -54,7 +50,6 @@ as_reals pieces = map as_real pieces
 abbrev pub counted : ℕ → ℕ
 counted n = if nat_lt n (2 ^ 32) then n else 2 ^ 32 - 1
 
--- each counts as many edges as where it is read
 abbrev pub edges_in : List PlainReal → ℕ
 edges_in pieces = sum_by (λ (p : PlainReal). counted (real_edges p.figure)) pieces
 

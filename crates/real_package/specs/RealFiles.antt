@@ -1,6 +1,7 @@
 -- What each file of a package is read as where copper is real, and why it is refused.
 use Rattle.std.specs.Prelude.{◌≡◌, ⊤, ℕ, List}
-use Rattle.real_copper.specs.Table.{IsRealCopper, IsRealRefused, PlainReal}
+use Rattle.real_copper.specs.Shapes.{PlainReal}
+use Rattle.real_copper.specs.Table.{IsRealCopper, IsRealRefused}
 use Rattle.real_copper.specs.declared.kind.RealKind.{RealKind}
 use Rattle.real_copper.specs.Kinds.{gerber}
 use Rattle.real_copper.specs.declared.kind.RealKind.TheVariants.{Copper}

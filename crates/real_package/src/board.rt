@@ -1,7 +1,5 @@
 //! A board whose pieces may be other copper than figures, as arc draws.
-ghost use Rattle.real_copper.specs.Figures.{real_edges};
-ghost use Rattle.real_copper.specs.RealReader.{plain_reals};
-ghost use Rattle.real_copper.specs.Shapes.{real_figure};
+ghost use Rattle.real_copper.specs.Shapes.{plain_reals};
 ghost use Rattle.board_shapes.specs.Pieces.{plain_pieces};
 ghost use Rattle.board_shapes.specs.Plain.{plain_board};
 ghost use Rattle.real_package.specs.RealBoards as spec;
@@ -11,6 +9,7 @@ ghost use Rattle.std.specs.Prelude.{◌≡◌, ◌<◌, ◌≤◌, ◌^◌, ◌�
 use board_package::{Parts, room_for};
 use board_shapes::{Board, MOST_PIECES, Piece, Placed, Room};
 use lengths::rows::NoMemory;
+use real_copper::edges_of;
 use real_shapes::{RealPiece, RealShape};
 use std::alloc::Global;
 
@@ -18,19 +17,13 @@ use std::alloc::Global;
 pub type RealBoard = Parts<RealShape>;
 
 // A number as far as 32 bits tell it.
-fn counted(n: usize) -> u32
+fn counted(n: u64) -> u32
     ensures { result ≡ spec.counted n }
 {
     match u32::try_from(n) {
         Ok(few) => few,
         Err(_) => u32::MAX,
     }
-}
-
-fn edges_of(shape: &RealShape) -> u32
-    ensures { result ≡ spec.counted (real_edges (real_figure shape.now)) }
-{
-    counted(real_copper::edges_of(shape))
 }
 
 /// How many edges the contours of the pieces have.
@@ -40,7 +33,7 @@ fn edges_in(pieces: &[RealPiece]) -> u64
 {
     let mut edges = 0;
     for piece in pieces {
-        edges += u64::from(edges_of(&piece.shape));
+        edges += u64::from(counted(edges_of(&piece.shape)));
     }
     edges
 }

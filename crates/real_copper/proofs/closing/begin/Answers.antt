@@ -6,7 +6,7 @@ use Rattle.real_copper.specs.Arcs.{no_arc}
 use Rattle.real_copper.specs.RealReader.{HasObeyed, known}
 use Rattle.real_copper.specs.Rows.{perform_in_region}
 use Rattle.real_copper.proofs.Carrying.{if_err, on_ok}
-use Rattle.real_copper.proofs.Closed.{begin_stops, begin_stops_behind, closed_right, has_begun}
+use Rattle.real_copper.proofs.Closed.{begin_stops, begin_stops_behind, has_begun}
 use Rattle.real_copper.proofs.closing.begin.Goals as goal
 
 pub returns-in-Ok-clause-ok : goal.returns-in-Ok-clause-ok

@@ -1,11 +1,11 @@
-use Rattle.std.proofs.Common.{◌≡◌, ◌∙◌, Bool, true, false, None, Some, Ok, length, ap, arith, refl, sym}
+use Rattle.std.proofs.Common.{◌≡◌, ◌∙◌, true, false, Some, Ok, length, ap, arith, refl, sym}
 use Rattle.std.specs.Prelude.{nat_le, nat_lt}
 use Rattle.std.proofs.lemmas.Bool.Decides.{nat_tests}
 use Rattle.std.proofs.lemmas.List.{length-map}
 use Rattle.planar.specs.Plane.{same_spot}
 use Rattle.regions.specs.Contours.{outline_of}
-use Rattle.gerber_reading.specs.Reader.{Places, contour_of}
-use Rattle.real_copper.specs.Contours.{area_of, end_of}
+use Rattle.gerber_reading.specs.Reader.{contour_of}
+use Rattle.real_copper.specs.Contours.{end_of}
 use Rattle.real_copper.specs.RealReader.{known, plain}
 use Rattle.real_copper.specs.Rows.{is_full}
 use Rattle.real_copper.proofs.Closed.{closes_area, closing_is}

@@ -1,9 +1,9 @@
-use Rattle.std.proofs.Common.{◌≡◌, ◌+◌, Ok, false, ◌||◌, length, refl, sym, ap, ◌∙◌, arith}
+use Rattle.std.proofs.Common.{◌≡◌, ◌+◌, false, sym, ◌∙◌, arith}
 use Rattle.std.specs.Prelude.{nat_le}
 use Rattle.std.proofs.lemmas.Bool.Decides.{nat_tests}
 use Rattle.area_contact.specs.declared.TheConstants.{MOST_CONTOUR_EDGES}
 use Rattle.gerber_reading.specs.Command.{bending_of}
-use Rattle.gerber_reading.specs.CommandEffects.{edges_in, exceed, extend_by, extends}
+use Rattle.gerber_reading.specs.CommandEffects.{edges_in, exceed}
 use Rattle.real_copper.specs.Figures.{real_handling}
 use Rattle.real_copper.specs.RealReader.{known}
 use Rattle.real_copper.proofs.Closed.{extend_stops, longer_right, room_for_edge}

@@ -1,4 +1,4 @@
-use Rattle.std.proofs.Common.{◌≡◌, ◌∙◌, ap, refl, sym}
+use Rattle.std.proofs.Common.{◌∙◌, ap, refl, sym}
 use Rattle.std.specs.Prelude.{Err}
 use Rattle.apertures.proofs.Digits.{few_digits}
 use Rattle.apertures.specs.Real.{is_holed, is_off_grid}

@@ -2,7 +2,7 @@ use Rattle.std.proofs.Common.{[], ◌∷◌, Some, None}
 use Rattle.gerber_reading.specs.Command.{bending_of}
 use Rattle.real_copper.specs.RealReader.{known, plain}
 use Rattle.real_copper.specs.Rows.{draw}
-use Rattle.real_copper.proofs.Carrying.{draw_is, draw_stops, has_performed, keeps_itself, keeps_rest, takes_nothing}
+use Rattle.real_copper.proofs.Carrying.{draw_is, draw_stops, has_performed, takes_nothing}
 use Rattle.real_copper.proofs.drawing.draw.Goals as goal
 
 pub returns-in-Ok-clause-ok : goal.returns-in-Ok-clause-ok

@@ -1,5 +1,4 @@
 use Rattle.std.proofs.Common.{rules}
-use Rattle.real_copper.specs.RealReader.{known}
 use Rattle.real_copper.proofs.Flashing.{composed_stops}
 use Rattle.real_copper.proofs.drawing.flash_at.Goals as goal
 

@@ -1,4 +1,4 @@
-use Rattle.std.proofs.Common.{◌++◌, ◌+◌, ap, arith, sym, ◌∙◌}
+use Rattle.std.proofs.Common.{◌++◌, ◌+◌, ap, arith}
 use Rattle.gerber_reading.specs.CommandEffects.{listed}
 use Rattle.gerber_reading.specs.Reader.{place_of}
 use Rattle.step_repeat.specs.Copies.{pieces_by}

@@ -1,6 +1,6 @@
 use Rattle.std.proofs.Common.{None}
 use Rattle.gerber_reading.specs.Reader.{Stops}
-use Rattle.real_copper.specs.RealReader.{Closes, HasObeyed, IsCounted, IsRight, known}
+use Rattle.real_copper.specs.RealReader.{Closes, HasObeyed, known}
 use Rattle.real_copper.specs.Rows.{closing, leave}
 use Rattle.real_copper.proofs.Carrying.{if_err, on_ok}
 use Rattle.real_copper.proofs.Closed.{has_left, leave_stops}
