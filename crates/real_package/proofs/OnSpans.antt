@@ -12,7 +12,7 @@ use Rattle.board_package.specs.Manifest.{IsOnBoard}
 use Rattle.board_package.specs.declared.entry.Role.{Role}
 use Rattle.board_package.specs.declared.entry.Role.TheVariants as role
 use Rattle.board_package.specs.Parts.{StandsOn}
-use Rattle.real_package.specs.RealBoards.{as_real, as_reals, plain_real}
+use Rattle.real_package.specs.RealBoards.{as_real, as_reals}
 
 abbrev Spans : ℕ → PlainReal → Type 0
 Spans layers q = IsSpan layers q.top q.bottom

@@ -8,7 +8,7 @@ use Rattle.board_shapes.specs.declared.placed.Placed.{Placed}
 use Rattle.board_shapes.specs.declared.placed.Room.{Room}
 use Rattle.board_shapes.specs.declared.shape.Shape.{Shape}
 use Rattle.real_shapes.specs.declared.RealShape.{RealShape}
-use Rattle.real_package.specs.RealBoards.{as_real, as_reals, room_left, plain_real}
+use Rattle.real_package.specs.RealBoards.{as_real, as_reals, room_left}
 
 pub few_more : (pieces seen : List (Placed RealShape)) (room : Room) (more : ℕ) → seen ≡ pieces → room ≡ room_left (plain_reals seen) → length pieces ≤ MOST_PIECES → more ≤ room.pieces → length pieces + more ≤ MOST_PIECES
 few_more pieces seen room more same left few within =

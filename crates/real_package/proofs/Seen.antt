@@ -7,7 +7,7 @@ use Rattle.board_package.specs.Parts.{Has}
 use Rattle.board_package.specs.declared.parts.Parts.{Parts}
 use Rattle.board_shapes.specs.declared.placed.Placed.{Placed}
 use Rattle.board_shapes.specs.declared.probe.Probe.{Probe}
-use Rattle.real_package.specs.RealBoards.{PlainRealBoard, empty_real, plain_real_board, with_reals, plain_real}
+use Rattle.real_package.specs.RealBoards.{PlainRealBoard, empty_real, plain_real_board, with_reals}
 
 abbrev real_of : List PlainReal → List Probe → List (List ℕ) → ℕ → PlainRealBoard
 real_of pieces probes names layers = record { pieces = pieces; probes = probes; names = names; layers = layers }

@@ -3,16 +3,13 @@ use Rattle.std.specs.Prelude.{◌≡◌, ℕ, ◌-◌, ◌^◌, nat_lt, if◌the
 use Rattle.real_copper.specs.Figures.{exact, real_edges}
 use Rattle.real_copper.specs.Shapes.{PlainReal, plain_reals}
 use Rattle.real_shapes.specs.declared.RealShape.{RealShape}
+use Rattle.board_shapes.specs.Figures.{figure_edges}
 use Rattle.board_shapes.specs.Pieces.{PlainPiece}
 use Rattle.board_shapes.specs.Plain.{PlainBoard}
 use Rattle.board_shapes.specs.declared.placed.Room.{Room}
 use Rattle.board_shapes.specs.declared.probe.Probe.{Probe}
 use Rattle.board_package.specs.Parts.{room_for}
 use Rattle.board_package.specs.declared.parts.Parts.{Parts}
-
--- a piece without where its points lie in memory
-abbrev pub plain_real : Placed RealShape → PlainReal
-plain_real p = piece_by real_figure p
 
 -- pieces that are figures or other copper, the test points, the texts of their names, how many layers there are
 pub record PlainRealBoard : Type 0 where
