@@ -6,3 +6,4 @@ pub mod Turns
 pub mod Readings
 pub mod Told
 pub mod RealAreas
+pub mod PointsRead

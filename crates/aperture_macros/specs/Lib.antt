@@ -9,5 +9,6 @@ pub mod Fine
 pub mod Flashes
 pub mod Seen
 pub mod Outlines
+pub mod Parts
 pub mod Sketches
 pub mod Laws

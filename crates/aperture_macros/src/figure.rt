@@ -103,7 +103,7 @@ impl<'a> Primitive<'a> {
 
     // Whether it is judged as a fine one.
     #[tactic(auto, unfolding(crate::specs::Flashes::is_fine))]
-    fn is_fine(&self, parameters: &[Decimal], unit: Unit) -> bool
+    pub fn is_fine(&self, parameters: &[Decimal], unit: Unit) -> bool
         ensures { result ≡ flashes.is_fine self.now.rotation self.now.form self.now.lengths.now parameters.now unit }
     {
         match self.rotation {

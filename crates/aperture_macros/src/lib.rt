@@ -29,13 +29,18 @@ mod fine;
 mod images;
 pub mod laws;
 mod outline;
+mod parts;
 mod placing;
 mod primitive;
 mod telling;
 mod values;
 
 pub use body_word::read_body;
+pub use degrees::Turn;
 pub use fault::{FigureFault, MacroFault};
+pub use fine::{FineKind, FineSketch};
+pub use images::Sketch;
+pub use placing::Placing;
 pub use primitive::{Copper, Form, Primitive, Rotation, Turning};
 
 /// The most edges of an outline.

@@ -89,7 +89,7 @@ impl Outline<'_> {
 
     // The points, each set down as it is read.
     #[tactic(auto, unfolding(crate::specs::Outlines::moved_from))]
-    fn points(&self, alloc: Global, by: Placing) -> Result<Vec<Spot>, FigureFault>
+    pub fn points(&self, alloc: Global, by: Placing) -> Result<Vec<Spot>, FigureFault>
         requires few { self.now.edges ≤ MOST_OUTLINE_EDGES }
         ensures ok { IfOk result (λ points. moved_from (set_down by.rotation by.at) [] (self.now.edges + 1) self.now.text.now self.now.parameters.now self.now.unit ≡ Ok points.items) }
         ensures fault { IfErr result (IsRefusal (moved_from (set_down by.rotation by.at) [] (self.now.edges + 1) self.now.text.now self.now.parameters.now self.now.unit)) }

@@ -6,7 +6,7 @@ use Rattle.std.proofs.lemmas.Str.{IsUtf8-from_is_utf8, is_utf8-from_IsUtf8}
 use Rattle.board_io.specs.Package.{Files}
 use Rattle.board_shapes.specs.Plain.{PlainBoard, PlainPiece, with_netlist}
 use Rattle.board_shapes.specs.declared.probe.Probe.{Probe}
-use Rattle.gerber_layer.specs.declared.place.Place.{Place as LayerPlace}
+use Rattle.gerber_reading.specs.declared.place.Place.{Place as LayerPlace}
 use Rattle.gerber_layer.specs.Layer as layer_file
 use Rattle.xnc.specs.Places.{Place as DrillPlace}
 use Rattle.xnc.specs.DrillFile as drill_file

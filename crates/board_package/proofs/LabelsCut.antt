@@ -6,16 +6,16 @@ use Rattle.board_shapes.specs.Pieces.{PlainPiece}
 use Rattle.file_reading.proofs.Ending.{CleanOn, clean_behind, read_clean}
 use Rattle.file_reading.specs.Reading.{Clean, Item, said}
 use Rattle.gerber_layer.proofs.Outcome.{not_ok}
-use Rattle.gerber_layer.specs.Command.{Command, refused}
+use Rattle.gerber_reading.specs.Command.{Command, refused}
 use Rattle.gerber_layer.specs.Image.{effect_before, known_before, pieces_of}
 use Rattle.gerber_layer.specs.Layer as layer_file
 use Rattle.gerber_layer.specs.Layer.{stop_command}
 use Rattle.gerber_layer.specs.WordCommands.{are_offsets, by_kind, code_in, coded, command_of, else_by, extended, format_of, format_word, from_i, from_x, is_arc, is_empty, is_idle, is_last, is_neutral, is_number_if, named, operation, operation_of, plain, said_by, selected, selection, selects_or}
-use Rattle.gerber_layer.specs.Settings.{has_ended}
+use Rattle.gerber_reading.specs.Settings.{has_ended}
 use Rattle.gerber_layer.specs.CommandEffects.{Effect, Known, effect, is_finish, kind_of_word, row, stays}
-use Rattle.gerber_layer.specs.declared.place.Place.{Place}
-use Rattle.gerber_layer.specs.declared.kind.GerberKind.{GerberKind}
-use Rattle.gerber_layer.specs.declared.kind.GerberKind.TheVariants as kind
+use Rattle.gerber_reading.specs.declared.place.Place.{Place}
+use Rattle.gerber_reading.specs.declared.kind.GerberKind.{GerberKind}
+use Rattle.gerber_reading.specs.declared.kind.GerberKind.TheVariants as kind
 use Rattle.gerber_words.specs.Attributes.{PlainAttribute, attribute_of, field_of, is_field}
 use Rattle.gerber_words.specs.Items.{items_with}
 use Rattle.gerber_words.specs.Laws.{HasFirstWords, HasOneReadingAhead}
@@ -131,7 +131,7 @@ ends_well : (k : Known) (stop : Stop) → IsOk (effect k (stop_command stop)) �
 unfolding effect row
 ends_well k ended ok = by k.settings.ended refl ok
   where
-    by : (b : Bool) → k.settings.ended ≡ b → IsOk (cond b (Ok stays) (Err kind.NotEnded)) → EndsWell k ended
+    by : (b : Bool) → k.settings.ended ≡ b → IsOk {T = Effect} (cond b (Ok stays) (Err kind.NotEnded)) → EndsWell k ended
     by true e fine = record { is = refl; behind = e }
     by false e fine = absurd (not_ok Effect kind.NotEnded fine)
 ends_well k (broken fault at) ok = absurd (by k.settings.ended ok)

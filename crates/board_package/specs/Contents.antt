@@ -3,7 +3,7 @@ use Rattle.std.specs.Prelude.{◌≡◌, ℕ, List}
 use Rattle.board_shapes.specs.Plain.{PlainBoard, PlainPiece, with_netlist}
 use Rattle.board_shapes.specs.declared.placed.Room.{Room}
 use Rattle.board_shapes.specs.declared.probe.Probe.{Probe}
-use Rattle.gerber_layer.specs.declared.place.Place.{Place as LayerPlace}
+use Rattle.gerber_reading.specs.declared.place.Place.{Place as LayerPlace}
 use Rattle.gerber_layer.specs.Layer as layer_file
 use Rattle.xnc.specs.Places.{Place as DrillPlace}
 use Rattle.xnc.specs.DrillFile as drill_file

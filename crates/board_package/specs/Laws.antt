@@ -6,7 +6,7 @@ use Rattle.board_shapes.specs.Plain.{PlainBoard}
 use Rattle.board_shapes.specs.Touching.{UnderAt}
 use Rattle.board_shapes.specs.declared.probe.Probe.{Probe}
 use Rattle.gerber_layer.specs.Layer as layer_file
-use Rattle.gerber_layer.specs.declared.place.Place.{Place as LayerPlace}
+use Rattle.gerber_reading.specs.declared.place.Place.{Place as LayerPlace}
 use Rattle.ipc356_records.specs.NetlistFile as netlist_file
 use Rattle.xnc.specs.DrillFile as drill_file
 use Rattle.xnc.specs.Places.{Place as DrillPlace}

@@ -1,6 +1,6 @@
 -- The number and the name of a refusal: those of its kind.
 use Rattle.file_reading.specs.Kinds.{Row}
-use Rattle.gerber_layer.specs.Kinds.{row_of as layer_row}
+use Rattle.gerber_reading.specs.Kinds.{row_of as layer_row}
 use Rattle.ipc356_records.specs.Kind.{row_of as record_row}
 use Rattle.xnc.specs.Kind.{row_of as drill_row}
 use Rattle.board_package.specs.declared.contents.Refusal.{Refusal}

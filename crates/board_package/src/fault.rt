@@ -6,7 +6,7 @@ ghost use Rattle.board_package.specs.declared.fault.LabelledFault.TheVariants as
 
 use crate::contents::Refusal;
 use contact::Bounds;
-use gerber_layer::GerberKind;
+use gerber_reading::GerberKind;
 use ipc356_records::RecordKind;
 use lengths::rows::NoMemory;
 use lengths::text::Text;

@@ -5,12 +5,16 @@ use Rattle.board_shapes.specs.declared.placed.Origin.{Origin}
 use Rattle.board_shapes.specs.declared.placed.Placed.{Placed}
 use Rattle.board_shapes.specs.Figures.{Figure, figure_edges, figure_of}
 
--- a figure on a span of layers
-pub record PlainPiece : Type 0 where
-  pub figure : Figure
+-- a figure, of whatever kind, on a span of layers
+pub record PieceOf (G : Type 0) : Type 0 where
+  pub figure : G
   pub top : ℕ
   pub bottom : ℕ
   pub origin : Origin
+
+-- a figure of ours on a span of layers
+abbrev pub PlainPiece : Type 0
+PlainPiece = PieceOf Figure
 
 -- a piece with the figure of its shape, and each of a list
 abbrev pub plain_piece : Placed Shape → PlainPiece

@@ -41,7 +41,7 @@ impl Piece {
         ensures placed { IfOk result (λ piece. StaysPlaced dx dy (figure_of self.now.shape)) }
         ensures fault { IfErr result (IsMoveFault dx dy (figure_of self.now.shape)) }
     {
-        let shape = moved_shape(alloc, &self.shape, Shift { x: dx, y: dy })?;
+        let shape = self.shape.moved(alloc, dx, dy)?;
         let origin = Origin {
             file: self.origin.file,
             command: self.origin.command,
@@ -53,6 +53,21 @@ impl Piece {
             bottom: self.bottom,
             origin,
         })
+    }
+}
+
+impl Shape {
+    /// The same shape shifted by `dx` and `dy`, each at most 2 m in u.
+    ///
+    /// `OutOfRange` where a shifted end or corner is over 1 m from 0 in x or y; `NoMemory` where memory is wanted.
+    pub fn moved(&self, alloc: Global, dx: i64, dy: i64) -> Result<Shape, MoveFault>
+        requires across { IsShift dx }
+        requires up { IsShift dy }
+        ensures ok { IfOk result (λ s. figure_of s ≡ shifted_figure dx dy (figure_of self.now)) }
+        ensures placed { IfOk result (λ s. StaysPlaced dx dy (figure_of self.now)) }
+        ensures fault { IfErr result (IsMoveFault dx dy (figure_of self.now)) }
+    {
+        moved_shape(alloc, self, Shift { x: dx, y: dy })
     }
 }
 

@@ -11,7 +11,8 @@ use Rattle.arc_covers.specs.declared.side.Side.TheVariants.{Below, Above}
 use Rattle.arc_covers.specs.Eighths.{LiesBelow}
 use Rattle.arc_covers.specs.Regions.{RegionAbove}
 use Rattle.arc_regions.specs.Copper as regions
-use Rattle.arc_layer.specs.Real.{PlainReal, RealFigure, plain, bent, slanted, curved, turned, turned_disc, regular, fine, holed, plain_real, plain_reals, real_figure}
+use Rattle.real_copper.specs.Figures.{RealFigure, exact, arc, line, region, turned, turned_disc, polygon, odd, holed}
+use Rattle.real_copper.specs.Shapes.{PlainReal, plain_real, plain_reals, real_figure}
 use Rattle.real_shapes.specs.declared.RealShape.{RealShape}
 use Rattle.real_shapes.specs.declared.RealShape.TheVariants.{Plain, ArcDraw, Slanted, Region, Turned, TurnedDisc, Polygon, Fine, Holed}
 use Rattle.board_shapes.specs.Figures.{Figure, InFigure}
@@ -43,15 +44,15 @@ as_many xs ys e = let p = length-map xs plain_real in let q = length-map ys plai
 
 -- what stands for a piece, by its figure alone
 abbrev StandBy : Side → RealFigure → List Figure → Type 0
-StandBy side (plain figure) figures = figures ≡ figure ∷ []
-StandBy side (bent arc) figures = StandTaken side (ArcDraw arc) figures
-StandBy side (slanted line) figures = StandTaken side (Slanted line) figures
-StandBy Below (curved begins parts) figures = ContourFor Below (LiesBelow begins parts) figures
-StandBy Above (curved begins parts) figures = RegionAbove begins parts figures
+StandBy side (exact figure) figures = figures ≡ figure ∷ []
+StandBy side (arc a) figures = StandTaken side (ArcDraw a) figures
+StandBy side (line a) figures = StandTaken side (Slanted a) figures
+StandBy Below (region begins parts) figures = ContourFor Below (LiesBelow begins parts) figures
+StandBy Above (region begins parts) figures = RegionAbove begins parts figures
 StandBy side (turned contour about angle) figures = TurnedTaken side contour about angle figures
 StandBy side (turned_disc disc) figures = StandTaken side (TurnedDisc disc) figures
-StandBy side (regular g) figures = StandTaken side (Polygon g) figures
-StandBy side (fine f) figures = StandTaken side (Fine f) figures
+StandBy side (polygon g) figures = StandTaken side (Polygon g) figures
+StandBy side (odd f) figures = StandTaken side (Fine f) figures
 StandBy side (holed h) figures = StandTaken side (Holed h) figures
 
 stand_by : (side : Side) (s : RealShape) (figures : List Figure) → StandTaken side s figures ↔ StandBy side (real_figure s) figures
@@ -79,14 +80,14 @@ taken_alike side x y pieces e h = record {
 }
 
 abbrev CopperBy : RealFigure → (Point → Type 0) → Type 0
-CopperBy (plain figure) holds = (p : Point) → InFigure figure p ↔ holds p
-CopperBy (bent arc) holds = IsCopperOf (ArcDraw arc) holds
-CopperBy (slanted line) holds = IsCopperOf (Slanted line) holds
-CopperBy (curved begins parts) holds = regions.IsCopper begins parts holds
+CopperBy (exact figure) holds = (p : Point) → InFigure figure p ↔ holds p
+CopperBy (arc a) holds = IsCopperOf (ArcDraw a) holds
+CopperBy (line a) holds = IsCopperOf (Slanted a) holds
+CopperBy (region begins parts) holds = regions.IsCopper begins parts holds
 CopperBy (turned contour about angle) holds = IsTurnedCopper contour about angle holds
 CopperBy (turned_disc disc) holds = IsCopperOf (TurnedDisc disc) holds
-CopperBy (regular g) holds = IsCopperOf (Polygon g) holds
-CopperBy (fine f) holds = IsCopperOf (Fine f) holds
+CopperBy (polygon g) holds = IsCopperOf (Polygon g) holds
+CopperBy (odd f) holds = IsCopperOf (Fine f) holds
 CopperBy (holed h) holds = IsCopperOf (Holed h) holds
 
 copper_by : (s : RealShape) (holds : Point → Type 0) → IsCopperOf s holds ↔ CopperBy (real_figure s) holds

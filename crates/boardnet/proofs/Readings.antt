@@ -6,7 +6,7 @@ use Rattle.arc_covers.specs.Taken.{AreTaken}
 use Rattle.arc_covers.specs.declared.side.Side.{Side}
 use Rattle.arc_covers.specs.declared.between.BoundsFault.{BoundsFault}
 use Rattle.arc_covers.specs.declared.between.BoundsFault.TheVariants as bounds
-use Rattle.arc_layer.specs.Real.{PlainReal, plain_real, plain_reals}
+use Rattle.real_copper.specs.Shapes.{PlainReal, plain_real, plain_reals}
 use Rattle.real_shapes.specs.declared.RealShape.{RealShape}
 use Rattle.board_io.specs.Handed.{Grows, Handed}
 use Rattle.board_io.specs.Package.{IsFaultless}

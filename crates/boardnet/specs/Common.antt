@@ -1,7 +1,7 @@
 -- What the commands share: the lines of refusals, and what an outcome is.
 use Rattle.std.specs.Prelude.{◌≡◌, ℕ, List, codes}
-use Rattle.arc_layer.specs.Kinds.{real_row}
-use Rattle.arc_layer.specs.declared.kind.RealKind.{RealKind}
+use Rattle.real_copper.specs.Kinds.{real_row}
+use Rattle.real_copper.specs.declared.kind.RealKind.{RealKind}
 use Rattle.board_package.specs.PackageBoard.{Stop, absent, longer, not_json, bad_manifest, refused, frame_too_large}
 use Rattle.board_package.specs.Refusals.{refusal_row}
 use Rattle.board_package.specs.declared.contents.Refusal.{Refusal}

@@ -19,7 +19,7 @@ use Rattle.real_package.specs.RealBoards.{PlainRealBoard}
 use Rattle.arc_covers.specs.Findings.{IsWithoutCopper}
 use Rattle.arc_covers.specs.Laws.{CertainFindings}
 use Rattle.arc_covers.specs.RealBoards.{IsReal}
-use Rattle.arc_layer.specs.Real.{plain_reals}
+use Rattle.real_copper.specs.Shapes.{plain_reals}
 use Rattle.real_shapes.specs.declared.RealShape.{RealShape}
 use Rattle.board_shapes.specs.declared.placed.Placed.{Placed}
 use Rattle.reports.specs.declared.judged.Version.{Version}

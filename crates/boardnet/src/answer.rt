@@ -5,7 +5,7 @@ ghost use Rattle.boardnet.specs.declared.answer.Unanswered.TheVariants as unansw
 ghost use Rattle.std.specs.Prelude.{◌≡◌};
 
 use crate::unbound::Unbound;
-use arc_layer::RealKind;
+use real_copper::RealKind;
 use board_maker::MakeFault;
 use board_package::{BuildFault, LabelledFault};
 use contact::Bounds;

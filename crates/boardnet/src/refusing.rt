@@ -9,7 +9,7 @@ ghost use Rattle.std.specs.Prelude.{IfErr, IfOk, ◌≡◌, ◌≤◌};
 
 use crate::answer::Unanswered;
 use crate::commands::Command;
-use arc_layer::RealKind;
+use real_copper::RealKind;
 use board_io::Sink;
 use board_package::{BuildFault, Refusal};
 use file_reading::RefusalKind;

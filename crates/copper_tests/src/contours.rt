@@ -20,17 +20,17 @@ fn spot(x: u8, y: u8) -> Spot
 }
 
 /// The contour from (0, 0) through the ends of its edges.
-fn drawn(alloc: Global, ends: &[(u8, u8)]) -> Result<Contour, AddFault> {
+fn drawn(alloc: Global, ends: &[(u8, u8)]) -> Result<Contour<()>, AddFault> {
     let mut contour = Contour::begin(alloc, spot(0, 0));
     for (x, y) in ends {
-        contour.add(spot(*x, *y))?;
+        contour.add(spot(*x, *y), ())?;
     }
     Ok(contour)
 }
 
 fn closed(alloc: Global, ends: &[(u8, u8)]) -> Result<Option<Area>, CloseFault> {
     match drawn(alloc, ends) {
-        Ok(contour) => contour.close(),
+        Ok(contour) => contour.close(alloc),
         Err(_) => Err(CloseFault::NoMemory),
     }
 }
@@ -60,7 +60,7 @@ fn a_plate_with_a_hole_by_a_cut_in(rt: HostRuntime) -> Result<(), Fail> {
     let contour = drawn(rt.alloc(), &PLATE).expect(&rt, "a contour");
     assert_eq!(rt; contour.edges(), 12);
     let plate = contour
-        .close()
+        .close(rt.alloc())
         .expect(&rt, "an area")
         .expect(&rt, "an area");
     assert_eq!(rt; plate.edges(), 12);
@@ -89,15 +89,15 @@ fn bad_contours(rt: HostRuntime) {
 fn the_longest_contour(rt: HostRuntime) {
     let mut contour = Contour::begin(rt.alloc(), spot(0, 0));
     for _ in 1..MOST_CONTOUR_EDGES {
-        assert!(rt; contour.add(spot(1, 1)).is_ok());
+        assert!(rt; contour.add(spot(1, 1), ()).is_ok());
     }
-    assert!(rt; contour.add(spot(0, 0)).is_ok());
+    assert!(rt; contour.add(spot(0, 0), ()).is_ok());
     assert!(rt;
         contour
-            .add(spot(0, 0))
+            .add(spot(0, 0), ())
             .is_err_and(|fault| fault == AddFault::TooLong)
     );
     assert_eq!(rt; contour.edges(), MOST_CONTOUR_EDGES);
-    let area = contour.close();
+    let area = contour.close(rt.alloc());
     assert!(rt; area.is_ok_and(|area| area.is_some_and(|area| area.edges() == MOST_CONTOUR_EDGES)));
 }

@@ -1,12 +1,11 @@
 // Files, and what they are read as.
-mod loose;
 mod macros;
 mod refusals;
-mod straight;
 
 use board_shapes::{MOST_LAYERS, Piece, Room, Shape};
 use file_reading::RefusalKind;
-use gerber_layer::{LayerFault, Place, read_layer};
+use gerber_layer::read_layer;
+use gerber_reading::{LayerFault, Place};
 use std::alloc::{AllocError, Global};
 use std::fmt::Write;
 use std::test::Fail;

@@ -7,11 +7,13 @@ use Rattle.board_shapes.specs.Pieces.{PlainPiece}
 use Rattle.step_repeat.specs.Copies.{Refusal, copies_at}
 use Rattle.step_repeat.specs.declared.repeat.Repeat.{Repeat}
 use Rattle.file_reading.specs.Reading.{Clean}
-use Rattle.gerber_layer.specs.Command.{Command, defines, repeats, opens_region, closes_region, operates, ends, names_macro, body_word}
-use Rattle.gerber_layer.specs.declared.kind.GerberKind.{GerberKind}
-use Rattle.gerber_layer.specs.declared.kind.GerberKind.TheVariants as kind
-use Rattle.gerber_layer.specs.CommandEffects.{Place, Known, Effect, stays, begins_macro, performs, closes, opens, leaves, steps, concludes, ◌>>=◌, as_copies, with_copies, left, listed, ended_block, next_block, repeat, row, effect, code_of}
-use Rattle.gerber_layer.specs.Image.{Image, image_by, image_of, pieces_of, known_before, effect_before, made, pieces_after, start_after, with_effect}
+use Rattle.gerber_reading.specs.Command.{Command, defines, repeats, opens_region, closes_region, operates, ends, names_macro, body_word}
+use Rattle.gerber_reading.specs.declared.kind.GerberKind.{GerberKind}
+use Rattle.gerber_reading.specs.declared.kind.GerberKind.TheVariants as kind
+use Rattle.gerber_layer.specs.CommandEffects.{Place, Known, Effect, stays, begins_macro, performs, closes, opens, leaves, steps, concludes, ◌>>=◌, as_copies, with_copies, left, listed, ended_block, repeat, row, effect, code_of}
+use Rattle.gerber_reading.specs.CommandEffects.{ended_block_by, next_block}
+use Rattle.gerber_reading.specs.Image.{image_by}
+use Rattle.gerber_layer.specs.Image.{Image, image_of, pieces_of, known_before, effect_before, made, pieces_after, start_after, with_effect}
 use Rattle.gerber_layer.specs.Laws.{is_repeat, up_to_block, LooksBackToItsBlock}
 use Rattle.gerber_layer.proofs.Outcome.{bind_ok, not_body, not_ok, past_test, outcome}
 use Rattle.gerber_layer.proofs.Placing.{IsSimple, simple_by, simple_effect}
@@ -65,7 +67,7 @@ simple : (p : Place) (n : ℕ) (k : Known) (e : Effect) → IsSimple e → k.sta
 simple p n k e s h = record { pieces = simple_keeps p n k.start k.pieces e s h; start = simple_start k.start e s }
 
 concluded : (p : Place) (n : ℕ) (k : Known) (e : Effect) → k.start ≤ length k.pieces → cond k.settings.region (Err kind.NotInRegion) (ended_block k >>= λ pieces. Ok (concludes pieces)) ≡ Ok e → KeepsBlock p n k e
-unfolding ended_block
+unfolding ended_block_by
 concluded p n k e h is =
     let one = past_test k.settings.region kind.NotInRegion (ended_block k >>= λ pieces. Ok (concludes pieces)) e is in
     let all = bind_ok (ended_block k) (λ pieces. Ok (concludes pieces)) e one in
@@ -78,11 +80,11 @@ unfolding effect row
 other_keeps p n k (repeats text) e unlike h is = absurd (cc)
 other_keeps p n k ends e unlike h is = concluded p n k e h (past_test k.settings.ended kind.AfterEnd _ e is)
 other_keeps p n k (defines text) e unlike h is = let o = outcome k (defines text) e is in simple p n k e (simple_by e _ o.is tt) h
-other_keeps p n k (operates x y code) e unlike h is = let o = outcome k (operates x y code) e is in simple p n k e (simple_effect e k.settings.region (code_of code) o.to o.is) h
+other_keeps p n k (operates x y code b) e unlike h is = let o = outcome k (operates x y code b) e is in simple p n k e (simple_effect e k.settings.region (code_of code) o.to o.is) h
 other_keeps p n k opens_region e unlike h is = simple p n k e (simple_by e opens (outcome k opens_region e is) tt) h
 other_keeps p n k closes_region e unlike h is = let o = outcome k closes_region e is in simple p n k e (simple_by e (leaves o.0) o.1 tt) h
 other_keeps p n k (names_macro name) e unlike h is = simple p n k e (simple_by e (begins_macro name) (outcome k (names_macro name) e is) tt) h
-other_keeps p n k (body_word copper text) e unlike h is = absurd (not_body k copper text e is)
+other_keeps p n k (body_word text) e unlike h is = absurd (not_body k text e is)
 other_keeps p n k other e unlike h is = simple p n k e (simple_by e stays (outcome k other e is) tt) h
 
 -- a step and repeat word

@@ -1,4 +1,6 @@
--- The marks of an aperture of a macro: a primitive that is marked has no image, and stays what it is.
+-- What is right of the apertures of a file: a primitive that is marked has no image, and stays what it is.
+use Rattle.std.specs.Prelude.{All}
+use Rattle.gerber_reading.specs.CommandEffects.{Outline}
 use Rattle.std.proofs.Common.{◌≡◌, ℕ, ◌<◌, ◌==◌, zero, suc, Bool, true, false, cond, not, List, [], ◌∷◌, ◌++◌, length, get_or, slice_get, Option, Some, None, option_map, IfSome, IsSomeAnd, refl, sym, ap, subst, ◌∙◌}
 use Rattle.std.proofs.lemmas.Bool.Decides.{Decides-eqb}
 use Rattle.std.proofs.lemmas.Option.{IfSome_then, slice_get-map, slice_get_read}
@@ -10,11 +12,9 @@ use Rattle.aperture_macros.specs.BodyWord.{PlainPrimitive}
 use Rattle.aperture_macros.specs.Flashes.{IsBlank}
 use Rattle.aperture_macros.specs.Seen.{plain}
 use Rattle.aperture_macros.specs.declared.primitive.Primitive.{Primitive}
-use Rattle.gerber_layer.specs.declared.dictionary.Dictionary.{Dictionary}
-use Rattle.gerber_layer.specs.declared.tool.Tool.{Tool as Given}
-use Rattle.gerber_layer.specs.declared.tool.Tool.TheVariants as given
+use Rattle.gerber_reading.specs.declared.tool.Tool.TheVariants as given
 use Rattle.gerber_layer.specs.Tools.{Macro, Macros, begun, filled_up, latest_or, longer, macro_named}
-use Rattle.gerber_layer.specs.Reader.{Adds, AreBlank, AreBlankIn, AreMarked, HasMacros, IsMarked, KeepsTools, body_of, kept_in, macros_in, tool_of}
+use Rattle.gerber_layer.specs.Reader.{Adds, AllFit, AreBlank, AreBlankIn, Dictionary, Fits, Given, HasMacros, KeepsStraight, KeepsTools, body_of, kept_in, macros_in, tool_of}
 
 -- ---- Marks of a body
 
@@ -82,34 +82,41 @@ begun_in m new name parameters unit marks free h = by (is_word new name) refl
 abbrev Carries : Macros → Macros → Type 0
 Carries m n = (name : List ℕ) (parameters : List Fraction) (unit : Measure) (marks : List Bool) → AreBlankIn (macro_named m name) parameters unit marks → AreBlankIn (macro_named n name) parameters unit marks
 
-carried : (m n : Macros) → Carries m n → (tool : Given) → IsMarked m tool → IsMarked n tool
-carried m n f (given.Standard aperture) h = tt
+carried : (m n : Macros) → Carries m n → (tool : Given) → Fits m tool → Fits n tool
+carried m n f (given.Standard aperture) h = h
 carried m n f (given.Composed name parameters unit marks) h = f name.now parameters.items unit marks.items h
 
-all_carried : (old new : Dictionary) → Carries (macros_in old) (macros_in new) → KeepsTools old new → AreMarked old → AreMarked new
-all_carried old new f kept h = λ n. subst (λ (o : Option Given). IfSome o (IsMarked (macros_in new))) (sym (kept n)) (IfSome_then (kept_in old n) (h n) (carried (macros_in old) (macros_in new) f))
+all_carried : (old new : Dictionary) → Carries (macros_in old) (macros_in new) → KeepsTools old new → AllFit old → AllFit new
+all_carried old new f kept h = λ n. subst (λ (o : Option Given). IfSome o (Fits (macros_in new))) (sym (kept n)) (IfSome_then (kept_in old n) (h n) (carried (macros_in old) (macros_in new) f))
 
 named_alike : (m n : Macros) → n.latest ≡ m.latest → ((name : List ℕ) → n.others name ≡ m.others name) → (name : List ℕ) → macro_named m name ≡ macro_named n name
 named_alike m n l o name = sym (ap (λ (x : Option Macro). latest_or x (n.others name) name) l ∙ ap (λ (y : Option (List PlainPrimitive)). latest_or m.latest y name) (o name))
 
-has_carried : (old new : Dictionary) (macros : Macros) → HasMacros old new macros → Carries (macros_in old) macros → KeepsTools old new → AreMarked old → AreMarked new
+has_carried : (old new : Dictionary) (macros : Macros) → HasMacros old new macros → Carries (macros_in old) macros → KeepsTools old new → AllFit old → AllFit new
 has_carried old new macros has f kept h =
     all_carried old new (λ name parameters unit marks k. subst (λ (o : Option (List PlainPrimitive)). AreBlankIn o parameters unit marks) (named_alike macros (macros_in new) has.latest has.others name) (f name parameters unit marks k)) kept h
 
-pub filled_marked : (old new : Dictionary) (p : PlainPrimitive) → HasMacros old new (filled_up (macros_in old) p) → KeepsTools old new → AreMarked old → AreMarked new
+pub filled_marked : (old new : Dictionary) (p : PlainPrimitive) → HasMacros old new (filled_up (macros_in old) p) → KeepsTools old new → AllFit old → AllFit new
 filled_marked old new p has kept h =
     has_carried old new (filled_up (macros_in old) p) has (λ name parameters unit marks k. filled_in (macros_in old).latest ((macros_in old).others name) p name parameters unit marks k) kept h
 
-pub begun_marked : (old new : Dictionary) (name : List ℕ) → HasMacros old new (begun (macros_in old) name) → KeepsTools old new → macro_named (macros_in old) name ≡ None → AreMarked old → AreMarked new
+pub begun_marked : (old new : Dictionary) (name : List ℕ) → HasMacros old new (begun (macros_in old) name) → KeepsTools old new → macro_named (macros_in old) name ≡ None → AllFit old → AllFit new
 begun_marked old new name has kept free h =
     has_carried old new (begun (macros_in old) name) has (λ other parameters unit marks k. begun_in (macros_in old) name other parameters unit marks free k) kept h
 
 -- an aperture more
-added_one : (b : Bool) (m : Macros) (tool : Given) (old : Option Given) → IsMarked m tool → IfSome old (IsMarked m) → IfSome (cond b (Some tool) old) (IsMarked m)
+added_one : (b : Bool) (m : Macros) (tool : Given) (old : Option Given) → Fits m tool → IfSome old (Fits m) → IfSome (cond b (Some tool) old) (Fits m)
 added_one true m tool old right h = right
 added_one false m tool old right h = h
 
-pub added_marked : (old new : Dictionary) (n : ℕ) (tool : Given) → Adds old new n (tool_of tool) → ((k : ℕ) → kept_in new k ≡ cond (n == k) (Some tool) (kept_in old k)) → IsMarked (macros_in old) tool → AreMarked old → AreMarked new
+pub added_marked : (old new : Dictionary) (n : ℕ) (tool : Given) → Adds old new n (tool_of tool) → ((k : ℕ) → kept_in new k ≡ cond (n == k) (Some tool) (kept_in old k)) → Fits (macros_in old) tool → AllFit old → AllFit new
 added_marked old new n tool adds kept right h = λ k.
-    subst (λ (m : Macros). IfSome (kept_in new k) (IsMarked m)) (sym adds.macros)
-    (subst (λ (o : Option Given). IfSome o (IsMarked (macros_in old))) (sym (kept k)) (added_one (n == k) (macros_in old) tool (kept_in old k) right (h k)))
+    subst (λ (m : Macros). IfSome (kept_in new k) (Fits m)) (sym adds.macros)
+    (subst (λ (o : Option Given). IfSome o (Fits (macros_in old))) (sym (kept k)) (added_one (n == k) (macros_in old) tool (kept_in old k) right (h k)))
+
+-- ---- Contours
+
+-- nothing is kept of a straight edge
+pub straight_keeps : (contour : Option (Outline (Unit {0}))) → IfSome contour (λ o. All (λ l. KeepsStraight l.bend) o.legs)
+straight_keeps None = tt
+straight_keeps (Some o) = λ i d below. tt

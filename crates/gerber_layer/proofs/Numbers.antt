@@ -2,9 +2,9 @@
 use Rattle.std.proofs.Common.{◌≡◌, ◌≤◌, List, [], ◌∷◌, get_or, refl, arith}
 use Rattle.file_reading.specs.Kinds.{HaveOwnNumbers}
 use Rattle.file_reading.proofs.OwnNumbers.{own_numbers}
-use Rattle.gerber_layer.specs.Kinds.{row_of}
+use Rattle.gerber_reading.specs.Kinds.{row_of}
 use Rattle.gerber_layer.specs.MacroKinds.{flatten_row}
-use Rattle.gerber_layer.specs.declared.kind.GerberKind.TheVariants as kind
+use Rattle.gerber_reading.specs.declared.kind.GerberKind.TheVariants as kind
 use Rattle.gerber_layer.specs.declared.macro_kind.FlattenKind.{FlattenKind}
 use Rattle.gerber_layer.specs.declared.macro_kind.FlattenKind.TheVariants.{Gerber, BadMacro, MacroTwice, NoMacro, ExposureOff, Turn, Slanted, TooManyRadii}
 

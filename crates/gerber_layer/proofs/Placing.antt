@@ -1,33 +1,28 @@
 -- The pieces of a file stand on its layer.
-use Rattle.std.proofs.Common.{◌≡◌, ℕ, ◌+◌, ◌*◌, ℤ, pos, ◌*ℤ◌, Bool, true, false, cond, List, [], ◌∷◌, ◌++◌, length, map, take, drop, All, Option, Some, None, Result, Ok, Err, IfOk, refl, sym, subst}
+use Rattle.std.proofs.Common.{◌≡◌, ℕ, ◌+◌, ◌*◌, ℤ, pos, ◌*ℤ◌, Bool, true, false, cond, List, [], ◌∷◌, ◌++◌, take, drop, All, Option, Some, None, Result, Ok, Err, refl, sym, subst}
 use Rattle.std.specs.List.{flat_map, range_with_len}
-use Rattle.std.proofs.lemmas.List.{length-map, get_or-map}
 use Rattle.std.proofs.lemmas.List.Elements.{All-append, All-cons, All-nil, All-take, All-drop, All-map, All-weaker}
-use Rattle.board_shapes.specs.Moved.{moved_piece}
 use Rattle.board_shapes.specs.Figures.{Figure}
-use Rattle.board_shapes.specs.Pieces.{PlainPiece, plain_piece, plain_pieces}
-use Rattle.board_shapes.specs.declared.placed.Placed.{Placed}
+use Rattle.board_shapes.specs.Pieces.{PlainPiece}
 use Rattle.board_shapes.specs.declared.placed.Room.{Room}
-use Rattle.board_shapes.specs.declared.shape.Shape.{Shape}
-use Rattle.step_repeat.specs.Copies.{Refusal, out_of_range, copies_at, copies_of, placed_copies, are_placed, room_fault, column_of, block_at}
+use Rattle.step_repeat.specs.Copies.{Refusal, out_of_range, copies_at, copies_by, copies_of, moved_block, placed_copies, are_placed, room_fault, column_of, block_at, shifted_piece}
+use Rattle.step_repeat.specs.Figures.{shape_handling}
 use Rattle.step_repeat.specs.declared.repeat.Repeat.{Repeat}
-use Rattle.file_reading.specs.Reading.{said}
-use Rattle.gerber_layer.specs.Command.{Command, defines, functions, repeats, opens_region, closes_region, operates, ends, names_macro, body_word}
-use Rattle.gerber_layer.specs.declared.kind.GerberKind.{GerberKind}
-use Rattle.gerber_layer.specs.declared.kind.GerberKind.TheVariants as kind
-use Rattle.gerber_layer.specs.declared.command.Code.{Code}
-use Rattle.gerber_layer.specs.declared.command.Code.TheVariants.{Draw, Move, Flash}
+use Rattle.gerber_reading.specs.Command.{Command, defines, functions, repeats, opens_region, closes_region, operates, ends, names_macro, body_word}
+use Rattle.gerber_reading.specs.declared.kind.GerberKind.{GerberKind}
+use Rattle.gerber_reading.specs.declared.kind.GerberKind.TheVariants as kind
+use Rattle.gerber_reading.specs.declared.command.Code.{Code}
+use Rattle.gerber_reading.specs.declared.command.Code.TheVariants.{Draw, Move, Flash}
 use Rattle.aperture_macros.specs.BodyWord.{PlainPrimitive, primitive_at}
 use Rattle.aperture_macros.specs.declared.fault.MacroFault.{MacroFault}
-use Rattle.aperture_macros.specs.declared.primitive.Copper.{Copper}
-use Rattle.aperture_macros.specs.declared.primitive.Copper.TheVariants.{Exact, Real}
+use Rattle.aperture_macros.specs.declared.primitive.Copper.TheVariants.{Exact}
 use Rattle.gerber_layer.specs.declared.macro_kind.FlattenKind.TheVariants.{Gerber}
-use Rattle.gerber_layer.specs.MacroTable.{effect_loosely, effect_with_macros, few_radii, macro_row, row_with_macros}
-use Rattle.gerber_layer.specs.Outcomes.{KeepsLayer, OnLayer}
+use Rattle.gerber_layer.specs.MacroTable.{effect_with_macros, few_radii, macro_row, macro_table, row_with_macros}
+use Rattle.gerber_reading.specs.Outcomes.{KeepsLayer, OnLayer}
 use Rattle.gerber_layer.proofs.MacroOutcome.{few_ok, gerber_ok, row_did}
-use Rattle.gerber_layer.specs.CommandEffects.{Place, Known, Effect, Profile, stays, begins_macro, fills_macro, is_finish, performs, extends, closes, opens, leaves, steps, concludes, ◌>>=◌, as_copies, with_copies, left, listed, ended_block, next_block, repeat, row, effect, code_of}
-use Rattle.gerber_layer.specs.Image.{image_by, known_by, pieces_by, made, piece_of, pieces_after, with_effect}
-use Rattle.gerber_layer.specs.Dialect.{Dialect, IsReadBy}
+use Rattle.gerber_layer.specs.CommandEffects.{Place, Known, Effect, plain_table, stays, begins_macro, fills_macro, is_finish, performs, extends, closes, opens, leaves, steps, concludes, ◌>>=◌, as_copies, with_copies, left, listed, ended_block, next_block, repeat, row, effect, code_of}
+use Rattle.gerber_reading.specs.CommandEffects.{ended_block_by}
+use Rattle.gerber_layer.specs.Image.{made, piece_of, pieces_after}
 use Rattle.gerber_layer.proofs.Outcome.{bind_ok, no_macro, ok_stays, past_test, row_outcome, IsEffect, IsFilled}
 
 -- ---- Copies
@@ -36,28 +31,28 @@ All-flat_map : {X A : Type 0} (P : A → Type 0) (f : X → List A) → ((x : X)
 All-flat_map P f h [] = All-nil P
 All-flat_map P f h (x ∷ xs) = All-append P (f x) (flat_map f xs) (h x) (All-flat_map P f h xs)
 
-moved_on : (p : Place) (dx dy : ℤ) (copy : ℕ) (block : List PlainPiece) → All (OnLayer p) block → All (OnLayer p) (map (moved_piece dx dy copy) block)
-moved_on p dx dy copy block h = All-map (OnLayer p) (moved_piece dx dy copy) block (All-weaker (OnLayer p) (λ q. OnLayer p (moved_piece dx dy copy q)) (λ q on. on) block h)
+moved_on : (p : Place) (dx dy : ℤ) (copy : ℕ) (block : List PlainPiece) → All (OnLayer p) block → All (OnLayer p) (moved_block shape_handling dx dy copy block)
+moved_on p dx dy copy block h = All-map (OnLayer p) (shifted_piece shape_handling dx dy copy) block (All-weaker (OnLayer p) (λ q. OnLayer p (shifted_piece shape_handling dx dy copy q)) (λ q on. on) block h)
 
-copies_on : (p : Place) (r : Repeat) (block : List PlainPiece) → All (OnLayer p) block → All (OnLayer p) (copies_of r block)
+copies_on : (p : Place) (r : Repeat) (block : List PlainPiece) → All (OnLayer p) block → All (OnLayer p) (copies_of shape_handling r block)
 unfolding copies_of
 copies_on p r block h =
-    All-flat_map (OnLayer p) (column_of r block)
-    (λ column. All-flat_map (OnLayer p) (block_at r block column)
+    All-flat_map (OnLayer p) (column_of shape_handling r block)
+    (λ column. All-flat_map (OnLayer p) (block_at shape_handling r block column)
     (λ row. moved_on p (pos column *ℤ r.dx) (pos row *ℤ r.dy) (column * r.up + row) block h) (range_with_len 0 r.up))
     (range_with_len 0 r.across)
 
-placed_on : (p : Place) (copies : List PlainPiece) (fault : Option Refusal) (all : List PlainPiece) → All (OnLayer p) copies → placed_copies copies fault ≡ Ok all → All (OnLayer p) all
+placed_on : (p : Place) (copies : List PlainPiece) (fault : Option Refusal) (all : List PlainPiece) → All (OnLayer p) copies → placed_copies shape_handling copies fault ≡ Ok all → All (OnLayer p) all
 placed_on p copies (Some fault) all h e = absurd (cc)
-placed_on p copies None all h e = by (are_placed copies) e
+placed_on p copies None all h e = by (are_placed shape_handling copies) e
   where
     by : (b : Bool) → cond b (Ok copies) (Err out_of_range) ≡ Ok all → All (OnLayer p) all
     by true e = let same : copies ≡ all = cc in subst (λ xs. All (OnLayer p) xs) same h
     by false e = absurd (cc)
 
 copied_on : (p : Place) (r : Repeat) (room : Room) (block all : List PlainPiece) → All (OnLayer p) block → copies_at r room block ≡ Ok all → All (OnLayer p) all
-unfolding copies_at
-copied_on p r room block all h e = placed_on p (copies_of r block) (room_fault r room block) all (copies_on p r block h) e
+unfolding copies_by
+copied_on p r room block all h e = placed_on p (copies_of shape_handling r block) (room_fault shape_handling r room block) all (copies_on p r block h) e
 
 joined_on : (p : Place) (before : List PlainPiece) (copies : Result (List PlainPiece) Refusal) (all : List PlainPiece) → All (OnLayer p) before → ((some : List PlainPiece) → copies ≡ Ok some → All (OnLayer p) some) → as_copies before copies ≡ Ok all → All (OnLayer p) all
 joined_on p before (Ok some) all h k e = let same : before ++ some ≡ all = cc in subst (λ xs. All (OnLayer p) xs) same (All-append (OnLayer p) before some h (k some refl))
@@ -70,7 +65,7 @@ with_copies_on p k (Some block) all h e =
     (λ some is. copied_on p block (left k) (drop k.start k.pieces) some (All-drop (OnLayer p) k.start k.pieces h) is) e
 
 ended_on : (p : Place) (k : Known) (all : List PlainPiece) → All (OnLayer p) k.pieces → ended_block k ≡ Ok all → All (OnLayer p) all
-unfolding ended_block
+unfolding ended_block_by
 ended_on p k all h e = with_copies_on p k k.settings.block all h e
 
 -- ---- Effects
@@ -96,9 +91,9 @@ simple_on p n pieces other simple h = h
 pub simple_by : (e made' : Effect) → e ≡ made' → IsSimple made' → IsSimple e
 simple_by e made' same simple = subst IsSimple (sym same) simple
 
-pub simple_effect : (e : Effect) (inside : Bool) (code : Code) (to : _) → IsEffect inside code to e → IsSimple e
+pub simple_effect : (e : Effect) (inside : Bool) (code : Code) (to : _) → IsEffect inside code to tt e → IsSimple e
 simple_effect e false code to h = simple_by e (performs to h.figures) h.is tt
-simple_effect e true Draw to h = simple_by e (extends to) h tt
+simple_effect e true Draw to h = simple_by e (extends to tt) h tt
 simple_effect e true Move to h = simple_by e (closes to h.0) h.1 tt
 simple_effect e true Flash to h = absurd h
 
@@ -124,11 +119,11 @@ unfolding row
 row_on p k n (repeats text) e on h = repeats_on p k n text e on h
 row_on p k n ends e on h = ends_on p k n e on h
 row_on p k n (defines text) e on h = let o = row_outcome k (defines text) e h in simple_on p n k.pieces e (simple_by e _ o.is tt) on
-row_on p k n (operates x y code) e on h = let o = row_outcome k (operates x y code) e h in simple_on p n k.pieces e (simple_effect e k.settings.region (code_of code) o.to o.is) on
+row_on p k n (operates x y code b) e on h = let o = row_outcome k (operates x y code b) e h in simple_on p n k.pieces e (simple_effect e k.settings.region (code_of code) o.to o.is) on
 row_on p k n opens_region e on h = simple_on p n k.pieces e (simple_by e opens (row_outcome k opens_region e h) tt) on
 row_on p k n closes_region e on h = let o = row_outcome k closes_region e h in simple_on p n k.pieces e (simple_by e (leaves o.0) o.1 tt) on
 row_on p k n (names_macro name) e on h = absurd (no_macro e h)
-row_on p k n (body_word copper text) e on h = absurd (no_macro e h)
+row_on p k n (body_word text) e on h = absurd (no_macro e h)
 row_on p k n other e on h = simple_on p n k.pieces e (simple_by e stays (row_outcome k other e h) tt) on
 
 filled_on : (p : Place) (k : Known) (n : ℕ) (r : Result (Option PlainPrimitive) MacroFault) (e : Effect) → IsFilled r e → All (OnLayer p) k.pieces → All (OnLayer p) (pieces_after p n k.pieces e)
@@ -136,17 +131,17 @@ filled_on p k n (Ok None) e is on = simple_on p n k.pieces e (simple_by e stays 
 filled_on p k n (Ok (Some primitive)) e is on = simple_on p n k.pieces e (simple_by e (fills_macro primitive) is tt) on
 filled_on p k n (Err fault) e is on = absurd is
 
-macro_on : (copper : Copper) (p : Place) (k : Known) (n : ℕ) (c : Command) (e : Effect) → All (OnLayer p) k.pieces → macro_row copper k c ≡ Ok e → All (OnLayer p) (pieces_after p n k.pieces e)
+macro_on : (p : Place) (k : Known) (n : ℕ) (c : Command) (e : Effect) → All (OnLayer p) k.pieces → macro_row k c ≡ Ok e → All (OnLayer p) (pieces_after p n k.pieces e)
 unfolding macro_row
-macro_on copper p k n (names_macro name) e on h = simple_on p n k.pieces e (simple_by e (begins_macro name) (row_did copper k (names_macro name) e h) tt) on
-macro_on copper p k n (body_word own text) e on h = filled_on p k n (primitive_at own text) e (row_did copper k (body_word own text) e h) on
-macro_on copper p k n (defines text) e on h = let o = row_did copper k (defines text) e h in simple_on p n k.pieces e (simple_by e _ o.is tt) on
-macro_on copper p k n other e on h = row_on p k n other e on (gerber_ok (row k other) e h)
+macro_on p k n (names_macro name) e on h = simple_on p n k.pieces e (simple_by e (begins_macro name) (row_did k (names_macro name) e h) tt) on
+macro_on p k n (body_word text) e on h = filled_on p k n (primitive_at Exact text) e (row_did k (body_word text) e h) on
+macro_on p k n (defines text) e on h = let o = row_did k (defines text) e h in simple_on p n k.pieces e (simple_by e _ o.is tt) on
+macro_on p k n other e on h = row_on p k n other e on (gerber_ok (row k other) e h)
 
 flat_on : (p : Place) (k : Known) (n : ℕ) (c : Command) (e : Effect) → All (OnLayer p) k.pieces → row_with_macros k c ≡ Ok e → All (OnLayer p) (pieces_after p n k.pieces e)
 unfolding row_with_macros
 flat_on p k n (functions function layer) e on h = simple_on p n k.pieces e (simple_by e stays (ok_stays e h) tt) on
-flat_on p k n other e on h = macro_on Exact p k n other e on h
+flat_on p k n other e on h = macro_on p k n other e on h
 
 -- behind the end nothing is made
 ended_or : {W : Type 0} (p : Place) (k : Known) (n : ℕ) (ended finish : Bool) (why : W) (row : Result Effect W) (e : Effect) → All (OnLayer p) k.pieces → (row ≡ Ok e → All (OnLayer p) (pieces_after p n k.pieces e)) → cond ended (cond finish (Ok stays) (Err why)) row ≡ Ok e → All (OnLayer p) (pieces_after p n k.pieces e)
@@ -154,38 +149,10 @@ ended_or p k n true true why row e on more h = simple_on p n k.pieces e (simple_
 ended_or p k n true false why row e on more h = absurd (cc)
 ended_or p k n false finish why row e on more h = more h
 
-pub effect_on : KeepsLayer effect
+pub effect_on : KeepsLayer plain_table
 unfolding effect
 effect_on p k n c e on h = ended_or p k n k.settings.ended (is_finish c) kind.AfterEnd (row k c) e on (row_on p k n c e on) h
 
-pub macros_on : KeepsLayer effect_with_macros
+pub macros_on : KeepsLayer macro_table
 unfolding effect_with_macros
 macros_on p k n c e on h = ended_or p k n k.settings.ended (is_finish c) (Gerber kind.AfterEnd) (row_with_macros k c >>= few_radii) e on (λ few. flat_on p k n c e on (few_ok (row_with_macros k c) e few)) h
-
-pub loose_on : KeepsLayer effect_loosely
-unfolding effect_loosely
-loose_on p k n c e on h = ended_or p k n k.settings.ended (is_finish c) (Gerber kind.AfterEnd) (macro_row Real k c) e on (macro_on Real p k n c e on) h
-
--- ---- A file
-
-pieces_on : {W : Type 0} (f : Profile W) → KeepsLayer f → (p : Place) (earlier : List Command) → All (OnLayer p) (pieces_by f p earlier)
-unfolding image_by
-pieces_on f keeps p [] = All-nil (OnLayer p)
-pieces_on {W = W} f keeps p (c ∷ earlier) = by (pieces_on f keeps p earlier) (f (known_by f p earlier) c) refl
-  where
-    by : All (OnLayer p) (pieces_by f p earlier) → (r : Result Effect W) → f (known_by f p earlier) c ≡ r → All (OnLayer p) (with_effect p (length earlier + 1) (image_by f p earlier) r).pieces
-    by on (Ok e) is = keeps p (known_by f p earlier) (length earlier + 1) c e on is
-    by on (Err fault) is = on
-
--- what holds of each of the plain pieces holds of the pieces
-each_piece : (p : Place) (pieces : List (Placed Shape)) → All (OnLayer p) (plain_pieces pieces) → All (λ q. (q.top ≡ p.layer) × (q.bottom ≡ p.layer)) pieces
-each_piece p pieces h = λ i d below. subst (OnLayer p) (get_or-map plain_piece pieces i d (plain_piece d) below) (h i (plain_piece d) (rw (length-map pieces plain_piece) below))
-
--- by a dialect
-read_on : {W : Type 0} (d : Dialect W) → KeepsLayer d.table → (file : List ℕ) (p : Place) (pieces : List (Placed Shape)) → IsReadBy d file p (plain_pieces pieces) → All (λ q. (q.top ≡ p.layer) × (q.bottom ≡ p.layer)) pieces
-read_on d keeps file p pieces read = each_piece p pieces (subst (λ xs. All (OnLayer p) xs) (sym read.2.is) (pieces_on d.table keeps p (said read.2.earlier)))
-
--- also as the reader's result
-pub layers_read : {V W F : Type 0} (d : Dialect W) → KeepsLayer d.table → (items : V → List (Placed Shape)) (result : Result V F) (file : List ℕ) (p : Place) → IfOk result (λ v. IsReadBy d file p (plain_pieces (items v))) → IfOk result (λ v. All (λ q. (q.top ≡ p.layer) × (q.bottom ≡ p.layer)) (items v))
-layers_read d keeps items (Ok v) file p read = read_on d keeps file p (items v) read
-layers_read d keeps items (Err why) file p read = tt

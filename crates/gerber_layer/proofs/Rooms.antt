@@ -11,12 +11,11 @@ use Rattle.board_shapes.specs.declared.placed.Placed.{Placed}
 use Rattle.board_shapes.specs.declared.shape.Shape.{Shape}
 use Rattle.file_reading.specs.declared.halt.Halt.{Halt}
 use Rattle.file_reading.specs.declared.halt.Halt.TheVariants as halt
-use Rattle.gerber_layer.specs.declared.kind.GerberKind.{GerberKind}
+use Rattle.gerber_reading.specs.declared.kind.GerberKind.{GerberKind}
 use Rattle.gerber_layer.specs.Tools.{composed, macro_named}
 use Rattle.gerber_layer.specs.CommandEffects.{Place, Known, all_flashed, edges_of, flash, flash_with, lacks_room, macro_figures, performs, selected}
 use Rattle.gerber_layer.specs.Image.{made, piece_of}
-use Rattle.gerber_layer.specs.declared.reader.Reader.{Reader}
-use Rattle.gerber_layer.specs.Reader.{CarriesOut, FlashesAll, Lacks, Stops, TakesOn, contour_of, known_of, macros_in, place_of}
+use Rattle.gerber_layer.specs.Reader.{Reader, CarriesOut, FlashesAll, Lacks, Stops, TakesOn, contour_of, known_of, macros_in, place_of}
 use Rattle.gerber_layer.proofs.MacroFlash.{edges_made}
 
 -- the room is asked for as many pieces as there are figures, with as many edges

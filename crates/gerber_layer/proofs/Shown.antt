@@ -3,11 +3,11 @@ use Rattle.std.proofs.Common.{◌≡◌, [], Some, Result, Ok, sym, ap}
 use Rattle.board_shapes.specs.declared.shape.Shape.TheVariants.{Round}
 use Rattle.board_shapes.specs.Figures.{figure_of}
 use Rattle.aperture_macros.specs.Seen.{plain}
-use Rattle.gerber_layer.specs.declared.kind.GerberKind.{GerberKind}
+use Rattle.gerber_reading.specs.declared.kind.GerberKind.{GerberKind}
 use Rattle.gerber_layer.specs.declared.effect.Effect.{Effect as Seen}
 use Rattle.gerber_layer.specs.declared.effect.Effect.TheVariants as seen
 use Rattle.gerber_layer.specs.CommandEffects.{Known, Effect, stays, makes, begins_macro, fills_macro, performs, opens, room_for}
-use Rattle.gerber_layer.specs.After.{heads, opened}
+use Rattle.gerber_reading.specs.After.{heads, opened}
 use Rattle.gerber_layer.specs.Reader.{shown, leads, opens_block, tool_of}
 use Rattle.gerber_layer.proofs.Outcome.{then_goes, flash_goes, extend_is, close_is, area_left, steps_is, concludes_is}
 

@@ -1,24 +1,21 @@
 -- Laws of copper files: what the contour and the pieces before a block are by looking back over the commands, and that a file
 -- that is cut off is refused.
 use Rattle.std.specs.Prelude.{◌≡◌, ℕ, ◌≤◌, Bool, true, false, if◌then◌else◌, List, [], ◌∷◌, ◌++◌, length, map, take, drop}
-use Rattle.std.specs.List.{AllByRecursion}
 use Rattle.planar.specs.declared.Spot.{Spot}
 use Rattle.file_reading.specs.Reading.{Clean}
-use Rattle.gerber_words.specs.Words.{Entry, Stop, HasWords, start}
-use Rattle.gerber_words.specs.Laws.{star_of}
-use Rattle.gerber_layer.specs.Command.{Command, opens_region, operates, repeats, ends}
-use Rattle.gerber_layer.specs.declared.command.Code.{Code}
-use Rattle.gerber_layer.specs.declared.command.Code.TheVariants.{Move}
-use Rattle.gerber_layer.specs.declared.kind.GerberKind.TheVariants as kind
+use Rattle.gerber_reading.specs.Command.{Command, opens_region, operates, repeats}
+use Rattle.gerber_reading.specs.declared.command.Code.{Code}
+use Rattle.gerber_reading.specs.declared.command.Code.TheVariants.{Move}
+use Rattle.gerber_reading.specs.declared.kind.GerberKind.TheVariants as kind
 use Rattle.gerber_layer.specs.declared.macro_kind.FlattenKind.{FlattenKind}
 use Rattle.gerber_layer.specs.declared.macro_kind.FlattenKind.TheVariants.{Gerber}
 use Rattle.file_reading.specs.Kinds.{HaveOwnNumbers}
-use Rattle.gerber_layer.specs.Kinds.{row_of}
+use Rattle.gerber_reading.specs.Kinds.{row_of}
 use Rattle.gerber_layer.specs.MacroKinds.{flatten_row}
-use Rattle.gerber_layer.specs.CommandEffects.{Place, code_of, is_drawing}
-use Rattle.gerber_layer.specs.Settings.{code_in, contour_before, is_end, point_before, region_open}
+use Rattle.gerber_layer.specs.CommandEffects.{Place, code_of, exact_meaning, is_drawing}
+use Rattle.gerber_reading.specs.Settings.{code_in, contour_before, point_before, region_open, spots_of}
 use Rattle.gerber_layer.specs.Image.{effect_before, image_of, pieces_of}
-use Rattle.gerber_layer.specs.Dialect.{Dialect, IsRefusedBy}
+pub use Rattle.gerber_reading.specs.Laws.{EndsAtBy, PrefixesAreRefusedBy}
 use Rattle.gerber_layer.specs.Layer.{standard}
 use Rattle.gerber_layer.specs.MacroLayer.{flat_place, with_macros}
 
@@ -32,7 +29,7 @@ is_move other = false
 -- a command that begins a contour anew: the opening of a region, or a move
 abbrev pub begins_contour : Command → Bool
 begins_contour opens_region = true
-begins_contour (operates x y code) = is_move (code_of code)
+begins_contour (operates x y code b) = is_move (code_of code)
 begins_contour other = false
 
 -- the commands since the later of the last opening of a region and the last move, of which the last is first
@@ -57,7 +54,7 @@ points_along (first ∷ others) = point_before (drop 1 first) ∷ map point_befo
 
 -- In an open region the contour that the next command may close is that of the draws since it was begun.
 abbrev pub LooksBackToItsContour : List Command → Type 0
-LooksBackToItsContour earlier = region_open earlier ≡ true → contour_before earlier ≡ points_along (draws_in (since_begun earlier) (up_to_begun earlier))
+LooksBackToItsContour earlier = region_open earlier ≡ true → spots_of (contour_before exact_meaning.edge earlier) ≡ points_along (draws_in (since_begun earlier) (up_to_begun earlier))
 
 -- ---- The pieces before a block by looking back (Gerber Layer Format Specification, 4.12)
 
@@ -81,22 +78,6 @@ abbrev pub LooksBackToItsBlock : Place → List Command → Type 0
 LooksBackToItsBlock p earlier = Clean (effect_before p) earlier → AreBeforeBlock p earlier
 
 -- ---- A file that is cut off
-
--- by a dialect the file has these words, and its end word, the first that ends it, has its star at this place
-pub record EndsAtBy {W : Type 0} (d : Dialect W) (file : List ℕ) (star : ℕ) : Type 0 where
-  pub front : List Entry
-  pub last : Entry
-  pub back : List Entry
-  pub stop : Stop
-  pub cut : HasWords (start file) (front ++ last ∷ back) stop
-  pub ends_file : d.command last ≡ ends
-  pub first : AllByRecursion (λ w. is_end (d.command w) ≡ false) front
-  pub star_is : star ≡ star_of last
-
--- The file has an end word, and every prefix without that word's star is refused, as not ended.
-pub record PrefixesAreRefusedBy {W : Type 0} (d : Dialect W) (not_ended : W) (file : List ℕ) (p : Place) : Type 0 where
-  pub has_end : (star : ℕ) × EndsAtBy d file star
-  pub refused : (star n : ℕ) → EndsAtBy d file star → n ≤ star → (number : ℕ) × (place : ℕ) × IsRefusedBy d (take n file) p not_ended number place
 
 -- by the standard apertures alone, and with macros
 abbrev pub PrefixesAreRefused : List ℕ → Place → Type 0

@@ -2,7 +2,7 @@
 use Rattle.file_reading.specs.Kinds.{Row, row}
 use Rattle.gerber_layer.specs.declared.macro_kind.FlattenKind.{FlattenKind}
 use Rattle.gerber_layer.specs.declared.macro_kind.FlattenKind.TheVariants.{Gerber, BadMacro, MacroTwice, NoMacro, ExposureOff, Turn, Slanted, TooManyRadii}
-use Rattle.gerber_layer.specs.Kinds.{row_of}
+use Rattle.gerber_reading.specs.Kinds.{row_of}
 
 -- the row of a kind: those of macros come behind those of files without
 abbrev pub flatten_row : FlattenKind → Row

@@ -4,19 +4,17 @@ use Rattle.board_shapes.specs.Pieces.{PlainPiece}
 use Rattle.board_shapes.specs.declared.TheConstants.{MOST_PIECES}
 use Rattle.file_reading.specs.declared.fault.FileFault.{FileFault}
 use Rattle.gerber_layer.specs.declared.TheConstants.{MOST_FLAT_EDGES}
-use Rattle.gerber_layer.specs.Dialect.{Dialect, HasOneAnswerBy, IsFaultBy, IsReadBy, IsRefusedBy}
+use Rattle.gerber_reading.specs.Dialect.{Dialect, HasOneAnswerBy, IsFaultBy, IsReadBy, IsRefusedBy}
 use Rattle.gerber_layer.specs.declared.macro_kind.FlattenKind.{FlattenKind}
-use Rattle.gerber_layer.specs.MacroCommands.{command_with_macros, loose_command}
-use Rattle.gerber_layer.specs.MacroTable.{effect_loosely, effect_with_macros}
+use Rattle.gerber_layer.specs.MacroCommands.{command_with_macros}
+use Rattle.gerber_layer.specs.MacroTable.{macro_table}
+use Rattle.apertures.specs.declared.aperture.Aperture.{Aperture}
+use Rattle.board_shapes.specs.Figures.{Figure}
 use Rattle.gerber_layer.specs.CommandEffects.{Place}
 
 -- the dialect with macros
-abbrev pub with_macros : Dialect FlattenKind
-with_macros = record { command = command_with_macros; table = effect_with_macros }
-
--- The dialect of real copper: each arc draw is straight, apertures may have holes and odd sizes, and there may be macros, whose lines may be slanted and whose turns are by degrees.
-abbrev pub loose : Dialect FlattenKind
-loose = record { command = loose_command; table = effect_loosely }
+abbrev pub with_macros : Dialect Figure (Unit {0}) Aperture FlattenKind
+with_macros = record { command = command_with_macros; table = macro_table }
 
 -- the pieces stand on layer 1 of file 0, and there is room for MOST_PIECES pieces and MOST_FLAT_EDGES edges
 abbrev pub flat_place : Place

@@ -1,92 +1,14 @@
--- What the aperture dictionary and the macros of a file hold.
-use Rattle.std.specs.Prelude.{ℕ, ◌+◌, zero, suc, Bool, false, nat_lt, if◌then◌else◌, List, [], ◌∷◌, ◌++◌, length, ℤ, Option, Some, None, option_map, Result, Ok, Err}
-use Rattle.std.specs.List.{after_first, before_first, count_by, list_any}
-use Rattle.std.specs.Str.Parse.{digits_value}
-use Rattle.texts.specs.Words.{is_word}
-use Rattle.lengths.specs.Decimal.{Fraction, is_decimal, fraction}
-use Rattle.lengths.specs.declared.decimal.Unit.{Unit as Measure}
+-- What the aperture dictionary and the macros of a file hold, where apertures are standard ones.
+use Rattle.std.specs.Prelude.{ℤ, Option, None}
 use Rattle.apertures.specs.declared.aperture.Aperture.{Aperture}
-use Rattle.apertures.specs.declared.fault.ApertureFault.{ApertureFault}
-use Rattle.apertures.specs.declared.fault.ApertureFault.TheVariants as aperture
 use Rattle.apertures.specs.Flash.{pen_of}
-pub use Rattle.apertures.specs.Definition.{name_text, number_digits}
-use Rattle.apertures.specs.Definition.{is_comma, is_x, name_of}
-use Rattle.apertures.specs.Real.{real_aperture_at}
-use Rattle.aperture_macros.specs.BodyWord.{PlainPrimitive}
-use Rattle.gerber_layer.specs.declared.TheConstants.{MOST_PRIMITIVES}
+use Rattle.gerber_reading.specs.Tools as reading
+pub use Rattle.gerber_reading.specs.Tools.{standard, composed, Macro, Macros, latest_or, macro_named, has_room, begun, longer, filled_up, decimals_in, parameters_in, composed_in, tool_by, tool_in, name_text, number_digits}
 
--- An aperture: a standard one, or the macro of a name with its parameters and their unit.
-pub data Tool : Type 0 where
-  standard : Aperture → Tool
-  composed : List ℕ → List Fraction → Measure → Tool
+abbrev pub Tool : Type 0
+Tool = reading.Tool Aperture
 
 -- the diameter of the pen that it is: a circle alone draws
 abbrev pub pen_with : Tool → Option ℤ
 pen_with (standard aperture) = pen_of aperture
 pen_with (composed name parameters unit) = None
-
--- a macro: its name and the primitives of its body
-pub record Macro : Type 0 where
-  pub name : List ℕ
-  pub body : List PlainPrimitive
-
--- the macros of a file: the one that was begun last, and the others by their names
-pub record Macros : Type 0 where
-  pub latest : Option Macro
-  pub others : List ℕ → Option (List PlainPrimitive)
-
--- the body of the last macro, where that has the name, and else the other
-abbrev pub latest_or : Option Macro → Option (List PlainPrimitive) → List ℕ → Option (List PlainPrimitive)
-latest_or None other name = other
-latest_or (Some m) other name = if is_word m.name name then Some m.body else other
-
--- the body of the macro of a name
-abbrev pub macro_named : Macros → List ℕ → Option (List PlainPrimitive)
-macro_named m name = latest_or m.latest (m.others name) name
-
--- a macro has at most MOST_PRIMITIVES primitives
-abbrev pub has_room : Option Macro → Bool
-has_room None = false
-has_room (Some m) = nat_lt (length m.body) MOST_PRIMITIVES
-
--- a macro of this name is begun, and the one that was last is among the others
-abbrev pub begun : Macros → List ℕ → Macros
-begun m name = record { latest = Some (record { name = name; body = [] }); others = macro_named m }
-
--- the macro with a primitive more
-abbrev pub longer : PlainPrimitive → Macro → Macro
-longer p m = record { name = m.name; body = m.body ++ p ∷ [] }
-
--- the last macro gets a primitive more
-abbrev pub filled_up : Macros → PlainPrimitive → Macros
-filled_up m p = record { latest = option_map (longer p) m.latest; others = m.others }
-
--- ---- An `AD` word of a macro (Gerber Layer Format Specification, 4.3)
-
--- n decimals, cut at `X`
-unfoldable pub decimals_in : ℕ → List ℕ → Option (List Fraction)
-decimals_in zero text = Some []
-decimals_in (suc n) text =
-    if is_decimal (before_first is_x text) then option_map (λ more. fraction (before_first is_x text) ∷ more) (decimals_in n (after_first is_x text))
-    else None
-
--- the parameters behind the comma, if all are decimals
-unfoldable pub parameters_in : List ℕ → Option (List Fraction)
-parameters_in text =
-    if list_any is_comma text then decimals_in (count_by is_x (after_first is_comma text) + 1) (after_first is_comma text)
-    else Some []
-
--- the number and the aperture that such a word defines
-abbrev pub composed_in : List ℕ → Measure → Option (ℕ × Tool)
-composed_in word unit =
-    option_map (λ parameters. (digits_value 10 (number_digits word), composed (name_of (name_text word)) parameters unit)) (parameters_in (name_text word))
-
--- a standard aperture, or the other where the name is none of a standard aperture
-abbrev pub tool_by : Result (ℕ × Aperture) ApertureFault → Option (ℕ × Tool) → Option (ℕ × Tool)
-tool_by (Ok made) other = Some (made.0, standard made.1)
-tool_by (Err aperture.Macro) other = other
-tool_by (Err fault) other = None
-
--- what an `AD` word defines: a standard aperture, or one of a macro. Where copper is taken exactly, a hole and an odd size are refused.
-abbrev pub tool_in : List ℕ → Measure → Option (ℕ × Tool)
-tool_in word unit = tool_by (real_aperture_at word unit) (composed_in word unit)

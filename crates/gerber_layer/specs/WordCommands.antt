@@ -10,11 +10,11 @@ use Rattle.gerber_words.specs.Words.{Entry}
 use Rattle.gerber_words.specs.Attributes.{PlainAttribute, attribute_of, field_of, is_field}
 use Rattle.gerber_words.specs.declared.attribute.AttributeKind.{AttributeKind}
 use Rattle.gerber_words.specs.declared.attribute.AttributeKind.TheVariants.{File}
-use Rattle.gerber_layer.specs.Command.{Command, nothing, refused, formats, counts_in, defines, selects, repeats, functions, opens_region, closes_region, operates, ends}
-use Rattle.gerber_layer.specs.declared.command.Code.{Code}
-use Rattle.gerber_layer.specs.declared.command.Code.TheVariants.{Draw, Move, Flash}
-use Rattle.gerber_layer.specs.declared.kind.GerberKind.{GerberKind}
-use Rattle.gerber_layer.specs.declared.kind.GerberKind.TheVariants as kind
+use Rattle.gerber_reading.specs.Command.{Command, nothing, refused, formats, counts_in, defines, selects, repeats, functions, opens_region, closes_region, operates, ends, no_bending}
+use Rattle.gerber_reading.specs.declared.command.Code.{Code}
+use Rattle.gerber_reading.specs.declared.command.Code.TheVariants.{Draw, Move, Flash}
+use Rattle.gerber_reading.specs.declared.kind.GerberKind.{GerberKind}
+use Rattle.gerber_reading.specs.declared.kind.GerberKind.TheVariants as kind
 
 abbrev pub is_empty : List ℕ → Bool
 is_empty [] = true
@@ -83,7 +83,7 @@ operation_of x y offsets text =
     else (if not (is_empty text) && is_none (code_in text) then refused kind.BadWord
     else (if is_empty text && (is_none x && is_none y) then refused kind.BadWord
     else (if not (is_empty offsets) then refused kind.Arc
-    else operates x y (code_in text)))))
+    else operates x y (code_in text) no_bending))))
 
 -- by its text from the offsets on, and by its text from X on
 unfoldable pub from_i : Option (List ℕ) → Option (List ℕ) → List ℕ → Command

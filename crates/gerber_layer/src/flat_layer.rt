@@ -5,10 +5,9 @@ ghost use Rattle.gerber_layer.specs.MacroLayer.{IsMacroFault, IsReadWithMacros};
 
 use crate::MOST_FLAT_EDGES;
 use crate::dialect::WithMacros;
-use crate::file::read_by;
 use crate::macro_kind::FlattenFault;
-use crate::place::Place;
 use board_shapes::{MOST_PIECES, Piece, Room};
+use gerber_reading::{Place, read_by};
 use std::alloc::Global;
 use texts::MOST_BYTES;
 

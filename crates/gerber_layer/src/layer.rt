@@ -4,10 +4,8 @@ ghost use Rattle.board_shapes.specs.Pieces.{plain_pieces};
 ghost use Rattle.gerber_layer.specs.Layer.{IsFault, IsRead};
 
 use crate::dialect::Plain;
-use crate::file::read_by;
-use crate::kind::LayerFault;
-use crate::place::Place;
 use board_shapes::{MOST_LAYERS, Piece, Room};
+use gerber_reading::{LayerFault, Place, read_by};
 use std::alloc::Global;
 use texts::MOST_BYTES;
 

@@ -9,10 +9,10 @@ ghost use Rattle.planar.specs.Plane.{IsPlaced};
 ghost use Rattle.gerber_layer.specs.Reader.{AreBlank, FlashesAll, Stops, body_of, halt_of_figure, origin_place};
 ghost use Rattle.gerber_layer.specs.CommandEffects.{all_flashed, figures_of, listed};
 
-use crate::kind::GerberKind;
 use aperture_macros::{FigureFault, Primitive};
 use board_shapes::{Origin, Piece, Placed, Shape};
 use file_reading::Halt;
+use gerber_reading::GerberKind;
 use lengths::decimal::{Decimal, Unit};
 use planar::Spot;
 use std::alloc::Global;

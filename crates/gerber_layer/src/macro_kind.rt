@@ -3,9 +3,9 @@ ghost use Rattle.std.specs.Prelude.{◌≡◌};
 ghost use Rattle.gerber_layer.specs.MacroKinds.{flatten_row};
 ghost use Rattle.gerber_layer.specs.MacroTable.{kind_of_macro};
 
-use crate::kind::GerberKind;
 use aperture_macros::MacroFault;
 use file_reading::{FileFault, RefusalKind, name_of};
+use gerber_reading::GerberKind;
 
 /// Why a command of a copper file is refused where the file may have aperture macros. Sections are
 /// those of the Gerber Layer Format Specification; the numbers are from 1 to 37.

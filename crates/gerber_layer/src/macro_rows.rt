@@ -1,8 +1,9 @@
 //! The rows of the table of commands where a file may have macros.
 ghost use Rattle.std.specs.Prelude.{◌≡◌, true, false, IfErr, IfOk, Ok, Some};
 ghost use Rattle.board_shapes.specs.Pieces.{plain_pieces};
-ghost use Rattle.gerber_layer.specs.Command.{view};
-ghost use Rattle.gerber_layer.specs.Lawful.{IsLawfulCommand};
+ghost use Rattle.gerber_reading.specs.Command.{view};
+ghost use Rattle.gerber_reading.specs.Lawful.{IsLawfulCommand};
+ghost use Rattle.gerber_layer.specs.MacroReader.{showing_any};
 ghost use Rattle.gerber_layer.specs.MacroTable as spec;
 ghost use Rattle.apertures.specs.Definition.{aperture_at};
 ghost use Rattle.gerber_layer.specs.MacroTable.{as_macro, gerber};
@@ -10,19 +11,14 @@ ghost use Rattle.gerber_layer.specs.Reader.{AreBlank, IsFit, IsLawfulReader, Sto
 ghost use Rattle.gerber_layer.specs.Tools.{macro_named};
 ghost use Rattle.gerber_layer.specs.CommandEffects.{concludes, row, stays};
 
-use crate::MOST_APERTURES;
-use crate::command::Command;
-use crate::command_effects::is_finish;
 use crate::effect::Effect;
-use crate::kind::GerberKind;
 use crate::macro_kind::FlattenKind;
-use crate::parameters::parameters;
 use crate::radii::Radii;
-use crate::reader::Reader;
-use crate::tool::Tool;
+use crate::reader::{PlainReader, define, effect};
 use aperture_macros::{Copper, Primitive, read_body};
-use apertures::{ApertureFault, name_text, number, read_aperture, read_real_aperture};
+use apertures::{ApertureFault, name_text, number, read_aperture};
 use file_reading::Halt;
+use gerber_reading::{Command, GerberKind, MOST_APERTURES, Tool, is_finish, read_parameters};
 use lengths::decimal::{Decimal, Unit};
 use std::alloc::Global;
 use texts::{before_byte, is_word};
@@ -51,18 +47,17 @@ fn is_of_macro(text: &[u8], unit: Unit) -> bool
 #[tactic(auto, unfolding(crate::specs::MacroTable::all_judged))]
 fn judge(
     alloc: Global,
-    copper: Copper,
     body: &[Primitive],
     parameters: &[Decimal],
     unit: Unit,
 ) -> Result<Vec<bool>, Halt<FlattenKind>>
-    ensures ok { IfOk result (λ marks. spec.all_judged copper (body_of body.now) parameters.now unit ≡ Ok tt) }
+    ensures ok { IfOk result (λ marks. spec.all_judged (body_of body.now) parameters.now unit ≡ Ok tt) }
     ensures blank { IfOk result (λ marks. AreBlank (body_of body.now) parameters.now unit marks.items) }
-    ensures halt { IfErr result (Stops (as_macro (spec.all_judged copper (body_of body.now) parameters.now unit))) }
+    ensures halt { IfErr result (Stops (as_macro (spec.all_judged (body_of body.now) parameters.now unit))) }
 {
     let mut marks = Vec::new(alloc);
     for primitive in body {
-        let has_image = match primitive.has_image(copper, parameters, unit) {
+        let has_image = match primitive.has_image(Copper::Exact, parameters, unit) {
             Ok(has_image) => has_image,
             Err(fault) => return Err(Halt::Fault(FlattenKind::from(fault))),
         };
@@ -85,16 +80,6 @@ fn behind_end<'a>(command: &Command<'a>) -> MacroRow<'a>
     }
 }
 
-/// Whether a command has another row where the file may have macros.
-pub fn is_of_macros(command: &Command) -> bool
-    ensures { result ≡ spec.is_of_macros (view command.now) }
-{
-    matches!(
-        command,
-        Command::Macro(_) | Command::Body(_, _) | Command::Define(_)
-    )
-}
-
 // Whether a word is of the file's function.
 fn is_function(command: &Command) -> bool
     ensures { result ≡ spec.is_function (view command.now) }
@@ -102,209 +87,191 @@ fn is_function(command: &Command) -> bool
     matches!(command, Command::Function(_, _))
 }
 
-impl<'a> Reader<'a> {
-    ghost use Rattle.gerber_layer.specs.MacroReader.{showing_any};
-    ghost use Rattle.gerber_layer.specs.Reader.{showing};
-
-    // `AM`.
-    #[tactic(auto, unfolding(crate::specs::MacroTable::name_macro))]
-    fn name_macro(&self, name: &'a [u8]) -> Result<Effect<'a>, FlattenKind>
-        ensures value { showing_any (known_of self.now) result ≡ spec.name_macro (known_of self.now) name.now }
-        ensures fit { IfOk result (IsFit self.now.dictionary) }
-    {
-        if is_reserved(name) {
-            return Err(FlattenKind::BadMacro);
-        }
-        if self.dictionary.has_macro(name) {
-            return Err(FlattenKind::MacroTwice);
-        }
-        Ok(Effect::Begins(name))
+// `AM`.
+#[tactic(auto, unfolding(crate::specs::MacroTable::name_macro))]
+fn name_macro<'a>(reader: &PlainReader<'a>, name: &'a [u8]) -> Result<Effect<'a>, FlattenKind>
+    ensures value { showing_any (known_of reader.now) result ≡ spec.name_macro (known_of reader.now) name.now }
+    ensures fit { IfOk result (IsFit reader.now.dictionary) }
+{
+    if is_reserved(name) {
+        return Err(FlattenKind::BadMacro);
     }
-
-    // A word of a macro's body.
-    #[tactic(auto, unfolding(crate::specs::MacroTable::fill_macro))]
-    fn fill_macro(&self, copper: Copper, text: &'a [u8]) -> Result<Effect<'a>, FlattenKind>
-        ensures value { showing_any (known_of self.now) result ≡ spec.fill_macro (known_of self.now) copper text.now }
-        ensures fit { IfOk result (IsFit self.now.dictionary) }
-    {
-        let room = self.dictionary.has_room();
-        match read_body(copper, text) {
-            Ok(None) => Ok(Effect::Stays),
-            Ok(Some(primitive)) => if room {
-                Ok(Effect::Fills(primitive))
-            } else {
-                Err(FlattenKind::BadMacro)
-            },
-            Err(fault) => if room {
-                Err(FlattenKind::from(fault))
-            } else {
-                Err(FlattenKind::BadMacro)
-            },
-        }
+    if reader.dictionary.has_macro(name) {
+        return Err(FlattenKind::MacroTwice);
     }
+    Ok(Effect::Begins(name))
+}
 
-    // An aperture of a macro.
-    #[tactic(auto, unfolding(crate::specs::MacroTable::compose))]
-    fn compose(&self, alloc: Global, copper: Copper, text: &'a [u8], unit: Unit) -> MacroRow<'a>
-        requires { spec.is_of_macro (aperture_at text.now unit) ≡ true }
-        ensures ok { IfOk result (λ e. gerber (shown (known_of self.now) e) ≡ spec.compose copper (known_of self.now) text.now unit) }
-        ensures fit { IfOk result (IsFit self.now.dictionary) }
-        ensures halt { IfErr result (Stops (spec.compose copper (known_of self.now) text.now unit)) }
-    {
-        let word = name_text(text);
-        let name = before_byte(word, b',');
-        let Some(body) = self.dictionary.body(name) else {
-            return Err(Halt::Fault(FlattenKind::NoMacro));
-        };
-        let Ok(parameters) = parameters(alloc, word) else {
-            return Err(Halt::NoMemory);
-        };
-        let Some(parameters) = parameters else {
-            return Err(Halt::Fault(FlattenKind::BadMacro));
-        };
-        self.compose_as(alloc, copper, number(text), name, body, parameters, unit)
+// A word of a macro's body.
+#[tactic(auto, unfolding(crate::specs::MacroTable::fill_macro))]
+fn fill_macro<'a>(
+    reader: &PlainReader<'a>,
+    text: &'a [u8],
+) -> Result<Effect<'a>, FlattenKind>
+    ensures value { showing_any (known_of reader.now) result ≡ spec.fill_macro (known_of reader.now) text.now }
+    ensures fit { IfOk result (IsFit reader.now.dictionary) }
+{
+    let room = reader.dictionary.has_room();
+    match read_body(Copper::Exact, text) {
+        Ok(None) => Ok(Effect::Stays),
+        Ok(Some(primitive)) => if room {
+            Ok(Effect::Fills(primitive))
+        } else {
+            Err(FlattenKind::BadMacro)
+        },
+        Err(fault) => if room {
+            Err(FlattenKind::from(fault))
+        } else {
+            Err(FlattenKind::BadMacro)
+        },
     }
+}
 
-    // An aperture of the macro of this name and body.
-    #[tactic(auto, unfolding(crate::specs::MacroTable::compose_as))]
-    fn compose_as(
-        &self,
-        alloc: Global,
-        copper: Copper,
-        n: u32,
-        name: &'a [u8],
-        body: &[Primitive],
-        parameters: Vec<Decimal>,
-        unit: Unit,
-    ) -> MacroRow<'a>
-        requires found { macro_named (macros_in self.now.dictionary) name.now ≡ Some (body_of body.now) }
-        ensures ok { IfOk result (λ e. gerber (shown (known_of self.now) e) ≡ spec.compose_as copper (known_of self.now) n name.now (body_of body.now) parameters.items unit) }
-        ensures fit { IfOk result (IsFit self.now.dictionary) }
-        ensures halt { IfErr result (Stops (spec.compose_as copper (known_of self.now) n name.now (body_of body.now) parameters.items unit)) }
-    {
-        if self.dictionary.defines(n) {
-            return Err(Halt::Fault(FlattenKind::Gerber(GerberKind::ApertureTwice)));
-        }
-        if self.dictionary.len() >= MOST_APERTURES {
-            return Err(Halt::Fault(FlattenKind::Gerber(GerberKind::TooManyApertures)));
-        }
-        let marks = judge(alloc, copper, body, &parameters, unit)?;
-        Ok(Effect::Makes(n, Tool::Composed(name, parameters, unit, marks)))
-    }
+// An aperture of a macro.
+#[tactic(auto, unfolding(crate::specs::MacroTable::compose))]
+fn compose<'a>(
+    reader: &PlainReader<'a>,
+    alloc: Global,
+    text: &'a [u8],
+    unit: Unit,
+) -> MacroRow<'a>
+    requires { spec.is_of_macro (aperture_at text.now unit) ≡ true }
+    ensures ok { IfOk result (λ e. gerber (shown (known_of reader.now) e) ≡ spec.compose (known_of reader.now) text.now unit) }
+    ensures fit { IfOk result (IsFit reader.now.dictionary) }
+    ensures halt { IfErr result (Stops (spec.compose (known_of reader.now) text.now unit)) }
+{
+    let word = name_text(text);
+    let name = before_byte(word, b',');
+    let Some(body) = reader.dictionary.body(name) else {
+        return Err(Halt::Fault(FlattenKind::NoMacro));
+    };
+    let Ok(parameters) = read_parameters(alloc, word) else {
+        return Err(Halt::NoMemory);
+    };
+    let Some(parameters) = parameters else {
+        return Err(Halt::Fault(FlattenKind::BadMacro));
+    };
+    compose_as(
+        reader,
+        alloc,
+        number(text),
+        name,
+        body,
+        parameters,
+        unit,
+    )
+}
 
-    // A standard aperture, which in real copper may have a hole or odd sizes.
-    #[tactic(auto, unfolding(crate::specs::MacroTable::define_real))]
-    fn define_real(&self, text: &[u8], unit: Unit) -> Result<Effect<'a>, GerberKind>
-        ensures value { showing (known_of self.now) result ≡ spec.define_real (known_of self.now) text.now unit }
-        ensures fit { IfOk result (IsFit self.now.dictionary) }
-    {
-        let (n, aperture) = read_real_aperture(text, unit)?;
-        self.define_as(n, aperture)
+// An aperture of the macro of this name and body.
+#[tactic(auto, unfolding(crate::specs::MacroTable::compose_as))]
+fn compose_as<'a>(
+    reader: &PlainReader<'a>,
+    alloc: Global,
+    n: u32,
+    name: &'a [u8],
+    body: &[Primitive],
+    parameters: Vec<Decimal>,
+    unit: Unit,
+) -> MacroRow<'a>
+    requires found { macro_named (macros_in reader.now.dictionary) name.now ≡ Some (body_of body.now) }
+    ensures ok { IfOk result (λ e. gerber (shown (known_of reader.now) e) ≡ spec.compose_as (known_of reader.now) n name.now (body_of body.now) parameters.items unit) }
+    ensures fit { IfOk result (IsFit reader.now.dictionary) }
+    ensures halt { IfErr result (Stops (spec.compose_as (known_of reader.now) n name.now (body_of body.now) parameters.items unit)) }
+{
+    if let Err(kind) = reader.judge_number(n) {
+        return Err(Halt::Fault(FlattenKind::Gerber(kind)));
     }
+    let marks = judge(alloc, body, &parameters, unit)?;
+    Ok(Effect::Makes(n, Tool::Composed(name, parameters, unit, marks)))
+}
 
-    fn define_in(&self, copper: Copper, text: &[u8], unit: Unit) -> Result<Effect<'a>, GerberKind>
-        ensures value { showing (known_of self.now) result ≡ spec.define_in copper (known_of self.now) text.now unit }
-        ensures fit { IfOk result (IsFit self.now.dictionary) }
-    {
-        match copper {
-            Copper::Exact => self.define(text),
-            Copper::Real => self.define_real(text, unit),
-        }
+// `AD`.
+#[tactic(auto, unfolding(crate::specs::MacroTable::define_any))]
+fn define_any<'a>(
+    reader: &PlainReader<'a>,
+    alloc: Global,
+    text: &'a [u8],
+) -> MacroRow<'a>
+    ensures ok { IfOk result (λ e. gerber (shown (known_of reader.now) e) ≡ spec.define_any (known_of reader.now) text.now) }
+    ensures fit { IfOk result (IsFit reader.now.dictionary) }
+    ensures halt { IfErr result (Stops (spec.define_any (known_of reader.now) text.now)) }
+{
+    let Some(unit) = reader.settings.unit else {
+        return Err(Halt::Fault(FlattenKind::Gerber(GerberKind::MissingUnit)));
+    };
+    if is_of_macro(text, unit) {
+        return compose(reader, alloc, text, unit);
     }
+    define(reader, text).map_err(|kind| Halt::Fault(FlattenKind::Gerber(kind)))
+}
 
-    // `AD`.
-    #[tactic(auto, unfolding(crate::specs::MacroTable::define_any))]
-    fn define_any(&self, alloc: Global, copper: Copper, text: &'a [u8]) -> MacroRow<'a>
-        ensures ok { IfOk result (λ e. gerber (shown (known_of self.now) e) ≡ spec.define_any copper (known_of self.now) text.now) }
-        ensures fit { IfOk result (IsFit self.now.dictionary) }
-        ensures halt { IfErr result (Stops (spec.define_any copper (known_of self.now) text.now)) }
-    {
-        let Some(unit) = self.settings.unit else {
-            return Err(Halt::Fault(FlattenKind::Gerber(GerberKind::MissingUnit)));
-        };
-        if is_of_macro(text, unit) {
-            return self.compose(alloc, copper, text, unit);
-        }
-        self.define_in(copper, text, unit)
-            .map_err(|kind| Halt::Fault(FlattenKind::Gerber(kind)))
-    }
+// A row that is the same without macros.
+#[tactic(auto, unfolding(crate::specs::CommandEffects::effect))]
+fn standard_row<'a>(reader: &PlainReader<'a>, command: &Command<'a>) -> MacroRow<'a>
+    requires lawful { IsLawfulReader reader.now }
+    requires command { IsLawfulCommand (view command.now) }
+    requires before_end { reader.now.settings.ended ≡ false }
+    ensures ok { IfOk result (λ e. gerber (shown (known_of reader.now) e) ≡ gerber (row (known_of reader.now) (view command.now))) }
+    ensures fit { IfOk result (IsFit reader.now.dictionary) }
+    ensures halt { IfErr result (Stops (gerber (row (known_of reader.now) (view command.now)))) }
+{
+    effect(reader, command).map_err(|kind| Halt::Fault(FlattenKind::Gerber(kind)))
+}
 
-    // A row that is the same without macros.
-    #[tactic(auto, unfolding(crate::specs::CommandEffects::effect))]
-    fn standard_row(&self, command: &Command<'a>) -> MacroRow<'a>
-        requires lawful { IsLawfulReader self.now }
-        requires command { IsLawfulCommand (view command.now) }
-        requires before_end { self.now.settings.ended ≡ false }
-        ensures ok { IfOk result (λ e. gerber (shown (known_of self.now) e) ≡ gerber (row (known_of self.now) (view command.now))) }
-        ensures fit { IfOk result (IsFit self.now.dictionary) }
-        ensures halt { IfErr result (Stops (gerber (row (known_of self.now) (view command.now)))) }
-    {
-        self.effect(command)
-            .map_err(|kind| Halt::Fault(FlattenKind::Gerber(kind)))
+// The row of a command where the file may have macros.
+#[tactic(auto, unfolding(crate::specs::MacroTable::macro_row))]
+fn macro_row<'a>(
+    reader: &PlainReader<'a>,
+    alloc: Global,
+    command: &Command<'a>,
+) -> MacroRow<'a>
+    requires lawful { IsLawfulReader reader.now }
+    requires command { IsLawfulCommand (view command.now) }
+    requires before_end { reader.now.settings.ended ≡ false }
+    ensures ok { IfOk result (λ e. gerber (shown (known_of reader.now) e) ≡ spec.macro_row (known_of reader.now) (view command.now)) }
+    ensures fit { IfOk result (IsFit reader.now.dictionary) }
+    ensures halt { IfErr result (Stops (spec.macro_row (known_of reader.now) (view command.now))) }
+{
+    match *command {
+        Command::Macro(name) => name_macro(reader, name).map_err(Halt::Fault),
+        Command::Body(text) => fill_macro(reader, text).map_err(Halt::Fault),
+        Command::Define(text) => define_any(reader, alloc, text),
+        _ => standard_row(reader, command),
     }
+}
 
-    // The row of a command where the file may have macros.
-    #[tactic(auto, unfolding(crate::specs::MacroTable::macro_row))]
-    fn macro_row(&self, alloc: Global, copper: Copper, command: &Command<'a>) -> MacroRow<'a>
-        requires lawful { IsLawfulReader self.now }
-        requires command { IsLawfulCommand (view command.now) }
-        requires before_end { self.now.settings.ended ≡ false }
-        ensures ok { IfOk result (λ e. gerber (shown (known_of self.now) e) ≡ spec.macro_row copper (known_of self.now) (view command.now)) }
-        ensures fit { IfOk result (IsFit self.now.dictionary) }
-        ensures halt { IfErr result (Stops (spec.macro_row copper (known_of self.now) (view command.now))) }
-    {
-        match *command {
-            Command::Macro(name) => self.name_macro(name).map_err(Halt::Fault),
-            Command::Body(own, text) => self.fill_macro(own, text).map_err(Halt::Fault),
-            Command::Define(text) => self.define_any(alloc, copper, text),
-            _ => self.standard_row(command),
-        }
+/// What a command does where the file may have macros and is flattened, or its fault.
+#[tactic(auto, unfolding(crate::specs::MacroTable::effect_with_macros, crate::specs::MacroTable::row_with_macros))]
+pub fn effect_with_macros<'a>(
+    reader: &PlainReader<'a>,
+    alloc: Global,
+    command: &Command<'a>,
+) -> MacroRow<'a>
+    requires lawful { IsLawfulReader reader.now }
+    requires command { IsLawfulCommand (view command.now) }
+    ensures ok { IfOk result (λ e. spec.with_few_radii (gerber (shown (known_of reader.now) e)) ≡ spec.effect_with_macros (known_of reader.now) (view command.now)) }
+    ensures fit { IfOk result (IsFit reader.now.dictionary) }
+    ensures halt { IfErr result (Stops (spec.effect_with_macros (known_of reader.now) (view command.now))) }
+{
+    if reader.settings.ended {
+        return behind_end(command);
     }
+    if is_function(command) {
+        return Ok(Effect::Stays);
+    }
+    macro_row(reader, alloc, command)
+}
 
-    /// What a command does where the file may have macros and is flattened, or its fault.
-    #[tactic(auto, unfolding(crate::specs::MacroTable::effect_with_macros, crate::specs::MacroTable::row_with_macros))]
-    pub fn effect_with_macros(&self, alloc: Global, command: &Command<'a>) -> MacroRow<'a>
-        requires lawful { IsLawfulReader self.now }
-        requires command { IsLawfulCommand (view command.now) }
-        ensures ok { IfOk result (λ e. spec.with_few_radii (gerber (shown (known_of self.now) e)) ≡ spec.effect_with_macros (known_of self.now) (view command.now)) }
-        ensures fit { IfOk result (IsFit self.now.dictionary) }
-        ensures halt { IfErr result (Stops (spec.effect_with_macros (known_of self.now) (view command.now))) }
-    {
-        if self.settings.ended {
-            return behind_end(command);
-        }
-        if is_function(command) {
-            return Ok(Effect::Stays);
-        }
-        self.macro_row(alloc, Copper::Exact, command)
+/// The pieces have at most `MOST_APERTURES` radii.
+pub fn has_few_radii<'a>(reader: &PlainReader<'a>, alloc: Global) -> Result<(), Halt<FlattenKind>>
+    ensures ok { IfOk result (λ _. spec.few_radii (concludes (plain_pieces reader.now.pieces.items)) ≡ Ok (concludes (plain_pieces reader.now.pieces.items))) }
+    ensures halt { IfErr result (Stops (spec.few_radii (concludes (plain_pieces reader.now.pieces.items)))) }
+{
+    let Ok(radii) = Radii::of(alloc, &reader.pieces) else {
+        return Err(Halt::NoMemory);
+    };
+    if radii.len() > MOST_APERTURES {
+        return Err(Halt::Fault(FlattenKind::TooManyRadii));
     }
-
-    /// What a command does in a file of real copper, or its fault.
-    #[tactic(auto, unfolding(crate::specs::MacroTable::effect_loosely))]
-    pub fn effect_loosely(&self, alloc: Global, command: &Command<'a>) -> MacroRow<'a>
-        requires lawful { IsLawfulReader self.now }
-        requires command { IsLawfulCommand (view command.now) }
-        ensures ok { IfOk result (λ e. gerber (shown (known_of self.now) e) ≡ spec.effect_loosely (known_of self.now) (view command.now)) }
-        ensures fit { IfOk result (IsFit self.now.dictionary) }
-        ensures halt { IfErr result (Stops (spec.effect_loosely (known_of self.now) (view command.now))) }
-    {
-        if self.settings.ended {
-            return behind_end(command);
-        }
-        self.macro_row(alloc, Copper::Real, command)
-    }
-
-    /// The pieces have at most `MOST_APERTURES` radii.
-    pub fn has_few_radii(&self, alloc: Global) -> Result<(), Halt<FlattenKind>>
-        ensures ok { IfOk result (λ _. spec.few_radii (concludes (plain_pieces self.now.pieces.items)) ≡ Ok (concludes (plain_pieces self.now.pieces.items))) }
-        ensures halt { IfErr result (Stops (spec.few_radii (concludes (plain_pieces self.now.pieces.items)))) }
-    {
-        let Ok(radii) = Radii::of(alloc, &self.pieces) else {
-            return Err(Halt::NoMemory);
-        };
-        if radii.len() > MOST_APERTURES {
-            return Err(Halt::Fault(FlattenKind::TooManyRadii));
-        }
-        Ok(())
-    }
+    Ok(())
 }

@@ -3,16 +3,14 @@ ghost use Rattle.std.specs.Prelude.{true, ◌≡◌, ◌≤◌, ◌&&◌, nat_le
 ghost use Rattle.std.specs.List.{before_first, list_all, slice_split};
 ghost use Rattle.std.specs.Option.{option_copied};
 ghost use Rattle.lengths.specs.Decimal.{decimal, unsigned as unsigned_text};
-ghost use Rattle.gerber_layer.specs.Command.{operates, view};
-ghost use Rattle.gerber_layer.specs.Lawful.{IsLawfulCommand, IsWhole};
+ghost use Rattle.gerber_reading.specs.Command.{operates, view};
+ghost use Rattle.gerber_reading.specs.Lawful.{IsLawfulCommand, IsWhole};
 ghost use Rattle.gerber_layer.specs.MacroCommands.{command_with_macros, macro_or};
 ghost use Rattle.gerber_layer.specs.WordCommands as spec;
 ghost use Rattle.gerber_words.specs.Attributes.{plain_attribute};
 ghost use Rattle.gerber_words.specs.Stepping.{entry_of};
 
-use crate::command::{Code, Command, Format};
-use crate::kind::GerberKind;
-use aperture_macros::Copper;
+use gerber_reading::{Bending, Code, Command, Format, GerberKind};
 use gerber_words::{Attribute, AttributeKind, Word, is_field};
 use lengths::decimal::{Unit, read_decimal, small_value, unsigned};
 use texts::{ByteClass, all_digits, begins, digits_len, is_digit, is_word, run_len};
@@ -183,18 +181,18 @@ pub fn read_macro_command<'a>(word: Word<'a>) -> Command<'a>
     ensures value { view result ≡ command_with_macros (entry_of word.entry) }
     ensures lawful { IsLawfulCommand (view result) }
 {
-    macro_or(Copper::Exact, read_command(word), word)
+    macro_or(read_command(word), word)
 }
 
-/// The command of a macro of such copper that a word is, or the other.
+/// The command of a macro that a word is, or the other.
 #[tactic(auto, unfolding(crate::specs::MacroCommands::macro_or))]
-pub fn macro_or<'a>(copper: Copper, other: Command<'a>, word: Word<'a>) -> Command<'a>
+pub fn macro_or<'a>(other: Command<'a>, word: Word<'a>) -> Command<'a>
     requires { IsLawfulCommand (view other) }
-    ensures value { view result ≡ macro_or copper (view other.entry) (entry_of word.entry) }
+    ensures value { view result ≡ macro_or (view other.entry) (entry_of word.entry) }
     ensures lawful { IsLawfulCommand (view result) }
 {
     if word.body {
-        return Command::Body(copper, word.text);
+        return Command::Body(word.text);
     }
     if word.extended && begins(word.text, b"AM") {
         return Command::Macro(&word.text[2..]);
@@ -597,7 +595,7 @@ fn operation_of<'a>(
     if !offsets.is_empty() {
         return Command::Refused(GerberKind::Arc);
     }
-    Command::Operate(x, y, code)
+    Command::Operate(x, y, code, Bending::none())
 }
 
 /// Whether there is no number in digits, or one.

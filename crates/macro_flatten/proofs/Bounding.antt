@@ -9,12 +9,12 @@ use Rattle.area_contact.specs.Contour.{end_from, IsContour}
 use Rattle.board_shapes.specs.Figures.{Figure, filled, figure_edges}
 use Rattle.board_shapes.specs.Pieces.{PlainPiece}
 use Rattle.apertures.specs.declared.aperture.Aperture.TheVariants.{Circle}
-use Rattle.gerber_layer.specs.Command.{Command, opens_region, closes_region}
-use Rattle.gerber_layer.specs.declared.command.Code.TheVariants.{Draw, Move}
+use Rattle.gerber_reading.specs.Command.{Command, opens_region, closes_region}
+use Rattle.gerber_reading.specs.declared.command.Code.TheVariants.{Draw, Move}
 use Rattle.gerber_layer.specs.CommandEffects.{opens, closes, extends, leaves, edges_of, edges_in}
-use Rattle.gerber_layer.specs.declared.place.Place.{Place}
+use Rattle.gerber_reading.specs.declared.place.Place.{Place}
 use Rattle.gerber_layer.specs.Tools.{standard}
-use Rattle.gerber_layer.specs.Settings.{aperture_before, region_open, defined_before, point_before, contour_before, lengthened}
+use Rattle.gerber_reading.specs.Settings.{aperture_before, region_open, point_before, lengthened}
 use Rattle.gerber_layer.specs.Image.{known_before, pieces_of}
 use Rattle.macro_flatten.specs.FlatText.{word, number_of, move, draw, area_lines}
 use Rattle.macro_flatten.proofs.Operations.{reads_move, reads_draw, reads_opening, reads_closing}
@@ -22,11 +22,32 @@ use Rattle.macro_flatten.proofs.Effects.{at_spot, opens_one, begins_at, extends_
 use Rattle.macro_flatten.proofs.History.{told, behind, behind-append, as_read, figure_in, Stands, is_set, clean_then, pieces_then, figures-none, figures-more, point_then}
 use Rattle.macro_flatten.proofs.Drawing.{Drawing, as_many}
 use Rattle.area_contact.specs.declared.TheConstants.{MOST_CONTOUR_EDGES}
+use Rattle.macro_flatten.proofs.Exact.{contour_before, defined_before}
+use Rattle.regions.specs.Contours.{Leg, Outline, close_of}
+use Rattle.gerber_layer.specs.CommandEffects.{contour_closed}
+use Rattle.std.proofs.lemmas.List.{length-map, map-append}
 
--- the contour from a spot through others
+-- the points of the contour from a spot through others, and the contour
 abbrev pub traced : Spot → List Spot → List Spot
 traced a [] = []
 traced a (b ∷ rest) = a ∷ b ∷ rest
+
+abbrev pub leg_to : Spot → Leg (Unit {0})
+leg_to to = record { to = to; bend = tt }
+
+abbrev pub outlined : Spot → List Spot → Option (Outline (Unit {0}))
+outlined a [] = None
+outlined a (b ∷ rest) = Some (record { first = a; legs = map leg_to (b ∷ rest) })
+
+-- it closes as its points do
+legs_back : (spots : List Spot) → map (λ (l : Leg (Unit {0})). l.to) (map leg_to spots) ≡ spots
+legs_back [] = refl
+legs_back (b ∷ rest) = ap (λ (xs : List Spot). b ∷ xs) (legs_back rest)
+
+closes_alike : (a : Spot) (done : List Spot) → contour_closed (outlined a done) ≡ close_of (traced a done)
+unfolding close_of
+closes_alike a [] = refl
+closes_alike a (b ∷ rest) = ap (λ (xs : List Spot). close_of (a ∷ b ∷ xs)) (legs_back rest)
 
 -- In a region: the contour leads from a spot through these.
 pub record Bounding (p : Place) (pens : List ℕ) (last : Option ℕ) (figures : List Figure) (a : Spot) (done : List Spot) (h : List Command) : Type 0 where
@@ -35,7 +56,7 @@ pub record Bounding (p : Place) (pens : List ℕ) (last : Option ℕ) (figures :
   pub selected : aperture_before h ≡ last
   pub defined : (d : ℕ) → list_any (nat_eq d) pens ≡ true → defined_before h (number_of pens d) ≡ Some (standard (Circle (pos d)))
   pub are : map figure_in (pieces_of p h) ≡ figures
-  pub contour : contour_before h ≡ traced a done
+  pub contour : contour_before h ≡ outlined a done
   pub at : point_before h ≡ end_from a done
 
 -- the edges of the pieces are those of their figures
@@ -60,17 +81,17 @@ opened p pens last figures h a placed d =
       at = point_then p (opens_region ∷ h) a Move s placed;
     }
 
-traced-push : (a b from : Spot) (done : List Spot) → from ≡ end_from a done → lengthened (traced a done) from b ≡ traced a (done ++ b ∷ [])
-traced-push a b from [] e = ap (λ (q : Spot). q ∷ b ∷ []) e
-traced-push a b from (c ∷ done) e = refl
+traced-push : (a b from : Spot) (done : List Spot) → from ≡ end_from a done → lengthened (outlined a done) from b tt ≡ outlined a (done ++ b ∷ [])
+traced-push a b from [] e = ap (λ (q : Spot). Some (record { first = q; legs = leg_to b ∷ [] })) e
+traced-push a b from (c ∷ done) e = ap (λ (legs : List (Leg (Unit {0}))). Some (record { first = a; legs = legs })) (sym (map-append leg_to (c ∷ done) (b ∷ [])))
 
 end-push : (a b : Spot) (done : List Spot) → end_from a (done ++ b ∷ []) ≡ b
 end-push a b [] = refl
 end-push a b (c ∷ done) = end-push c b done
 
-edges-traced : (a : Spot) (done : List Spot) → edges_in (traced a done) ≡ length done
-edges-traced a [] = omega arith
-edges-traced a (c ∷ done) = omega arith
+edges-traced : (a : Spot) (done : List Spot) → edges_in (outlined a done) ≡ length done
+edges-traced a [] = refl
+edges-traced a (c ∷ done) = length-map (c ∷ done) leg_to
 
 -- one edge more
 lengthens : (p : Place) (pens : List ℕ) (last : Option ℕ) (figures : List Figure) (h : List Command) (a b : Spot) (done : List Spot) → IsPlaced b → length done < MOST_CONTOUR_EDGES → sum_by figure_edges figures + (length done + 1) ≤ p.room.edges → Bounding p pens last figures a done h → Bounding p pens last figures a (done ++ b ∷ []) (at_spot b Draw ∷ h)
@@ -79,11 +100,11 @@ lengthens p pens last figures h a b done placed few room d =
     let all : edges_of (pieces_of p h) ≡ sum_by figure_edges figures = edges_are (pieces_of p h) ∙ ap (sum_by figure_edges) d.are in
     let e = extends_to (known_before p h) b (is_set p h d.stands) placed d.inside (omega (arith, edges, few)) (omega (arith, edges, all, room)) in
     record {
-      stands = record { clean = clean_then p h (at_spot b Draw) (extends b) d.stands.clean e; format = d.stands.format; unit = d.stands.unit; block = d.stands.block; ended = d.stands.ended };
+      stands = record { clean = clean_then p h (at_spot b Draw) (extends b tt) d.stands.clean e; format = d.stands.format; unit = d.stands.unit; block = d.stands.block; ended = d.stands.ended };
       inside = d.inside;
       selected = d.selected;
       defined = d.defined;
-      are = ap (map figure_in) (pieces_then p h (at_spot b Draw) (extends b) e) ∙ d.are;
+      are = ap (map figure_in) (pieces_then p h (at_spot b Draw) (extends b tt) e) ∙ d.are;
       contour = (let to : point_before (at_spot b Draw ∷ h) ≡ b = point_then p h b Draw d.stands placed in rw (d.inside, d.contour, to) (traced-push a b (point_before h) done d.at));
       at = point_then p h b Draw d.stands placed ∙ sym (end-push a b done);
     }
@@ -103,7 +124,7 @@ closed : (p : Place) (pens : List ℕ) (last : Option ℕ) (figures : List Figur
 closed p pens last figures h a done contour room d =
     let figure : Figure = filled (traced a done) in
     let many = as_many p h figures d.are in
-    let e = leaves_one (known_before p h) (traced a done) (is_set p h d.stands) d.inside d.contour contour (rw many room) in
+    let e = leaves_one (known_before p h) (traced a done) (is_set p h d.stands) d.inside (ap contour_closed d.contour ∙ closes_alike a done) contour (rw many room) in
     record {
       stands = record { clean = clean_then p h closes_region (leaves (Some figure)) d.stands.clean e; format = d.stands.format; unit = d.stands.unit; block = d.stands.block; ended = d.stands.ended };
       outside = refl;

@@ -17,7 +17,7 @@ use Rattle.texts.specs.LastDigits.{last_digits}
 use Rattle.apertures.specs.Definition.{is_x, is_empty, size_at, last_behind, circle_at, diameter_at, solid_by, numbered_at, aperture_at}
 use Rattle.apertures.specs.declared.aperture.Aperture.TheVariants.{Circle}
 use Rattle.gerber_words.specs.Attributes.{attribute_kind}
-use Rattle.gerber_layer.specs.Command.{formats, counts_in, defines}
+use Rattle.gerber_reading.specs.Command.{formats, counts_in, defines}
 use Rattle.gerber_layer.specs.WordCommands.{extended as row, format_word, format_of, command_of}
 use Rattle.macro_flatten.specs.FlatText.{millimetres}
 use Rattle.macro_flatten.proofs.Digits.{runs, none, written}

@@ -9,17 +9,18 @@ use Rattle.planar.specs.Plane.{IsPlaced}
 use Rattle.planar.specs.declared.Spot.{Spot}
 use Rattle.board_shapes.specs.Figures.{Figure, Stroke, round}
 use Rattle.apertures.specs.declared.aperture.Aperture.TheVariants.{Circle}
-use Rattle.gerber_layer.specs.Command.{Command, selects}
-use Rattle.gerber_layer.specs.declared.command.Code.TheVariants.{Draw, Move}
+use Rattle.gerber_reading.specs.Command.{Command, selects}
+use Rattle.gerber_reading.specs.declared.command.Code.TheVariants.{Draw, Move}
 use Rattle.gerber_layer.specs.CommandEffects.{stays, performs}
-use Rattle.gerber_layer.specs.declared.place.Place.{Place}
+use Rattle.gerber_reading.specs.declared.place.Place.{Place}
 use Rattle.gerber_layer.specs.Tools.{Tool, standard}
-use Rattle.gerber_layer.specs.Settings.{aperture_before, region_open, defined_before, point_before}
+use Rattle.gerber_reading.specs.Settings.{aperture_before, region_open, point_before}
 use Rattle.gerber_layer.specs.Image.{known_before, pieces_of}
 use Rattle.macro_flatten.specs.FlatText.{word, number_of, pen_of, move, draw, selection, is_selected, stroke_lines}
 use Rattle.macro_flatten.proofs.Operations.{reads_selection, reads_move, reads_draw}
 use Rattle.macro_flatten.proofs.Effects.{at_spot, selects_one, moves, draws}
 use Rattle.macro_flatten.proofs.History.{behind, behind-append, as_read, figure_in, Stands, is_set, clean_then, pieces_then, figures-none, figures-more, point_then}
+use Rattle.macro_flatten.proofs.Exact.{defined_before}
 
 -- Outside a region: each pen has its aperture, this one is selected, and these are the figures so far.
 pub record Drawing (p : Place) (pens : List ℕ) (last : Option ℕ) (figures : List Figure) (h : List Command) : Type 0 where

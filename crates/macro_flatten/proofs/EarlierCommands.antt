@@ -4,7 +4,7 @@ use Rattle.std.specs.Option.{option_or}
 use Rattle.std.proofs.lemmas.Bool.{ltb-false}
 use Rattle.std.proofs.lemmas.Int.{ints}
 use Rattle.std.specs.List.{AllByRecursion}
-use Rattle.std.specs.Prelude.{option_map}
+use Rattle.std.specs.Prelude.{map, option_map}
 use Rattle.std.specs.Str.Parse.{digits_value}
 use Rattle.lengths.specs.Decimal.{Fraction, signed, over_power}
 use Rattle.lengths.specs.Grid.{amount_of, as_position, position_of}
@@ -17,24 +17,25 @@ use Rattle.texts.specs.Words.{is_word}
 use Rattle.apertures.specs.declared.aperture.Aperture.{Aperture}
 use Rattle.apertures.specs.declared.fault.ApertureFault.{ApertureFault}
 use Rattle.apertures.specs.declared.fault.ApertureFault.TheVariants as aperture
-use Rattle.apertures.specs.Definition.{name_of}
-use Rattle.apertures.specs.Real.{real_aperture_at}
+use Rattle.apertures.specs.Definition.{aperture_at, name_of}
 use Rattle.apertures.specs.Flash.{IsLawful}
-use Rattle.apertures.proofs.Lawful.{real_lawful}
-use Rattle.aperture_macros.specs.declared.primitive.Copper.{Copper}
+use Rattle.apertures.proofs.Lawful.{aperture_lawful}
+use Rattle.aperture_macros.specs.declared.primitive.Copper.TheVariants.{Exact}
 use Rattle.aperture_macros.specs.BodyWord.{PlainPrimitive, primitive_at}
 use Rattle.aperture_macros.specs.Sized.{IsSized}
 use Rattle.aperture_macros.specs.declared.fault.MacroFault.{MacroFault}
-use Rattle.gerber_layer.specs.Command.{Command, defines, opens_region, closes_region, operates, names_macro, body_word}
-use Rattle.gerber_layer.specs.declared.command.Code.{Code}
-use Rattle.gerber_layer.specs.declared.command.Code.TheVariants.{Draw, Move, Flash}
-use Rattle.gerber_layer.specs.declared.command.Format.{Format}
-use Rattle.gerber_layer.specs.declared.kind.GerberKind.{GerberKind}
+use Rattle.gerber_reading.specs.Command.{Command, defines, opens_region, closes_region, operates, names_macro, body_word}
+use Rattle.gerber_reading.specs.declared.command.Code.{Code}
+use Rattle.gerber_reading.specs.declared.command.Code.TheVariants.{Draw, Move, Flash}
+use Rattle.gerber_reading.specs.declared.command.Format.{Format}
+use Rattle.gerber_reading.specs.declared.kind.GerberKind.{GerberKind}
 use Rattle.gerber_layer.specs.Tools.{Macro, Macros, Tool, standard, composed, composed_in, begun, filled_up, latest_or, longer, macro_named, name_text, number_digits, parameters_in, tool_by, tool_in}
-use Rattle.gerber_layer.specs.CommandEffects.{gridded, coordinate, code_of}
-use Rattle.gerber_layer.specs.Settings.{as_number, definition_in, defined_before, drawn, contour_by, contour_before, lengthened, macros_by, macros_before, point_before, region_open, unit_before, format_before, value_in, value_or, with_body, x_before, x_in, y_before, y_in}
+use Rattle.gerber_layer.specs.CommandEffects.{gridded, code_of}
+use Rattle.gerber_reading.specs.Settings.{as_number, drawn, contour_by, lengthened, point_before, region_open, spots_of, unit_before, format_before, value_in, value_or, with_body, x_before, x_in, y_before, y_in}
 use Rattle.aperture_macros.proofs.Readings.{read_sized}
 use Rattle.planar.specs.declared.TheConstants.{METRE}
+use Rattle.gerber_reading.specs.CommandEffects.{Leg, Outline, coordinate}
+use Rattle.macro_flatten.proofs.Exact.{contour_before, defined_before, definition_in, macros_before, macros_by}
 
 -- ---- The current point
 
@@ -86,42 +87,42 @@ point_placed h = (x_reached h, y_reached h)
 
 -- ---- The contour
 
-lengthened_placed : (contour : List Spot) (from to : Spot) → AllByRecursion IsPlaced contour → IsPlaced from → IsPlaced to → AllByRecursion IsPlaced (lengthened contour from to)
-lengthened_placed [] from to h k l = (k, (l, tt))
-lengthened_placed (a ∷ rest) from to h k l = (h.0, push rest h.1)
+lengthened_placed : {E : Type 0} (contour : Option (Outline E)) (from to : Spot) (e : E) → AllByRecursion IsPlaced (spots_of contour) → IsPlaced from → IsPlaced to → AllByRecursion IsPlaced (spots_of (lengthened contour from to e))
+lengthened_placed None from to e h k l = (k, (l, tt))
+lengthened_placed {E = E} (Some o) from to e h k l = (h.0, push o.legs h.1)
   where
-    push : (xs : List Spot) → AllByRecursion IsPlaced xs → AllByRecursion IsPlaced (xs ++ to ∷ [])
+    push : (legs : List (Leg E)) → AllByRecursion IsPlaced (map (λ (leg : Leg E). leg.to) legs) → AllByRecursion IsPlaced (map (λ (leg : Leg E). leg.to) (legs ++ record { to = to; bend = e } ∷ []))
     push [] g = (l, tt)
     push (x ∷ xs) g = (g.0, push xs g.1)
 
-drawn_placed : (code : Code) (inside : Bool) (contour : List Spot) (from to : Spot) → AllByRecursion IsPlaced contour → IsPlaced from → IsPlaced to → AllByRecursion IsPlaced (drawn code inside contour from to)
-drawn_placed Draw true contour from to h k l = lengthened_placed contour from to h k l
-drawn_placed Draw false contour from to h k l = h
-drawn_placed Move true contour from to h k l = tt
-drawn_placed Move false contour from to h k l = h
-drawn_placed Flash inside contour from to h k l = h
+drawn_placed : {E : Type 0} (code : Code) (inside : Bool) (contour : Option (Outline E)) (from to : Spot) (e : E) → AllByRecursion IsPlaced (spots_of contour) → IsPlaced from → IsPlaced to → AllByRecursion IsPlaced (spots_of (drawn code inside contour from to e))
+drawn_placed Draw true contour from to e h k l = lengthened_placed contour from to e h k l
+drawn_placed Draw false contour from to e h k l = h
+drawn_placed Move true contour from to e h k l = tt
+drawn_placed Move false contour from to e h k l = h
+drawn_placed Flash inside contour from to e h k l = h
 
-led_placed : (c : Command) (inside : Bool) (contour : List Spot) (from to : Spot) → AllByRecursion IsPlaced contour → IsPlaced from → IsPlaced to → AllByRecursion IsPlaced (contour_by c inside contour from to)
-led_placed (operates x y code) inside contour from to h k l = drawn_placed (code_of code) inside contour from to h k l
-led_placed opens_region inside contour from to h k l = tt
-led_placed closes_region inside contour from to h k l = tt
-led_placed other inside contour from to h k l = h
+led_placed : {E : Type 0} (c : Command) (inside : Bool) (contour : Option (Outline E)) (from to : Spot) (e : E) → AllByRecursion IsPlaced (spots_of contour) → IsPlaced from → IsPlaced to → AllByRecursion IsPlaced (spots_of (contour_by c inside contour from to e))
+led_placed (operates x y code b) inside contour from to e h k l = drawn_placed (code_of code) inside contour from to e h k l
+led_placed opens_region inside contour from to e h k l = tt
+led_placed closes_region inside contour from to e h k l = tt
+led_placed other inside contour from to e h k l = h
 
-pub contour_placed : (h : List Command) → AllByRecursion IsPlaced (contour_before h)
+pub contour_placed : (h : List Command) → AllByRecursion IsPlaced (spots_of (contour_before h))
 contour_placed [] = tt
-contour_placed (c ∷ h) = led_placed c (region_open h) (contour_before h) (point_before h) (point_before (c ∷ h)) (contour_placed h) (point_placed h) (point_placed (c ∷ h))
+contour_placed (c ∷ h) = led_placed c (region_open h) (contour_before h) (point_before h) (point_before (c ∷ h)) tt (contour_placed h) (point_placed h) (point_placed (c ∷ h))
 
-drawn_outside : (code : Code) (inside : Bool) (contour : List Spot) (from to : Spot) → inside ≡ false → contour ≡ [] → drawn code inside contour from to ≡ []
-drawn_outside Draw true contour from to o e = cc
-drawn_outside Draw false contour from to o e = e
-drawn_outside Move true contour from to o e = refl
-drawn_outside Move false contour from to o e = e
-drawn_outside Flash inside contour from to o e = e
+drawn_outside : {E : Type 0} (code : Code) (inside : Bool) (contour : Option (Outline E)) (from to : Spot) (e : E) → inside ≡ false → contour ≡ None → drawn code inside contour from to e ≡ None
+drawn_outside Draw true contour from to e o is = cc
+drawn_outside Draw false contour from to e o is = is
+drawn_outside Move true contour from to e o is = refl
+drawn_outside Move false contour from to e o is = is
+drawn_outside Flash inside contour from to e o is = is
 
 -- outside a region there is none
-pub none_outside : (h : List Command) → region_open h ≡ false → contour_before h ≡ []
+pub none_outside : (h : List Command) → region_open h ≡ false → contour_before h ≡ None
 none_outside [] o = refl
-none_outside (operates x y code ∷ h) o = drawn_outside (code_of code) (region_open h) (contour_before h) (point_before h) (point_before (operates x y code ∷ h)) o (none_outside h o)
+none_outside (operates x y code b ∷ h) o = drawn_outside (code_of code) (region_open h) (contour_before h) (point_before h) (point_before (operates x y code b ∷ h)) tt o (none_outside h o)
 none_outside (opens_region ∷ h) o = refl
 none_outside (closes_region ∷ h) o = refl
 none_outside (other ∷ h) o = none_outside h o
@@ -142,13 +143,13 @@ composed_lawful text unit m h = by (parameters_in (name_text text)) h
         let same : ◌≡◌ {A = ℕ × Tool} (digits_value 10 (number_digits text), composed (name_of (name_text text)) parameters unit) m = cc in
         subst (λ (t : ℕ × Tool). IsLawfulTool t.1) same tt
 
-tool_lawful : (text : List ℕ) (unit : Measure) (m : ℕ × Tool) → tool_in text unit ≡ Some m → IsLawfulTool m.1
-tool_lawful text unit m h = by (real_aperture_at text unit) refl h
+tool_lawful : (text : List ℕ) (unit : Measure) (m : ℕ × Tool) → tool_in aperture_at text unit ≡ Some m → IsLawfulTool m.1
+tool_lawful text unit m h = by (aperture_at text unit) refl h
   where
-    by : (r : Result (ℕ × Aperture) ApertureFault) → real_aperture_at text unit ≡ r → tool_by r (composed_in text unit) ≡ Some m → IsLawfulTool m.1
+    by : (r : Result (ℕ × Aperture) ApertureFault) → aperture_at text unit ≡ r → tool_by r (composed_in text unit) ≡ Some m → IsLawfulTool m.1
     by (Ok made) e h =
         let same : ◌≡◌ {A = ℕ × Tool} (made.0, standard made.1) m = cc in
-        subst (λ (t : ℕ × Tool). IsLawfulTool t.1) same (real_lawful text unit made e)
+        subst (λ (t : ℕ × Tool). IsLawfulTool t.1) same (aperture_lawful text unit made e)
     by (Err aperture.Macro) e h = composed_lawful text unit m h
     by (Err aperture.BadText) e h = cc
     by (Err aperture.Hole) e h = cc
@@ -166,7 +167,7 @@ numbered n (Some m) a lawful h = by (eqb m.0 n) h
     by false e = cc
 
 definition_lawful : (c : Command) (unit : Option Measure) (n : ℕ) (a : Tool) → definition_in c unit n ≡ Some a → IsLawfulTool a
-definition_lawful (defines text) (Some unit) n a h = numbered n (tool_in text unit) a (tool_lawful text unit) h
+definition_lawful (defines text) (Some unit) n a h = numbered n (tool_in aperture_at text unit) a (tool_lawful text unit) h
 definition_lawful (defines text) None n a h = cc
 definition_lawful other unit n a h = absurd (cc)
 
@@ -211,17 +212,17 @@ filled_sized m p s sized name body e = by m.latest (sized name) e
         named true h e = let same : last.body ++ p ∷ [] ≡ body = cc in subst AreSized same (more_sized p last.body s (h last.body refl))
         named false h e = h body e
 
-body_sized : (m : Macros) (copper : Copper) (text : List ℕ) → HaveSizes m → HaveSizes (with_body m (primitive_at copper text))
-body_sized m copper text sized = by (primitive_at copper text) refl
+body_sized : (m : Macros) (text : List ℕ) → HaveSizes m → HaveSizes (with_body m (primitive_at Exact text))
+body_sized m text sized = by (primitive_at Exact text) refl
   where
-    by : (r : Result (Option PlainPrimitive) MacroFault) → primitive_at copper text ≡ r → HaveSizes (with_body m r)
-    by (Ok (Some p)) e = filled_sized m p (read_sized copper text p e) sized
+    by : (r : Result (Option PlainPrimitive) MacroFault) → primitive_at Exact text ≡ r → HaveSizes (with_body m r)
+    by (Ok (Some p)) e = filled_sized m p (read_sized Exact text p e) sized
     by (Ok None) e = sized
     by (Err fault) e = sized
 
 macros_kept : (c : Command) (m : Macros) → HaveSizes m → HaveSizes (macros_by c m)
 macros_kept (names_macro name) m sized = begun_sized m name sized
-macros_kept (body_word copper text) m sized = body_sized m copper text sized
+macros_kept (body_word text) m sized = body_sized m text sized
 macros_kept other m sized = sized
 
 pub macros_sized : (h : List Command) → HaveSizes (macros_before h)

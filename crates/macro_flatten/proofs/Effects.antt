@@ -14,14 +14,15 @@ use Rattle.apertures.specs.Definition.{aperture_at}
 use Rattle.apertures.specs.declared.aperture.Aperture.{Aperture}
 use Rattle.apertures.specs.declared.aperture.Aperture.TheVariants.{Circle}
 use Rattle.regions.specs.Contours.{close_of}
-use Rattle.gerber_layer.specs.Command.{Command, formats, counts_in, defines, selects, operates, opens_region, closes_region, ends, finishes}
-use Rattle.gerber_layer.specs.declared.command.Code.{Code}
-use Rattle.gerber_layer.specs.declared.command.Code.TheVariants.{Draw, Move}
-use Rattle.gerber_layer.specs.CommandEffects.{Known, stays, makes, performs, extends, closes, opens, leaves, concludes, target, selected, room_for, edges_of, edges_in, draw, extend, closing, perform, perform_in_region, operate, leave, ended_block, define, row, effect}
+use Rattle.gerber_reading.specs.Command.{no_bending, Command, formats, counts_in, defines, selects, operates, opens_region, closes_region, ends, finishes}
+use Rattle.gerber_reading.specs.declared.command.Code.{Code}
+use Rattle.gerber_reading.specs.declared.command.Code.TheVariants.{Draw, Move}
+use Rattle.gerber_layer.specs.CommandEffects.{Known, stays, makes, performs, extends, closes, opens, leaves, concludes, selected, edges_of, edges_in, draw, closing, contour_closed, perform, perform_in_region, operate, leave, define, row, effect}
 use Rattle.gerber_layer.specs.Tools.{Tool, standard}
 use Rattle.macro_flatten.proofs.Operations.{seven, coordinate_is}
 use Rattle.area_contact.specs.declared.TheConstants.{MOST_CONTOUR_EDGES}
-use Rattle.gerber_layer.specs.declared.TheConstants.{MOST_APERTURES}
+use Rattle.gerber_reading.specs.declared.TheConstants.{MOST_APERTURES}
+use Rattle.gerber_reading.specs.CommandEffects.{ended_block_by, extend_by, room_for, target}
 
 -- the settings of the text are in force, and it has not ended
 pub record IsSet (k : Known) : Type 0 where
@@ -32,7 +33,7 @@ pub record IsSet (k : Known) : Type 0 where
 
 -- an operation at a spot
 abbrev pub at_spot : Spot → Code → Command
-at_spot to code = operates (Some (signed_decimal to.x)) (Some (signed_decimal to.y)) (Some code)
+at_spot to code = operates (Some (signed_decimal to.x)) (Some (signed_decimal to.y)) (Some code) no_bending
 
 leads : (k : Known) (to : Spot) → IsSet k → IsPlaced to → target k.settings (Some (signed_decimal to.x)) (Some (signed_decimal to.y)) ≡ Ok to
 unfolding target
@@ -71,12 +72,12 @@ pub opens_one : (k : Known) → IsSet k → k.settings.region ≡ false → effe
 unfolding effect row
 opens_one k s outside = rw (s.ended, outside) refl
 
-pub begins_at : (k : Known) (to : Spot) → IsSet k → IsPlaced to → k.settings.region ≡ true → k.contour ≡ [] → effect k (at_spot to Move) ≡ Ok (closes to None)
+pub begins_at : (k : Known) (to : Spot) → IsSet k → IsPlaced to → k.settings.region ≡ true → k.contour ≡ None → effect k (at_spot to Move) ≡ Ok (closes to None)
 unfolding perform_in_region closing close_of room_for
 begins_at k to s h inside none = operated k to Move s h ∙ rw (inside, none) refl
 
-pub extends_to : (k : Known) (to : Spot) → IsSet k → IsPlaced to → k.settings.region ≡ true → edges_in k.contour < MOST_CONTOUR_EDGES → edges_of k.pieces + (edges_in k.contour + 1) ≤ k.place.room.edges → effect k (at_spot to Draw) ≡ Ok (extends to)
-unfolding perform_in_region extend
+pub extends_to : (k : Known) (to : Spot) → IsSet k → IsPlaced to → k.settings.region ≡ true → edges_in k.contour < MOST_CONTOUR_EDGES → edges_of k.pieces + (edges_in k.contour + 1) ≤ k.place.room.edges → effect k (at_spot to Draw) ≡ Ok (extends to tt)
+unfolding perform_in_region extend_by
 extends_to k to s h inside few room = operated k to Draw s h ∙ rw (inside, lt-leb _ _ few, le-ltb _ _ room) refl
 
 contour_closes : (points : List Spot) → IsContour points → close_of points ≡ Ok (Some points)
@@ -89,7 +90,7 @@ contour_closes (a ∷ b ∷ rest) c =
     let long : nat_lt (length rest) 2 ≡ false = le-ltb _ _ (omega (arith, few)) in
     rw (spot_same (end_from b rest) a closed, long) refl
 
-pub leaves_one : (k : Known) (points : List Spot) → IsSet k → k.settings.region ≡ true → k.contour ≡ points → IsContour points → length k.pieces < k.place.room.pieces → effect k closes_region ≡ Ok (leaves (Some (filled points)))
+pub leaves_one : (k : Known) (points : List Spot) → IsSet k → k.settings.region ≡ true → contour_closed k.contour ≡ close_of points → IsContour points → length k.pieces < k.place.room.pieces → effect k closes_region ≡ Ok (leaves (Some (filled points)))
 unfolding effect row leave closing room_for
 leaves_one k points s inside is c room = rw (s.ended, inside, is, contour_closes points c, lt-leb _ _ room) refl
 
@@ -108,7 +109,7 @@ unfolding effect row define
 makes_one k text n a s is fresh few = rw (s.ended, s.unit, is, fresh, lt-leb _ _ few) refl
 
 pub ends_all : (k : Known) → IsSet k → k.settings.region ≡ false → effect k ends ≡ Ok (concludes k.pieces)
-unfolding effect row ended_block
+unfolding effect row ended_block_by
 ends_all k s outside = rw (s.ended, outside, s.block) refl
 
 pub finishes_all : (k : Known) → k.settings.ended ≡ true → effect k finishes ≡ Ok stays

@@ -11,12 +11,12 @@ use Rattle.board_shapes.specs.Figures.{Figure, round, filled, figure_edges}
 use Rattle.lengths.specs.declared.decimal.Unit.TheVariants.{Mm}
 use Rattle.apertures.specs.declared.aperture.Aperture.TheVariants.{Circle}
 use Rattle.gerber_words.specs.Words.{ended}
-use Rattle.gerber_layer.specs.Command.{Command, formats, counts_in, ends, finishes}
+use Rattle.gerber_reading.specs.Command.{Command, formats, counts_in, ends, finishes}
 use Rattle.gerber_layer.specs.WordCommands.{command_of}
 use Rattle.gerber_layer.specs.Tools.{standard}
 use Rattle.gerber_layer.specs.CommandEffects.{stays, concludes}
-use Rattle.gerber_layer.specs.declared.place.Place.{Place}
-use Rattle.gerber_layer.specs.Settings.{has_ended}
+use Rattle.gerber_reading.specs.declared.place.Place.{Place}
+use Rattle.gerber_reading.specs.Settings.{has_ended}
 use Rattle.gerber_layer.specs.Image.{effect_before, known_before, pieces_of}
 use Rattle.file_reading.specs.Reading.{Clean, Item, said}
 use Rattle.gerber_words.specs.Items.{items_with, word_item}
@@ -33,7 +33,7 @@ use Rattle.macro_flatten.proofs.Bounding.{area-then}
 use Rattle.macro_flatten.proofs.PenPlaces.{IsPen, HasPen, found, have_pens, small_after}
 use Rattle.macro_flatten.proofs.Heading.{begun, Circled, circled}
 use Rattle.macro_flatten.proofs.LineWords.{IsTold, all_words}
-use Rattle.gerber_layer.specs.declared.TheConstants.{MOST_APERTURES}
+use Rattle.gerber_reading.specs.declared.TheConstants.{MOST_APERTURES}
 
 -- ---- The figures
 

@@ -7,13 +7,11 @@ use Rattle.lengths.specs.declared.decimal.Unit.TheVariants.{Mm}
 use Rattle.apertures.specs.declared.aperture.Aperture.{Aperture}
 use Rattle.apertures.specs.declared.aperture.Aperture.TheVariants.{Circle}
 use Rattle.apertures.specs.declared.fault.ApertureFault.{ApertureFault}
-use Rattle.apertures.specs.Fine.{fine_at}
-use Rattle.apertures.specs.Real.{any_holed_at, or_real}
-use Rattle.gerber_layer.specs.Command.{Command, formats, counts_in, defines}
+use Rattle.gerber_reading.specs.Command.{Command, formats, counts_in, defines}
 use Rattle.gerber_layer.specs.CommandEffects.{stays, makes}
-use Rattle.gerber_layer.specs.declared.place.Place.{Place}
+use Rattle.gerber_reading.specs.declared.place.Place.{Place}
 use Rattle.gerber_layer.specs.Tools.{standard, composed_in, tool_by}
-use Rattle.gerber_layer.specs.Settings.{aperture_before, region_open, defined_before, definitions_before, as_number}
+use Rattle.gerber_reading.specs.Settings.{aperture_before, region_open, definitions_before, as_number}
 use Rattle.gerber_layer.specs.Image.{known_before, pieces_of}
 use Rattle.macro_flatten.specs.FlatText.{circle, circles}
 use Rattle.macro_flatten.proofs.Operations.{seven}
@@ -21,6 +19,7 @@ use Rattle.macro_flatten.proofs.Definitions.{circle_text, defines_circle, reads_
 use Rattle.macro_flatten.proofs.Effects.{sets_format, sets_unit, makes_one}
 use Rattle.macro_flatten.proofs.History.{told, behind, as_read, Stands, is_set, clean_then, pieces_then, no_pieces}
 use Rattle.macro_flatten.proofs.PenPlaces.{IsPen}
+use Rattle.macro_flatten.proofs.Exact.{defined_before}
 
 -- Before the figures: apertures are defined up to a number, and no piece is there.
 pub record Heading (p : Place) (n : ℕ) (h : List Command) : Type 0 where
@@ -46,7 +45,7 @@ begun p =
 
 -- what a number is defined as behind one more definition
 defined_then : (p : Place) (n d m : ℕ) (h : List Command) → 10 ≤ n → n ≤ 70_000 → IsPen d → Stands p h → defined_before (defines (circle_text n d) ∷ h) m ≡ option_or (cond (eqb n m) (Some (standard (Circle (pos d)))) None) (defined_before h m)
-defined_then p n d m h low high small s = rw s.unit (ap (λ (r : Result (ℕ × Aperture) ApertureFault). option_or (as_number m (tool_by (or_real r (any_holed_at (circle_text n d) Mm) (fine_at (circle_text n d) Mm)) (composed_in (circle_text n d) Mm))) (defined_before h m)) (defines_circle n d low high small.0 small.1))
+defined_then p n d m h low high small s = rw s.unit (ap (λ (r : Result (ℕ × Aperture) ApertureFault). option_or (as_number m (tool_by r (composed_in (circle_text n d) Mm))) (defined_before h m)) (defines_circle n d low high small.0 small.1))
 
 other : (n m : ℕ) → (n ≡ m → ⊥) → eqb n m ≡ false
 other n m f = by (eqb n m) refl

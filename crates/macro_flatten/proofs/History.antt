@@ -6,18 +6,19 @@ use Rattle.planar.specs.declared.Spot.{Spot}
 use Rattle.lengths.specs.declared.decimal.Unit.TheVariants.{Mm}
 use Rattle.board_shapes.specs.Figures.{Figure}
 use Rattle.board_shapes.specs.Pieces.{PlainPiece}
-use Rattle.gerber_layer.specs.Command.{Command}
-use Rattle.gerber_layer.specs.declared.command.Code.{Code}
+use Rattle.gerber_reading.specs.Command.{Command}
+use Rattle.gerber_reading.specs.declared.command.Code.{Code}
 use Rattle.gerber_layer.specs.WordCommands.{plain, command_of}
 use Rattle.gerber_layer.specs.CommandEffects.{Effect, effect}
-use Rattle.gerber_layer.specs.declared.place.Place.{Place}
-use Rattle.gerber_layer.specs.Settings.{format_before, unit_before, block_open, has_ended, point_before, x_before, y_before}
-use Rattle.gerber_layer.specs.declared.kind.GerberKind.{GerberKind}
-use Rattle.gerber_layer.specs.Image.{image_by, image_of, with_effect, known_before, effect_before, pieces_of, pieces_after, made}
+use Rattle.gerber_reading.specs.declared.place.Place.{Place}
+use Rattle.gerber_reading.specs.Settings.{format_before, unit_before, block_open, has_ended, point_before, x_before, y_before}
+use Rattle.gerber_reading.specs.declared.kind.GerberKind.{GerberKind}
+use Rattle.gerber_layer.specs.Image.{image_of, with_effect, known_before, effect_before, pieces_of, pieces_after, made}
 use Rattle.file_reading.specs.Reading.{Clean}
 use Rattle.macro_flatten.specs.FlatText.{Line, word, extended}
 use Rattle.macro_flatten.proofs.Operations.{seven, coordinate_is}
 use Rattle.macro_flatten.proofs.Effects.{IsSet, at_spot}
+use Rattle.gerber_reading.specs.Image.{image_by}
 
 -- the command that a line is read as
 abbrev pub told : Line → Command

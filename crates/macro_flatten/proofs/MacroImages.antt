@@ -9,14 +9,14 @@ use Rattle.board_shapes.specs.Pieces.{PlainPiece}
 use Rattle.file_reading.specs.Reading.{Clean, said}
 use Rattle.gerber_words.specs.Items.{stop_item, word_item}
 use Rattle.gerber_words.specs.Words.{Stop, ended, broken}
-use Rattle.gerber_layer.specs.Command.{Command, ends}
-use Rattle.gerber_layer.specs.declared.kind.GerberKind.TheVariants as kind
+use Rattle.gerber_reading.specs.Command.{Command, ends}
+use Rattle.gerber_reading.specs.declared.kind.GerberKind.TheVariants as kind
 use Rattle.gerber_layer.specs.declared.macro_kind.FlattenKind.{FlattenKind}
 use Rattle.gerber_layer.specs.declared.macro_kind.FlattenKind.TheVariants.{Gerber}
 use Rattle.gerber_layer.specs.Radii.{radii_after, radii_of, with_radius, with_radius_of}
 use Rattle.gerber_layer.specs.CommandEffects.{Known, Effect, stays, ◌>>=◌, is_finish, kind_of_word, row}
-use Rattle.gerber_layer.specs.Settings.{has_ended}
-use Rattle.gerber_layer.specs.Image.{effect_by, known_by, pieces_after, pieces_by}
+use Rattle.gerber_reading.specs.Settings.{has_ended}
+use Rattle.gerber_layer.specs.Image.{pieces_after}
 use Rattle.gerber_layer.specs.Layer.{stop_command}
 use Rattle.gerber_layer.specs.MacroLayer.{flat_place}
 use Rattle.gerber_layer.specs.MacroCommands.{command_with_macros}
@@ -27,7 +27,8 @@ use Rattle.macro_flatten.specs.FlatText.{figures_in, pens_after, pens_of, with_p
 use Rattle.macro_flatten.specs.Laws.{IsFlat, MacroImagesAreFlat}
 use Rattle.macro_flatten.proofs.Images.{image_flat, then_pieces}
 use Rattle.macro_flatten.proofs.Rows.{HasFewRadii, macro_rows, shared_by_macros}
-use Rattle.gerber_layer.specs.declared.TheConstants.{MOST_APERTURES}
+use Rattle.gerber_reading.specs.declared.TheConstants.{MOST_APERTURES}
+use Rattle.macro_flatten.proofs.Exact.{effect_by, known_by, pieces_by}
 
 -- ---- A pen is twice a radius
 

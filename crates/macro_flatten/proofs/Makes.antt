@@ -1,5 +1,5 @@
 -- What the commands of a copper file make: figures that can be drawn, within the room.
-use Rattle.std.proofs.Common.{unsigned_abs, ◌≡◌, ℕ, zero, suc, ◌+◌, ◌<◌, ◌≤◌, Bool, true, false, not, cond, eqb, nat_le, nat_lt, min, List, [], ◌∷◌, ◌++◌, length, take, drop, ℤ, Option, Some, None, Result, Ok, Err, refl, sym, ap, ◌∙◌, subst, arith, length-append}
+use Rattle.std.proofs.Common.{unsigned_abs, ◌≡◌, ℕ, zero, suc, ◌+◌, ◌-◌, ◌<◌, ◌≤◌, Bool, true, false, not, cond, eqb, nat_le, nat_lt, min, List, [], ◌∷◌, ◌++◌, length, take, drop, ℤ, Option, Some, None, Result, Ok, Err, refl, sym, ap, ◌∙◌, subst, arith, length-append}
 use Rattle.std.proofs.lemmas.Bool.{eqb-true, leb-false, ltb-false}
 use Rattle.std.proofs.lemmas.List.{length-map, length-take}
 use Rattle.std.proofs.lemmas.List.Sums.{sum_by-cons, sum_by-append, sum_by-take-le}
@@ -25,10 +25,10 @@ use Rattle.aperture_macros.specs.declared.fault.MacroFault.{MacroFault}
 use Rattle.regions.specs.Contours.{Flaw, stays_open, too_short, close_of}
 use Rattle.step_repeat.specs.Copies.{Refusal, copies_at}
 use Rattle.step_repeat.specs.declared.repeat.Repeat.{Repeat}
-use Rattle.gerber_layer.specs.declared.kind.GerberKind.{GerberKind}
-use Rattle.gerber_layer.specs.declared.kind.GerberKind.TheVariants as kind
-use Rattle.gerber_layer.specs.CommandEffects.{Known, Effect, performs, ◌>>=◌, needed, selected, lookup, room_for, edges_for, edges_of, edges_in, exceed, draw, figures_of, macro_figures, all_flashed, lacks_room, room_or, room_for_all, flash, flash_by, flash_with, flashed, closing, closed, area_if, ended_block, with_copies, as_copies, left, listed}
-use Rattle.gerber_layer.specs.declared.place.Place.{Place}
+use Rattle.gerber_reading.specs.declared.kind.GerberKind.{GerberKind}
+use Rattle.gerber_reading.specs.declared.kind.GerberKind.TheVariants as kind
+use Rattle.gerber_layer.specs.CommandEffects.{Known, Effect, performs, ◌>>=◌, needed, selected, lookup, edges_of, edges_in, exceed, draw, figures_of, macro_figures, all_flashed, room_or, room_for_all, flash, flash_by, flash_with, flashed, closing, closed, contour_closed, area_if, with_copies, as_copies, left, listed}
+use Rattle.gerber_reading.specs.declared.place.Place.{Place}
 use Rattle.gerber_layer.specs.Tools.{Tool, standard, composed, macro_named, pen_with}
 use Rattle.gerber_layer.specs.Image.{made, piece_of}
 use Rattle.gerber_layer.proofs.MacroFlash.{edges_made as edges_of_made}
@@ -39,18 +39,23 @@ use Rattle.macro_flatten.proofs.Drawn.{pen_drawn, flash_drawn, contour_drawn}
 use Rattle.macro_flatten.proofs.Copies.{Drawn, all-append, are_copies}
 use Rattle.macro_flatten.proofs.Primitives.{primitive_drawn}
 use Rattle.area_contact.specs.declared.TheConstants.{MOST_CONTOUR_POINTS}
+use Rattle.gerber_reading.specs.CommandEffects.{ended_block_by, room_for}
+use Rattle.gerber_reading.specs.CommandEffects as reading
+use Rattle.gerber_layer.specs.CommandEffects.{edges_for, ended_block}
+use Rattle.gerber_reading.specs.Settings.{spots_of}
+use Rattle.regions.specs.Contours.{Leg, Outline}
 
 -- what earlier commands have set is lawful
 pub record Sound (k : Known) : Type 0 where
   pub placed : IsPlaced k.settings.at
-  pub contour : AllByRecursion IsPlaced k.contour
-  pub outside : k.settings.region ≡ false → k.contour ≡ []
+  pub contour : AllByRecursion IsPlaced (spots_of k.contour)
+  pub outside : k.settings.region ≡ false → k.contour ≡ None
   pub apertures : (n : ℕ) (a : Tool) → k.defined n ≡ Some a → IsLawfulTool a
   pub macros : HaveSizes k.macros
 
 -- the pieces can be drawn, and they and the contour are within the room
 pub record Within (k : Known) : Type 0 where
-  pub short : length k.contour ≤ MOST_CONTOUR_POINTS
+  pub short : length (spots_of k.contour) ≤ MOST_CONTOUR_POINTS
   pub drawn : Drawn k.pieces
   pub few : length k.pieces ≤ k.place.room.pieces
   pub edges : edges_of k.pieces + edges_in k.contour ≤ k.place.room.edges
@@ -126,7 +131,7 @@ room_made k (Some f) r h = by (nat_le k.place.room.pieces (length k.pieces)) ref
     by false e h = let s : Some f ≡ r = cc in (sym s, subst (HasRoom k) s (leb-false _ _ e))
 
 edges_made : (k : Known) (o r : Option Figure) → edges_for k o ≡ Ok r → (r ≡ o) × HasEdges k r
-unfolding edges_for HasEdges
+unfolding reading.edges_for HasEdges
 edges_made k None None h = (refl, tt)
 edges_made k None (Some g) h = cc
 edges_made k (Some f) r h = by (exceed k (figure_edges f)) refl h
@@ -239,7 +244,7 @@ all_flashed_ok (Ok all) figures h = let s : all ≡ figures = cc in ap Ok s
 all_flashed_ok (Err fault) figures h = cc
 
 room_fits : (k : Known) (all figures : List Figure) → Within k → AllByRecursion IsDrawn all → room_for_all k all ≡ Ok figures → Fits k figures
-unfolding lacks_room
+unfolding reading.lacks_room
 room_fits k [] figures w drawn h = let same : [] ≡ figures = cc in subst (Fits k) same (none_fits k w)
 room_fits k (f ∷ all) figures w drawn h = by (eqb (length (f ∷ all)) 0) (nat_lt k.place.room.pieces (length k.pieces + length (f ∷ all))) (exceed k (sum_by figure_edges (f ∷ all))) refl refl refl h
   where
@@ -286,21 +291,32 @@ close_points (a ∷ b ∷ rest) points e = by (not (same_spot (end_from b rest) 
     by false true e = cc
     by false false e = let same : a ∷ b ∷ rest ≡ points = cc in sym same
 
-closing_fits : (k : Known) (o : Option (List Spot)) (f : Option Figure) → Sound k → Within k → close_of k.contour ≡ Ok o → f ≡ area_if o → HasRoom k f → FitsOne k f
+-- a contour closes as its points do, and has an edge less than points
+closed_is : (contour : Option (Outline (Unit {0}))) → contour_closed contour ≡ close_of (spots_of contour)
+unfolding close_of
+closed_is None = refl
+closed_is (Some o) = refl
+
+spots_long : (contour : Option (Outline (Unit {0}))) → edges_in contour ≡ length (spots_of contour) - 1
+spots_long None = refl
+spots_long (Some o) = let long = length-map o.legs (λ (l : Leg (Unit {0})). l.to) in omega (arith, long)
+
+closing_fits : (k : Known) (o : Option (List Spot)) (f : Option Figure) → Sound k → Within k → close_of (spots_of k.contour) ≡ Ok o → f ≡ area_if o → HasRoom k f → FitsOne k f
 unfolding HasRoom FitsOne
 closing_fits k None f s w h e room = subst (FitsOne k) (sym e) tt
 closing_fits k (Some points) f s w h e room =
-    let same : points ≡ k.contour = close_points k.contour points h in
+    let same : points ≡ spots_of k.contour = close_points (spots_of k.contour) points h in
     let edges = w.edges in
     let long = ap length same in
-    subst (FitsOne k) (sym e) (contour_drawn k.contour points s.contour w.short h, subst (HasRoom k) e room, omega (arith, edges, long))
+    let count = spots_long k.contour in
+    subst (FitsOne k) (sym e) (contour_drawn (spots_of k.contour) points s.contour w.short h, subst (HasRoom k) e room, omega (arith, edges, long, count))
 
 pub closing_made : (k : Known) (f : Option Figure) → Sound k → Within k → closing k ≡ Ok f → Fits k (listed f)
 unfolding closing
 closing_made k f s w h =
-    let c = bind_ok (closed (close_of k.contour)) (λ points. room_for k (area_if points)) f h in
+    let c = bind_ok (closed (contour_closed k.contour)) (λ points. room_for k (area_if points)) f h in
     let m = room_made k (area_if c.0) f c.2 in
-    listed_fits k f w (closing_fits k c.0 f s w (closed_ok (close_of k.contour) c.0 c.1) m.0 m.1)
+    listed_fits k f w (closing_fits k c.0 f s w (sym (closed_is k.contour) ∙ closed_ok (contour_closed k.contour) c.0 c.1) m.0 m.1)
 
 -- ---- Blocks
 
@@ -315,7 +331,7 @@ all-drop (suc n) [] h = tt
 all-drop (suc n) (x ∷ xs) h = all-drop n xs h.1
 
 pub block_made : (k : Known) (pieces : List PlainPiece) → Within k → ended_block k ≡ Ok pieces → Fit k.place pieces
-unfolding ended_block
+unfolding ended_block_by
 block_made k pieces l h = by k.settings.block h
   where
     copied : (block : Repeat) (r : Result (List PlainPiece) Refusal) → copies_at block (left k) (drop k.start k.pieces) ≡ r → as_copies (take k.start k.pieces) r ≡ Ok pieces → Fit k.place pieces

@@ -2,19 +2,21 @@
 use Rattle.std.proofs.Common.{◌≡◌, ◌≤◌, Bool, true, false, cond, length, Ok, Err, refl, sym, ap, ◌∙◌, subst}
 use Rattle.std.proofs.lemmas.Bool.{ltb-false}
 use Rattle.std.specs.Prelude.{nat_lt}
-use Rattle.gerber_layer.specs.Command.{Command, repeats, opens_region, closes_region, operates, ends}
-use Rattle.gerber_layer.specs.declared.kind.GerberKind.TheVariants as kind
+use Rattle.gerber_reading.specs.Command.{Command, repeats, opens_region, closes_region, operates, ends}
+use Rattle.gerber_reading.specs.declared.kind.GerberKind.TheVariants as kind
 use Rattle.gerber_layer.specs.declared.macro_kind.FlattenKind.TheVariants.{Gerber, TooManyRadii}
 use Rattle.gerber_layer.specs.Radii.{radii_of}
-use Rattle.gerber_layer.specs.CommandEffects.{Known, Effect, Profile, ◌>>=◌, concludes, row, effect}
+use Rattle.gerber_layer.specs.CommandEffects.{Known, Effect, ◌>>=◌, concludes, row, effect}
 use Rattle.gerber_layer.specs.MacroTable.{effect_with_macros, few_radii, gerber, macro_row, row_with_macros}
 use Rattle.gerber_layer.proofs.Outcome.{Outcome, bind_ok, outcome, past_test}
 use Rattle.gerber_layer.proofs.MacroOutcome.{outcome_with_macros, gerber_ok}
-use Rattle.gerber_layer.specs.declared.TheConstants.{MOST_APERTURES}
+use Rattle.gerber_reading.specs.declared.TheConstants.{MOST_APERTURES}
+use Rattle.macro_flatten.proofs.Exact.{Table}
+use Rattle.gerber_layer.specs.CommandEffects.{exact_meaning}
 
 -- the commands that make pieces or change the contour: both tables have one row for each
 abbrev pub IsShared : Command → Type 0
-IsShared (operates x y code) = Unit {0}
+IsShared (operates x y code b) = Unit {0}
 IsShared opens_region = Unit {0}
 IsShared closes_region = Unit {0}
 IsShared (repeats text) = Unit {0}
@@ -22,15 +24,15 @@ IsShared ends = Unit {0}
 IsShared other = ⊥
 
 -- what the proofs want of a table
-pub record HasRows {W : Type 0} (f : Profile W) : Type 0 where
-  pub says : (k : Known) (c : Command) (e : Effect) → f k c ≡ Ok e → Outcome k c e
+pub record HasRows {W : Type 0} (f : Table W) : Type 0 where
+  pub says : (k : Known) (c : Command) (e : Effect) → f k c ≡ Ok e → Outcome exact_meaning k c e
   pub shares : (k : Known) (c : Command) (e : Effect) → IsShared c → f k c ≡ Ok e → row k c ≡ Ok e
 
 -- ---- The standard apertures
 
 shared : (k : Known) (c : Command) (e : Effect) → IsShared c → effect k c ≡ Ok e → row k c ≡ Ok e
 unfolding effect
-shared k (operates x y code) e s h = past_test k.settings.ended kind.AfterEnd (row k (operates x y code)) e h
+shared k (operates x y code b) e s h = past_test k.settings.ended kind.AfterEnd (row k (operates x y code b)) e h
 shared k opens_region e s h = past_test k.settings.ended kind.AfterEnd (row k opens_region) e h
 shared k closes_region e s h = past_test k.settings.ended kind.AfterEnd (row k closes_region) e h
 shared k (repeats text) e s h = past_test k.settings.ended kind.AfterEnd (row k (repeats text)) e h
@@ -67,7 +69,7 @@ both k c e is h = let r = counted_row k c e h in (gerber_ok (row k c) e (sym is 
 -- the row that both have, and few radii
 pub shared_by_macros : (k : Known) (c : Command) (e : Effect) → IsShared c → effect_with_macros k c ≡ Ok e → (row k c ≡ Ok e) × HasFewRadii e
 unfolding effect_with_macros row_with_macros macro_row
-shared_by_macros k (operates x y code) e s h = both k (operates x y code) e refl (past_test k.settings.ended (Gerber kind.AfterEnd) (gerber (row k (operates x y code)) >>= few_radii) e h)
+shared_by_macros k (operates x y code b) e s h = both k (operates x y code b) e refl (past_test k.settings.ended (Gerber kind.AfterEnd) (gerber (row k (operates x y code b)) >>= few_radii) e h)
 shared_by_macros k opens_region e s h = both k opens_region e refl (past_test k.settings.ended (Gerber kind.AfterEnd) (gerber (row k opens_region) >>= few_radii) e h)
 shared_by_macros k closes_region e s h = both k closes_region e refl (past_test k.settings.ended (Gerber kind.AfterEnd) (gerber (row k closes_region) >>= few_radii) e h)
 shared_by_macros k (repeats text) e s h = both k (repeats text) e refl (past_test k.settings.ended (Gerber kind.AfterEnd) (gerber (row k (repeats text)) >>= few_radii) e h)

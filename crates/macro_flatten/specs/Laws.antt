@@ -7,14 +7,15 @@ use Rattle.area_contact.specs.Contour.{IsContour}
 use Rattle.board_shapes.specs.Figures.{Figure, round, filled, figure_edges}
 use Rattle.board_shapes.specs.Pieces.{PlainPiece}
 use Rattle.board_shapes.specs.declared.placed.Room.{Room}
-use Rattle.gerber_layer.specs.declared.kind.GerberKind.{GerberKind}
+use Rattle.gerber_reading.specs.declared.kind.GerberKind.{GerberKind}
 use Rattle.gerber_layer.specs.declared.macro_kind.FlattenKind.{FlattenKind}
-use Rattle.gerber_layer.specs.declared.place.Place.{Place}
+use Rattle.gerber_reading.specs.declared.place.Place.{Place}
 use Rattle.gerber_layer.specs.Layer.{IsRead, IsRefused}
 use Rattle.gerber_layer.specs.MacroLayer.{IsReadWithMacros, IsRefusedWithMacros}
 use Rattle.macro_flatten.specs.FlatText.{figures_in, flat_text_of, pens_of}
 use Rattle.board_shapes.specs.declared.TheConstants.{MOST_LAYERS, MOST_PIECES}
-use Rattle.gerber_layer.specs.declared.TheConstants.{MOST_APERTURES, MOST_FLAT_EDGES}
+use Rattle.gerber_reading.specs.declared.TheConstants.{MOST_APERTURES}
+use Rattle.gerber_layer.specs.declared.TheConstants.{MOST_FLAT_EDGES}
 use Rattle.texts.specs.declared.TheConstants.{MOST_BYTES}
 
 -- ends within one metre, and a radius over 0 and of at most 25 mm; or the points of a contour

@@ -20,16 +20,19 @@ use Rattle.board_shapes.specs.Figures.{Figure, figure_edges}
 use Rattle.board_shapes.specs.Pieces.{PlainPiece}
 use Rattle.board_shapes.specs.Rectangles.{halved}
 use Rattle.file_reading.specs.Reading.{Clean, Item, said}
-use Rattle.gerber_layer.specs.Command.{Command, formats, counts_in, defines, selects, operates, ends, finishes}
-use Rattle.gerber_layer.specs.CommandEffects.{Known, stays, performs, concludes, coordinate, define, draw, edges_for, edges_of, effect, ended_block, exceed, flash, flash_by, flash_with, operate, perform, room_for, row as row_of, selected, target}
-use Rattle.gerber_layer.specs.declared.place.Place.{Place}
-use Rattle.gerber_layer.specs.Image.{effect_before, image_by, known_before, made, pieces_of}
-use Rattle.gerber_layer.specs.Settings.{block_open, defined_before, format_before, has_ended, point_before, region_open, unit_before, x_before, y_before}
+use Rattle.gerber_reading.specs.Command.{no_bending, Command, formats, counts_in, defines, selects, operates, ends, finishes}
+use Rattle.gerber_layer.specs.CommandEffects.{Known, stays, performs, concludes, define, draw, edges_of, effect, exceed, flash, flash_by, flash_with, operate, perform, row as row_of, selected}
+use Rattle.gerber_reading.specs.declared.place.Place.{Place}
+use Rattle.gerber_reading.specs.CommandEffects.{coordinate, edges_for, ended_block_by, room_for, target}
+use Rattle.gerber_reading.specs.Image.{image_by}
+use Rattle.macro_flatten.proofs.Exact.{defined_before}
+use Rattle.gerber_layer.specs.Image.{effect_before, known_before, made, pieces_of}
+use Rattle.gerber_reading.specs.Settings.{block_open, format_before, has_ended, point_before, region_open, unit_before, x_before, y_before}
 use Rattle.gerber_layer.specs.Tools.{Tool, standard}
 use Rattle.gerber_layer.specs.WordCommands.{code_in, coded, command_of, extended as extended_row, format_of, format_word, from_i, is_number, is_numeric, operation_of, plain}
-use Rattle.gerber_layer.specs.declared.command.Code.{Code}
-use Rattle.gerber_layer.specs.declared.command.Code.TheVariants.{Draw, Move, Flash}
-use Rattle.gerber_layer.specs.declared.command.Format.{Format}
+use Rattle.gerber_reading.specs.declared.command.Code.{Code}
+use Rattle.gerber_reading.specs.declared.command.Code.TheVariants.{Draw, Move, Flash}
+use Rattle.gerber_reading.specs.declared.command.Format.{Format}
 use Rattle.gerber_words.specs.Attributes.{attribute_kind}
 use Rattle.lengths.proofs.GridLemmas.{Positions-is}
 use Rattle.lengths.specs.Decimal.{over_power, unsigned}
@@ -85,20 +88,20 @@ coordinate_is n low =
 abbrev operation_text : ℕ → ℕ → List ℕ → List ℕ
 operation_text x y code = 88 ∷ (decimal x ++ 89 ∷ (decimal y ++ code))
 
-draw_of : (x y : List ℕ) → is_number x ≡ true → is_number y ≡ true → from_i (Some x) (Some y) (codes "D01") ≡ operates (Some x) (Some y) (Some Draw)
+draw_of : (x y : List ℕ) → is_number x ≡ true → is_number y ≡ true → from_i (Some x) (Some y) (codes "D01") ≡ operates (Some x) (Some y) (Some Draw) no_bending
 unfolding from_i operation_of code_in
 draw_of x y h k = rw (h, k) refl
 
-move_of : (x y : List ℕ) → is_number x ≡ true → is_number y ≡ true → from_i (Some x) (Some y) (codes "D02") ≡ operates (Some x) (Some y) (Some Move)
+move_of : (x y : List ℕ) → is_number x ≡ true → is_number y ≡ true → from_i (Some x) (Some y) (codes "D02") ≡ operates (Some x) (Some y) (Some Move) no_bending
 unfolding from_i operation_of code_in
 move_of x y h k = rw (h, k) refl
 
-flash_code : (x y : List ℕ) → is_number x ≡ true → is_number y ≡ true → from_i (Some x) (Some y) (codes "D03") ≡ operates (Some x) (Some y) (Some Flash)
+flash_code : (x y : List ℕ) → is_number x ≡ true → is_number y ≡ true → from_i (Some x) (Some y) (codes "D03") ≡ operates (Some x) (Some y) (Some Flash) no_bending
 unfolding from_i operation_of code_in
 flash_code x y h k = rw (h, k) refl
 
 abbrev at_place : ℕ → ℕ → Code → Command
-at_place x y code = operates (Some (decimal x)) (Some (decimal y)) (Some code)
+at_place x y code = operates (Some (decimal x)) (Some (decimal y)) (Some code) no_bending
 
 reads_draw : (x y : ℕ) → IsCoordinate x → IsCoordinate y → plain (operation_text x y (codes "D01")) ≡ at_place x y Draw
 reads_draw x y h k = plain_operation (decimal x ++ 89 ∷ (decimal y ++ codes "D01")) ∙ (two_numbers (decimal x) (decimal y) (48 ∷ 49 ∷ []) h.numeric k.numeric ∙ draw_of (decimal x) (decimal y) h.number k.number)
@@ -176,7 +179,7 @@ unfolding effect row_of
 selects_one k n a s d = rw (s.ended, d) refl
 
 ends_all : (k : Known) → IsSet k → effect k ends ≡ Ok (concludes k.pieces)
-unfolding effect row_of ended_block
+unfolding effect row_of ended_block_by
 ends_all k s = rw (s.ended, s.outside, s.block) refl
 
 -- corners of the square pad lie within 1 m

@@ -8,7 +8,7 @@ use Rattle.board_shapes.specs.Figures.{Figure, filled, round}
 use Rattle.board_shapes.specs.Pieces.{PlainPiece}
 use Rattle.board_shapes.specs.Rectangles.{lower, rectangle, upper}
 use Rattle.board_shapes.specs.declared.probe.Probe.{Probe}
-use Rattle.gerber_layer.specs.declared.place.Place.{Place as LayerPlace}
+use Rattle.gerber_reading.specs.declared.place.Place.{Place as LayerPlace}
 use Rattle.gerber_layer.specs.Layer as layer_file
 use Rattle.ipc356_records.specs.NetlistFile as netlist_file
 use Rattle.planar.specs.declared.Spot.{Spot}

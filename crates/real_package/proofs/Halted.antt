@@ -1,10 +1,11 @@
 -- A refusal of a reader is why the file of an entry is not read.
 use Rattle.std.proofs.Common.{◌≡◌, ◌⊎◌, inl, inr, ℕ, List, refl, sym, subst}
-use Rattle.arc_layer.specs.Real.{IsRealCopper, IsRealFault, IsRealRefused, PlainReal}
+use Rattle.real_copper.specs.Shapes.{PlainReal}
+use Rattle.real_copper.specs.Table.{IsRealCopper, IsRealFault, IsRealRefused}
 use Rattle.file_reading.specs.declared.fault.FileFault.{FileFault}
 use Rattle.file_reading.specs.declared.fault.FileFault.TheVariants as real_fault
-use Rattle.arc_layer.specs.declared.kind.RealKind.{RealKind}
-use Rattle.arc_layer.specs.declared.kind.RealKind.TheVariants as kinds
+use Rattle.real_copper.specs.declared.kind.RealKind.{RealKind}
+use Rattle.real_copper.specs.declared.kind.RealKind.TheVariants as kinds
 use Rattle.gerber_layer.specs.declared.macro_kind.FlattenKind.TheVariants as flatten
 use Rattle.board_shapes.specs.declared.placed.Room.{Room}
 use Rattle.ipc356_records.specs.NetlistFile as netlist_file

@@ -2,7 +2,7 @@
 use Rattle.std.proofs.Common.{◌≡◌, ℕ, List, All, sym, subst}
 use Rattle.std.proofs.lemmas.List.{length-map, get_or-map}
 use Rattle.std.proofs.lemmas.List.Elements.{All-map}
-use Rattle.arc_layer.specs.Real.{PlainReal, plain_real, plain_reals}
+use Rattle.real_copper.specs.Shapes.{PlainReal, plain_real, plain_reals}
 use Rattle.real_shapes.specs.declared.RealShape.{RealShape}
 use Rattle.board_shapes.specs.Lawful.{IsSpan}
 use Rattle.board_shapes.specs.Pieces.{plain_piece, plain_pieces}

@@ -1,11 +1,11 @@
 -- A package has one real outcome.
 use Rattle.std.proofs.Common.{◌≡◌, inl, inr, ℕ, List, refl, sym, ap, subst, ◌∙◌}
-use Rattle.arc_layer.specs.Real.{HasOneRealAnswer}
-use Rattle.arc_layer.specs.declared.kind.RealKind.{RealKind}
-use Rattle.arc_layer.specs.Kinds.{gerber}
+use Rattle.real_copper.specs.Table.{HasOneRealAnswer}
+use Rattle.real_copper.specs.declared.kind.RealKind.{RealKind}
+use Rattle.real_copper.specs.Kinds.{gerber}
 use Rattle.board_io.specs.Package.{Files}
 use Rattle.board_shapes.specs.Pieces.{PlainPiece}
-use Rattle.gerber_layer.specs.declared.place.Place.{Place as LayerPlace}
+use Rattle.gerber_reading.specs.declared.place.Place.{Place as LayerPlace}
 use Rattle.ipc356_records.specs.NetlistFile as netlist_file
 use Rattle.ipc356_records.specs.NetlistFile.{Netlist}
 use Rattle.xnc.specs.DrillFile as drill_file

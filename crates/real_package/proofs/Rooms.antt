@@ -1,7 +1,7 @@
 -- The pieces of a file have the room that is left.
 use Rattle.std.proofs.Common.{◌≡◌, ℕ, ◌+◌, ◌≤◌, List, length, ap, sym, ◌∙◌, arith}
 use Rattle.std.proofs.lemmas.List.{length-map}
-use Rattle.arc_layer.specs.Real.{plain_real, plain_reals}
+use Rattle.real_copper.specs.Shapes.{plain_real, plain_reals}
 use Rattle.board_shapes.specs.Pieces.{plain_piece, plain_pieces}
 use Rattle.board_shapes.specs.declared.TheConstants.{MOST_PIECES}
 use Rattle.board_shapes.specs.declared.placed.Placed.{Placed}

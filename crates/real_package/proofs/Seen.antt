@@ -1,6 +1,6 @@
 -- What the parts of a real board are, seen as plain data.
 use Rattle.std.proofs.Common.{◌≡◌, ℕ, List, [], ◌++◌}
-use Rattle.arc_layer.specs.Real.{PlainReal, plain_real, plain_reals}
+use Rattle.real_copper.specs.Shapes.{PlainReal, plain_real, plain_reals}
 use Rattle.real_shapes.specs.declared.RealShape.{RealShape}
 use Rattle.board_package.proofs.Seen.{seen}
 use Rattle.board_package.specs.Parts.{Has}

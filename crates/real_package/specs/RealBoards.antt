@@ -1,8 +1,8 @@
 -- Boards of real copper as plain data, and what such a board keeps.
 use Rattle.std.specs.Prelude.{◌≡◌, ℕ, ◌-◌, ◌^◌, nat_lt, if◌then◌else◌, List, [], ◌++◌, map, sum_by, length}
-use Rattle.arc_layer.specs.Real.{PlainReal, RealFigure, plain, bent, slanted, curved, turned, turned_disc, regular, fine, holed, plain_reals}
+use Rattle.real_copper.specs.Figures.{exact, real_edges}
+use Rattle.real_copper.specs.Shapes.{PlainReal, plain_reals}
 use Rattle.real_shapes.specs.declared.RealShape.{RealShape}
-use Rattle.board_shapes.specs.Figures.{figure_edges}
 use Rattle.board_shapes.specs.Pieces.{PlainPiece}
 use Rattle.board_shapes.specs.Plain.{PlainBoard}
 use Rattle.board_shapes.specs.declared.placed.Room.{Room}
@@ -35,7 +35,7 @@ with_points b probes names = record { pieces = b.pieces; probes = probes; names 
 
 -- a piece that is a figure, and each of a list
 abbrev pub as_real : PlainPiece → PlainReal
-as_real p = record { figure = plain p.figure; top = p.top; bottom = p.bottom; origin = p.origin }
+as_real p = record { figure = exact p.figure; top = p.top; bottom = p.bottom; origin = p.origin }
 
 abbrev pub as_reals : List PlainPiece → List PlainReal
 as_reals pieces = map as_real pieces
@@ -46,21 +46,8 @@ as_reals pieces = map as_real pieces
 abbrev pub counted : ℕ → ℕ
 counted n = if nat_lt n (2 ^ 32) then n else 2 ^ 32 - 1
 
--- Arc draws, slanted lines, turned discs, fine figures and those with a round hole have no edges, as strokes have none. A region has as many
--- as parts, a turned figure those of its contour, a regular polygon as many as corners.
-abbrev pub real_edges : RealFigure → ℕ
-real_edges (plain figure) = figure_edges figure
-real_edges (bent arc) = 0
-real_edges (slanted line) = 0
-real_edges (curved start parts) = counted (length parts)
-real_edges (turned contour about rest) = counted (length contour - 1)
-real_edges (turned_disc disc) = 0
-real_edges (regular g) = g.polygon.corners
-real_edges (fine f) = 0
-real_edges (holed h) = 0
-
 abbrev pub edges_in : List PlainReal → ℕ
-edges_in pieces = sum_by (λ (p : PlainReal). real_edges p.figure) pieces
+edges_in pieces = sum_by (λ (p : PlainReal). counted (real_edges p.figure)) pieces
 
 -- the pieces and edges that may still come behind these
 abbrev pub room_left : List PlainReal → Room

@@ -1,7 +1,7 @@
 -- Why a package gives no real board.
 use Rattle.std.specs.Prelude.{◌≡◌, ◌⊎◌, ℕ, List}
-use Rattle.arc_layer.specs.declared.kind.RealKind.{RealKind}
-use Rattle.arc_layer.specs.declared.kind.RealKind.TheVariants.{Copper}
+use Rattle.real_copper.specs.declared.kind.RealKind.{RealKind}
+use Rattle.real_copper.specs.declared.kind.RealKind.TheVariants.{Copper}
 use Rattle.gerber_layer.specs.declared.macro_kind.FlattenKind.TheVariants.{Gerber}
 use Rattle.file_reading.specs.declared.fault.FileFault.{FileFault}
 use Rattle.file_reading.specs.declared.fault.FileFault.TheVariants as copper

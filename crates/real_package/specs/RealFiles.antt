@@ -1,9 +1,10 @@
 -- What each file of a package is read as where copper is real, and why it is refused.
 use Rattle.std.specs.Prelude.{◌≡◌, ⊤, ℕ, List}
-use Rattle.arc_layer.specs.Real.{IsRealCopper, IsRealRefused, PlainReal}
-use Rattle.arc_layer.specs.declared.kind.RealKind.{RealKind}
-use Rattle.arc_layer.specs.Kinds.{gerber}
-use Rattle.arc_layer.specs.declared.kind.RealKind.TheVariants.{Copper}
+use Rattle.real_copper.specs.Shapes.{PlainReal}
+use Rattle.real_copper.specs.Table.{IsRealCopper, IsRealRefused}
+use Rattle.real_copper.specs.declared.kind.RealKind.{RealKind}
+use Rattle.real_copper.specs.Kinds.{gerber}
+use Rattle.real_copper.specs.declared.kind.RealKind.TheVariants.{Copper}
 use Rattle.gerber_layer.specs.declared.macro_kind.FlattenKind.TheVariants.{Gerber}
 use Rattle.board_shapes.specs.Pieces.{PlainPiece}
 use Rattle.board_shapes.specs.declared.probe.Probe.{Probe}

@@ -1,7 +1,7 @@
 -- The real board of a package, and its first stop. Each definition is the one of board_package's PackageBoard that it is named after, where draws may be arcs and
 -- no frame is judged.
 use Rattle.std.specs.Prelude.{◌≡◌, ◌⊎◌, ℕ, List}
-use Rattle.arc_layer.specs.declared.kind.RealKind.{RealKind}
+use Rattle.real_copper.specs.declared.kind.RealKind.{RealKind}
 use Rattle.board_io.specs.Package.{Files}
 use Rattle.board_package.specs.PackageBoard.{AtOneBy, BehindManifest, ComesAlong, IsHeldWith, Stop, StopsAtManifest, StopsTaking, WalksBy, order_of, refused}
 use Rattle.board_package.specs.declared.entry.Entry.{Entry}

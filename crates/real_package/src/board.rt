@@ -1,14 +1,15 @@
 //! A board whose pieces may be other copper than figures, as arc draws.
-ghost use Rattle.arc_layer.specs.Real.{plain_reals, real_figure};
+ghost use Rattle.real_copper.specs.Shapes.{plain_reals};
 ghost use Rattle.board_shapes.specs.Pieces.{plain_pieces};
 ghost use Rattle.board_shapes.specs.Plain.{plain_board};
 ghost use Rattle.real_package.specs.RealBoards as spec;
-ghost use Rattle.real_package.specs.RealBoards.{HasNetlistOf, as_reals, plain_real_board, real_edges};
+ghost use Rattle.real_package.specs.RealBoards.{HasNetlistOf, as_reals, plain_real_board};
 ghost use Rattle.std.specs.Prelude.{◌≡◌, ◌<◌, ◌≤◌, ◌^◌, ◌↔◌, length, IfOk, IsTrue};
 
 use board_package::{Parts, room_for};
 use board_shapes::{Board, MOST_PIECES, Piece, Placed, Room};
 use lengths::rows::NoMemory;
+use real_copper::edges_of;
 use real_shapes::{RealPiece, RealShape};
 use std::alloc::Global;
 
@@ -16,28 +17,12 @@ use std::alloc::Global;
 pub type RealBoard = Parts<RealShape>;
 
 // A number as far as 32 bits tell it.
-fn counted(n: usize) -> u32
+fn counted(n: u64) -> u32
     ensures { result ≡ spec.counted n }
 {
     match u32::try_from(n) {
         Ok(few) => few,
         Err(_) => u32::MAX,
-    }
-}
-
-fn edges_of(shape: &RealShape) -> u32
-    ensures { result ≡ real_edges (real_figure shape.now) }
-{
-    match shape {
-        RealShape::Plain(shape) => shape.edges(),
-        RealShape::ArcDraw(_) => 0,
-        RealShape::Slanted(_) => 0,
-        RealShape::Region(region) => counted(region.parts.len()),
-        RealShape::Turned(figure) => counted(figure.contour.len().saturating_sub(1)),
-        RealShape::TurnedDisc(_) => 0,
-        RealShape::Polygon(turned) => turned.polygon.corners,
-        RealShape::Fine(_) => 0,
-        RealShape::Holed(_) => 0,
     }
 }
 
@@ -48,7 +33,7 @@ fn edges_in(pieces: &[RealPiece]) -> u64
 {
     let mut edges = 0;
     for piece in pieces {
-        edges += u64::from(edges_of(&piece.shape));
+        edges += u64::from(counted(edges_of(&piece.shape)));
     }
     edges
 }

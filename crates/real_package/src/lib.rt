@@ -2,7 +2,7 @@
 //!
 //! `build_real` takes and judges the files in the order of `board_package` (`stages`), each with the room that earlier
 //! files left (`contents`), and gives the real board (`board`) or says what stops it first (`fault`). Copper files are read
-//! by `arc_layer`, drill files and the netlist as for a board without arcs. The laws over the definitions stand in `laws`.
+//! by `real_copper`, drill files and the netlist as for a board without arcs. The laws over the definitions stand in `laws`.
 #![tactic(auto)]
 
 mod board;

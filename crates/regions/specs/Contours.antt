@@ -1,19 +1,41 @@
--- A contour in the making is the list of its points.
-use Rattle.std.specs.Prelude.{not, nat_lt, if◌then◌else◌, List, [], ◌∷◌, ◌++◌, length, Option, Some, None, Result, Ok, Err, ◌≡◌, ◌<◌}
+-- A contour in the making is where it begins, and its edges.
+use Rattle.std.specs.Prelude.{not, nat_lt, if◌then◌else◌, List, [], ◌∷◌, ◌++◌, length, map, Option, Some, None, Result, Ok, Err, ◌≡◌, ◌≤◌}
 use Rattle.planar.specs.Plane.{same_spot}
 use Rattle.planar.specs.declared.Spot.{Spot}
 use Rattle.area_contact.specs.Contour.{end_from}
 use Rattle.area_contact.specs.declared.Area.{Area}
 use Rattle.area_contact.specs.declared.TheConstants.{MOST_CONTOUR_EDGES}
 use Rattle.regions.specs.declared.contour.Contour.{Contour}
+use Rattle.regions.specs.declared.contour.Leg.{Leg as Seen}
 use Rattle.regions.specs.declared.contour.AddFault.{AddFault}
 use Rattle.regions.specs.declared.contour.AddFault.TheVariants as add
 use Rattle.regions.specs.declared.contour.CloseFault.{CloseFault}
 use Rattle.regions.specs.declared.contour.CloseFault.TheVariants.{Open, Short, NoMemory}
 
--- where the contour began, and where each of its edges ends
-abbrev pub points_of : Contour → List Spot
-points_of c = c.first ∷ c.ends.items
+-- an edge of a contour: where it ends, and what is kept of it besides
+pub record Leg (E : Type 0) : Type 0 where
+  pub to : Spot
+  pub bend : E
+
+-- a contour: where it begins, and its edges
+pub record Outline (E : Type 0) : Type 0 where
+  pub first : Spot
+  pub legs : List (Leg E)
+
+-- an edge, and a contour, without where they lie in memory
+abbrev pub leg_of : {E : Type 0} → Seen E → Leg E
+leg_of l = record { to = l.to; bend = l.bend }
+
+abbrev pub outline_of : {E : Type 0} → Contour E → Outline E
+outline_of c = record { first = c.first; legs = map leg_of c.legs.items }
+
+-- where it begins, and where each of its edges ends
+abbrev pub points_of : {E : Type 0} → Outline E → List Spot
+points_of o = o.first ∷ map (λ l. l.to) o.legs
+
+-- with an edge more
+abbrev pub with_leg : {E : Type 0} → Outline E → Spot → E → Outline E
+with_leg o to e = record { first = o.first; legs = o.legs ++ record { to = to; bend = e } ∷ [] }
 
 -- why a contour bounds no area: its last point is not its first, or it is closed with one or two edges
 pub data Flaw : Type 0 where
@@ -40,8 +62,8 @@ Closes (Err Open) closed = Err stays_open ≡ closed
 Closes (Err Short) closed = Err too_short ≡ closed
 Closes (Err NoMemory) closed = Unit {0}
 
--- the points have one more, or stay; the contour is too long where it has MOST_CONTOUR_EDGES edges
-abbrev pub Adds : List Spot → Spot → Result (Unit {0}) AddFault → List Spot → Type 0
-Adds old to (Ok done) new = new ≡ old ++ to ∷ []
-Adds old to (Err add.TooLong) new = (MOST_CONTOUR_EDGES < length old) × (new ≡ old)
-Adds old to (Err add.NoMemory) new = new ≡ old
+-- the contour has an edge more, or stays; it is too long where it has MOST_CONTOUR_EDGES edges
+abbrev pub Adds : {E : Type 0} → Outline E → Spot → E → Result (Unit {0}) AddFault → Outline E → Type 0
+Adds old to e (Ok done) new = new ≡ with_leg old to e
+Adds old to e (Err add.TooLong) new = (MOST_CONTOUR_EDGES ≤ length old.legs) × (new ≡ old)
+Adds old to e (Err add.NoMemory) new = new ≡ old

@@ -4,4 +4,4 @@
 
 mod contour;
 
-pub use contour::{AddFault, CloseFault, Contour};
+pub use contour::{AddFault, CloseFault, Contour, Leg};

@@ -4,7 +4,7 @@ use Rattle.planar.specs.declared.Spot.{Spot}
 use Rattle.planar.specs.Plane.{Point, cross_of}
 use Rattle.planar.proofs.Ring.{ring, linear}
 use Rattle.area_contact.specs.Parity.{side_of}
-use Rattle.slants.specs.Polygons.{HasCorners, IsRegular, PossiblyInPolygon, SurelyInPolygon, direction_of, inner_of, quartered, reach_of, turns_to}
+use Rattle.slants.specs.Polygons.{HasCorners, IsPolygon, PossiblyInPolygon, SurelyInPolygon, direction_of, inner_of, quartered, reach_of, turns_to}
 use Rattle.slants.specs.Turned.{IsBetween, meet_of}
 use Rattle.slants.specs.declared.cones.TheConstants.{RIGHT_ANGLE}
 use Rattle.slants.specs.declared.polygons.RegularPolygon.{RegularPolygon}
@@ -135,11 +135,11 @@ module _ (g : RegularPolygon) (w : ℕ → Turn) (between : (h : ℕ) → IsBetw
   unfolding set_out
   some k below = (between (2 * k)).some
 
-  beside : IsRegular g → GoRound g.corners (inner_of g) (reach_of g) (spoke g w) → pos 0 ≤ℤ side_of b c p.x p.y p.n
+  beside : IsPolygon g → GoRound g.corners (inner_of g) (reach_of g) (spoke g w) → pos 0 ≤ℤ side_of b c p.x p.y p.n
   beside regular turn =
       let held : Held g.corners (inner_of g) (reach_of g) (spoke g w) ey (neg_ℤ ex) vx vy p.n (cross_of b c g.centre) = record { from_zero = omega (arith, linear, p.positive); some = some; edges = under_edge; out = under_line } in
       let l = all_round g.corners (inner_of g) (reach_of g) (spoke g w) ey (neg_ℤ ex) vx vy p.n (cross_of b c g.centre) held turn regular.enough in
       omega (arith, linear, l, side_out ex ey b.x b.y g.centre.x g.centre.y p.x p.y p.n)
 
-pub copper_by : (g : RegularPolygon) (w : ℕ → Turn) (p : Point) → ((h : ℕ) → IsBetween (turns_to g h) (w (direction_of g h % RIGHT_ANGLE))) → IsRegular g → GoRound g.corners (inner_of g) (reach_of g) (spoke g w) → SurelyInPolygon g p → PossiblyInPolygon g p
+pub copper_by : (g : RegularPolygon) (w : ℕ → Turn) (p : Point) → ((h : ℕ) → IsBetween (turns_to g h) (w (direction_of g h % RIGHT_ANGLE))) → IsPolygon g → GoRound g.corners (inner_of g) (reach_of g) (spoke g w) → SurelyInPolygon g p → PossiblyInPolygon g p
 copper_by g w p between regular turn surely b c corners = beside g w between p surely b c corners regular turn

@@ -5,7 +5,7 @@ use Rattle.std.proofs.lemmas.Nat.{mul-le}
 use Rattle.planar.specs.Plane.{Point}
 use Rattle.planar.proofs.Ring.{mul_assoc, over_zero}
 use Rattle.slants.specs.Cones.{cosine, cosine_by, half_of, sine_by}
-use Rattle.slants.specs.Polygons.{IsRegular, PossiblyInPolygon, SurelyInPolygon, direction_of, inner_of, reach_of, step_of, turns_to}
+use Rattle.slants.specs.Polygons.{IsPolygon, PossiblyInPolygon, SurelyInPolygon, direction_of, inner_of, reach_of, step_of, turns_to}
 use Rattle.slants.specs.Turned.{IsBetween, meet_of}
 use Rattle.slants.specs.declared.cones.TheConstants.{RADIUS, RIGHT_ANGLE}
 use Rattle.slants.specs.declared.polygons.RegularPolygon.{RegularPolygon}
@@ -253,7 +253,7 @@ round_again : (k : ℕ) (t : Turn) → set_out (k + 4) t ≡ set_out k t
 unfolding set_out
 round_again k t = rw (whole_round k (record { x = (meet_of t t).x; y = (meet_of t t).y })) refl
 
-module _ (g : RegularPolygon) (regular : IsRegular g) (law : Lawful g.corners) where
+module _ (g : RegularPolygon) (regular : IsPolygon g) (law : Lawful g.corners) where
   short : inner_of g * RADIUS ≤ reach_of g * law.w
   short = subst (λ (v : ℕ). inner_of g * RADIUS ≤ reach_of g * v) law.w_is (inner_short g.diameter (cosine (step_of g) - 1))
 
@@ -304,5 +304,5 @@ between g h =
     let small : half_of (direction_of g h % RIGHT_ANGLE) ≤ EIGHTH = half_small (direction_of g h % RIGHT_ANGLE) a in
     unscaled (turns_to g h) (wide (half_of (direction_of g h % RIGHT_ANGLE))) (high (half_of (direction_of g h % RIGHT_ANGLE))) (wide_some (half_of (direction_of g h % RIGHT_ANGLE)) small) (way_between g.centre (direction_of g h % RIGHT_ANGLE) a)
 
-pub polygon_copper : (g : RegularPolygon) (p : Point) → IsRegular g → SurelyInPolygon g p → PossiblyInPolygon g p
+pub polygon_copper : (g : RegularPolygon) (p : Point) → IsPolygon g → SurelyInPolygon g p → PossiblyInPolygon g p
 polygon_copper g p regular = copper_by g plain p (between g) regular (go_round g regular (lawful g.corners regular.enough regular.few))

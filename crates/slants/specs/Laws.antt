@@ -7,7 +7,7 @@ use Rattle.board_shapes.specs.Rectangles.{rectangle}
 use Rattle.slants.specs.Cones.{FigureAbove, FigureBelow, PossiblyTurned, SurelyTurned, cosine, sine, turns_by}
 use Rattle.slants.specs.Copper.{InSlant}
 use Rattle.slants.specs.Discs.{DiscAbove, DiscBelow, PossiblyInDisc, SurelyInDisc, disc_about}
-use Rattle.slants.specs.Polygons.{InHull, IsRegular, PolygonBelow, PolygonsAbove, PossiblyInPolygon, SurelyInPolygon}
+use Rattle.slants.specs.Polygons.{InHull, IsPolygon, PolygonBelow, PolygonsAbove, PossiblyInPolygon, SurelyInPolygon}
 use Rattle.slants.specs.Taken.{TakenAbove, TakenBelow}
 use Rattle.slants.specs.Turned.{IsBetween, IsTurn, meet_of}
 use Rattle.slants.specs.declared.Slant.{Slant}
@@ -101,6 +101,6 @@ PolygonsAboveHold = (gs : List RegularPolygon) (points : List Spot) (p : Point) 
 abbrev pub PolygonIsBetween : Type 0
 PolygonIsBetween = PolygonBelowLies × PolygonsAboveHold
 
--- There is a copper of each of 3 to 12 corners whose circle ends less than 1 m from 0 in x and in y: what lies on the left of each edge at all turns of its cone lies in the hull of the corners at theirs
+-- There is a copper of each of 3 to 12 corners, wherever it lies: what lies on the left of each edge at all turns of its cone lies in the hull of the corners at theirs
 abbrev pub PolygonsHaveCopper : Type 0
-PolygonsHaveCopper = (g : RegularPolygon) (p : Point) → IsRegular g → SurelyInPolygon g p → PossiblyInPolygon g p
+PolygonsHaveCopper = (g : RegularPolygon) (p : Point) → IsPolygon g → SurelyInPolygon g p → PossiblyInPolygon g p

@@ -87,12 +87,16 @@ HaveCorners gs b c = All (λ g. HasCorners g b c) gs
 abbrev pub InHull : List RegularPolygon → Point → Type 0
 InHull gs p = (b c : Spot) → HaveCorners gs b c → pos 0 ≤ℤ side_of b c p.x p.y p.n
 
--- ---- which contours are taken
-
--- from 3 to 12 corners (4.5.1.7), and the circle through them ends less than 1 m from 0 in x and in y
-pub record IsRegular (g : RegularPolygon) : Type 0 where
+-- from 3 to 12 corners (4.5.1.7)
+pub record IsPolygon (g : RegularPolygon) : Type 0 where
   pub enough : 3 ≤ g.corners
   pub few : g.corners ≤ 12
+
+-- ---- which contours are taken
+
+-- so it has, wherever its middle is, and the circle through them ends less than 1 m from 0 in x and in y
+pub record IsRegular (g : RegularPolygon) : Type 0 where
+  pub corners : IsPolygon g
   pub across : unsigned_abs g.centre.x + reach_of g < METRE
   pub up : unsigned_abs g.centre.y + reach_of g < METRE
 

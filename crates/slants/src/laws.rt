@@ -63,8 +63,7 @@ pub fn polygon_is_between()
     ensures { PolygonIsBetween }
 {}
 
-/// A regular polygon has a copper: what lies in it at all turns of its cones lies in the hull of its corners. It has from 3 to 12
-/// corners, and the circle through them ends less than 1 m from 0 in x and in y.
+/// A regular polygon of 3 to 12 corners has a copper: what lies in it at all turns of its cones lies in the hull of its corners.
 pub fn polygons_have_copper()
     ensures { PolygonsHaveCopper }
 {}

@@ -1,2 +1,4 @@
 pub mod Copies
 pub mod Repeats
+pub mod Figures
+pub mod Shifting

@@ -1,14 +1,14 @@
 //! The copies of a block.
 ghost use Rattle.std.specs.Prelude.{◌≡◌, ◌+◌, ◌*◌, ◌<◌, ◌≤◌, ◌^◌, ◌*ℤ◌, pos, [], ◌∷◌, length, Option, Some, None, Result, Ok, Err, IfOk, IfErr, IsOk, IfSome, MatchOption, option_map};
 ghost use Rattle.std.specs.Option.{SomeIff};
-ghost use Rattle.board_shapes.specs.Moved.{IsShift, moved_piece};
-ghost use Rattle.board_shapes.specs.Pieces.{plain_piece, plain_pieces};
-ghost use Rattle.step_repeat.specs.Copies.{Adds, IsCopyFault, block_at, column_of, copies_at, copies_of, moved_block, refused_as, room_fault};
+ghost use Rattle.board_shapes.specs.Moved.{IsShift};
+ghost use Rattle.step_repeat.specs.Copies.{Adds, IsCopyFault, block_at, column_of, copies_by, copies_of, edges_by, moved_block, piece_by, pieces_by, refused_as, room_fault, shifted_piece};
 ghost use Rattle.step_repeat.specs.Repeats.{IsLawful};
 
 use crate::fault::CopyFault;
+use crate::figure::Figure;
 use crate::repeat::Repeat;
-use board_shapes::{MoveFault, Piece, Room, edges_in};
+use board_shapes::{MoveFault, Origin, Placed, Room};
 use planar::TWO_METRES;
 use std::alloc::Global;
 
@@ -24,9 +24,9 @@ struct Shift {
 
 /// A block that is not empty, and how it is repeated.
 #[derive(Drop)]
-struct Grid<'a> {
+struct Grid<'a, F> {
     repeat: Repeat,
-    block: &'a [Piece],
+    block: &'a [Placed<F>],
     ghost some: { 0 < length block.now },
     ghost few: { repeat.across * repeat.up < 2 ^ 32 },
 }
@@ -41,20 +41,20 @@ impl Repeat {
     /// room; `TooManyEdges` exactly where it does not, and the same product of edges does. Both take
     /// no memory. `OutOfRange` comes exactly where neither does, and a moved end or corner is over
     /// 1 m from 0 in x or y.
-    #[tactic(auto, unfolding(crate::specs::Copies::copies_at))]
-    pub fn copies(
+    #[tactic(auto, unfolding(crate::specs::Copies::copies_by))]
+    pub fn copies<F: Figure + Drop>(
         &self,
         alloc: Global,
-        block: &[Piece],
+        block: &[Placed<F>],
         room: Room,
-    ) -> Result<Vec<Piece>, CopyFault>
+    ) -> Result<Vec<Placed<F>>, CopyFault>
         requires lawful { IsLawful self.now }
-        ensures ok { IfOk result (λ copies. copies_at self.now room (plain_pieces block.now) ≡ Ok (plain_pieces copies.items)) }
+        ensures ok { IfOk result (λ copies. copies_by F.handling self.now room (pieces_by F.plain block.now) ≡ Ok (pieces_by F.plain copies.items)) }
         ensures few { IfOk result (λ copies. length copies.items ≤ room.pieces) }
-        ensures fault { IfErr result (IsCopyFault (copies_at self.now room (plain_pieces block.now))) }
+        ensures fault { IfErr result (IsCopyFault (copies_by F.handling self.now room (pieces_by F.plain block.now))) }
 
         // What takes no memory.
-        ensures by_room { IfSome (room_fault self.now room (plain_pieces block.now)) (λ why. result ≡ Err (refused_as why)) }
+        ensures by_room { IfSome (room_fault F.handling self.now room (pieces_by F.plain block.now)) (λ why. result ≡ Err (refused_as why)) }
         ensures empty { length block.now ≡ 0 → IsOk result }
     {
         let mut copies = Vec::new(alloc);
@@ -74,26 +74,26 @@ impl Repeat {
 
     // What the room has no place for.
     #[tactic(auto, unfolding(crate::specs::Copies::room_fault))]
-    fn room_fault(&self, block: &[Piece], room: Room) -> Option<CopyFault>
+    fn room_fault<F: Figure>(&self, block: &[Placed<F>], room: Room) -> Option<CopyFault>
         requires lawful { IsLawful self.now }
-        ensures value { result ≡ option_map refused_as (room_fault self.now room (plain_pieces block.now)) }
+        ensures value { result ≡ option_map refused_as (room_fault F.handling self.now room (pieces_by F.plain block.now)) }
         ensures few { result ≡ None → 0 < length block.now → self.now.across * self.now.up < 2 ^ 32 }
     {
         let times = u128::from(self.across) * u128::from(self.up);
         if times * block.len() as u128 > u128::from(room.pieces) {
             return Some(CopyFault::TooManyPieces);
         }
-        if times * u128::from(edges_in(block)) > u128::from(room.edges) {
+        if times * u128::from(edges_of(block)) > u128::from(room.edges) {
             return Some(CopyFault::TooManyEdges);
         }
         None
     }
 }
 
-impl Grid<'_> {
+impl<F: Figure + Drop> Grid<'_, F> {
     #[tactic(auto, unfolding(crate::specs::Copies::copies_of))]
-    fn push_all(&self, copies: &mut Vec<Piece>) -> Result<(), CopyFault>
-        ensures { Adds (plain_pieces copies.old.items) result (plain_pieces copies.new.items) (copies_of self.now.repeat (plain_pieces self.now.block.now)) }
+    fn push_all(&self, copies: &mut Vec<Placed<F>>) -> Result<(), CopyFault>
+        ensures { Adds F.handling (pieces_by F.plain copies.old.items) result (pieces_by F.plain copies.new.items) (copies_of F.handling self.now.repeat (pieces_by F.plain self.now.block.now)) }
     {
         for column in 0..self.repeat.across {
             self.push_column(column, copies)?;
@@ -101,9 +101,9 @@ impl Grid<'_> {
         Ok(())
     }
 
-    fn push_column(&self, column: u32, copies: &mut Vec<Piece>) -> Result<(), CopyFault>
+    fn push_column(&self, column: u32, copies: &mut Vec<Placed<F>>) -> Result<(), CopyFault>
         requires within { column < self.now.repeat.across }
-        ensures { Adds (plain_pieces copies.old.items) result (plain_pieces copies.new.items) (column_of self.now.repeat (plain_pieces self.now.block.now) column) }
+        ensures { Adds F.handling (pieces_by F.plain copies.old.items) result (pieces_by F.plain copies.new.items) (column_of F.handling self.now.repeat (pieces_by F.plain self.now.block.now) column) }
     {
         for row in 0..self.repeat.up {
             self.push_block(column, row, copies)?;
@@ -111,10 +111,15 @@ impl Grid<'_> {
         Ok(())
     }
 
-    fn push_block(&self, column: u32, row: u32, copies: &mut Vec<Piece>) -> Result<(), CopyFault>
+    fn push_block(
+        &self,
+        column: u32,
+        row: u32,
+        copies: &mut Vec<Placed<F>>,
+    ) -> Result<(), CopyFault>
         requires within_across { column < self.now.repeat.across }
         requires within_up { row < self.now.repeat.up }
-        ensures { Adds (plain_pieces copies.old.items) result (plain_pieces copies.new.items) (block_at self.now.repeat (plain_pieces self.now.block.now) column row) }
+        ensures { Adds F.handling (pieces_by F.plain copies.old.items) result (pieces_by F.plain copies.new.items) (block_at F.handling self.now.repeat (pieces_by F.plain self.now.block.now) column row) }
     {
         match self.shift(column, row) {
             None => Err(CopyFault::OutOfRange),
@@ -159,8 +164,12 @@ fn way(n: u32, step: i64) -> Option<i64>
 }
 
 // The block's pieces moved, at the end of the copies.
-fn push_pieces(block: &[Piece], by: Shift, copies: &mut Vec<Piece>) -> Result<(), CopyFault>
-    ensures { Adds (plain_pieces copies.old.items) result (plain_pieces copies.new.items) (moved_block by.x by.y by.copy (plain_pieces block.now)) }
+fn push_pieces<F: Figure + Drop>(
+    block: &[Placed<F>],
+    by: Shift,
+    copies: &mut Vec<Placed<F>>,
+) -> Result<(), CopyFault>
+    ensures { Adds F.handling (pieces_by F.plain copies.old.items) result (pieces_by F.plain copies.new.items) (moved_block F.handling by.x by.y by.copy (pieces_by F.plain block.now)) }
 {
     for piece in block {
         push_moved(piece, by, copies)?;
@@ -169,17 +178,43 @@ fn push_pieces(block: &[Piece], by: Shift, copies: &mut Vec<Piece>) -> Result<()
 }
 
 // The piece moved, at the end of the copies.
-fn push_moved(piece: &Piece, by: Shift, copies: &mut Vec<Piece>) -> Result<(), CopyFault>
-    ensures { Adds (plain_pieces copies.old.items) result (plain_pieces copies.new.items) (moved_piece by.x by.y by.copy (plain_piece piece.now) ∷ []) }
+fn push_moved<F: Figure + Drop>(
+    piece: &Placed<F>,
+    by: Shift,
+    copies: &mut Vec<Placed<F>>,
+) -> Result<(), CopyFault>
+    ensures { Adds F.handling (pieces_by F.plain copies.old.items) result (pieces_by F.plain copies.new.items) (shifted_piece F.handling by.x by.y by.copy (piece_by F.plain piece.now) ∷ []) }
 {
     let alloc = *copies.allocator();
-    let moved = match piece.moved(alloc, by.x, by.y, by.copy) {
-        Ok(moved) => moved,
+    let shape = match piece.shape.shifted(alloc, by.x, by.y) {
+        Ok(shape) => shape,
         Err(MoveFault::OutOfRange) => return Err(CopyFault::OutOfRange),
         Err(MoveFault::NoMemory) => return Err(CopyFault::NoMemory),
+    };
+    let moved = Placed {
+        shape,
+        top: piece.top,
+        bottom: piece.bottom,
+        origin: Origin {
+            file: piece.origin.file,
+            command: piece.origin.command,
+            copy: by.copy,
+        },
     };
     let Ok(()) = copies.push(moved) else {
         return Err(CopyFault::NoMemory);
     };
     Ok(())
+}
+
+/// How many edges the pieces count for the room; there are fewer than 2^32 pieces.
+pub fn edges_of<F: Figure>(pieces: &[Placed<F>]) -> u64
+    requires few { length pieces.now < 2 ^ 32 }
+    ensures { result ≡ edges_by F.handling (pieces_by F.plain pieces.now) }
+{
+    let mut edges = 0;
+    for piece in pieces {
+        edges += u64::from(piece.shape.edges());
+    }
+    edges
 }

@@ -7,8 +7,11 @@
 
 mod copying;
 mod fault;
+mod figure;
 mod repeat;
 mod repeat_word;
 
+pub use copying::edges_of;
 pub use fault::{CopyFault, RepeatFault};
+pub use figure::Figure;
 pub use repeat::Repeat;

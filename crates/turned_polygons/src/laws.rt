@@ -11,8 +11,8 @@ pub fn turned_polygon_is_between()
     polygon_is_between();
 }
 
-/// A regular polygon whose middle is turned has a copper: what surely lies in it possibly does. It is turned by less than
-/// a right angle, and before that has from 3 to 12 corners, and the circle through them ends less than 1 m from 0 in x and in y.
+/// A regular polygon of 3 to 12 corners whose middle is turned by less than a right angle has a copper: what surely lies in it
+/// possibly does.
 pub fn turned_polygons_have_copper()
     ensures { TurnedPolygonsHaveCopper }
 {

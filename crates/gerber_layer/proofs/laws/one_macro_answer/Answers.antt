@@ -1,4 +1,4 @@
-use Rattle.gerber_layer.proofs.OneAnswer.{one_answer}
+use Rattle.gerber_reading.proofs.OneAnswer.{one_answer}
 use Rattle.gerber_layer.specs.MacroLayer.{flat_place, with_macros}
 use Rattle.gerber_layer.proofs.laws.one_macro_answer.Goals as goal
 

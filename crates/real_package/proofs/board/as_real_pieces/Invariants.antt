@@ -1,6 +1,6 @@
 use Rattle.std.proofs.Common.{◌≡◌, ◌++◌, length}
 use Rattle.std.specs.Vec.Iter.{into_iter_items, into_iter_len}
-use Rattle.arc_layer.specs.Real.{plain_reals}
+use Rattle.real_copper.specs.Shapes.{plain_reals}
 use Rattle.board_shapes.specs.Pieces.{plain_pieces}
 use Rattle.real_package.specs.RealBoards.{as_reals}
 use Rattle.real_package.proofs.board.as_real_pieces.Given as goal

@@ -1,5 +1,5 @@
 use Rattle.std.proofs.Common.{◌≡◌, ◌*◌, ◌≤◌, take}
-use Rattle.arc_layer.specs.Real.{plain_reals}
+use Rattle.real_copper.specs.Shapes.{plain_reals}
 use Rattle.real_package.specs.RealBoards.{edges_in}
 use Rattle.real_package.proofs.board.edges_in.Given as goal
 

@@ -1,5 +1,5 @@
 use Rattle.std.proofs.Common.{◌∙◌, ◌≤◌, ℕ, ap, subst, sym}
-use Rattle.arc_layer.specs.Real.{plain_reals}
+use Rattle.real_copper.specs.Shapes.{plain_reals}
 use Rattle.real_package.specs.RealBoards.{plain_real_board, room_left}
 use Rattle.real_package.proofs.Halted.{copper_halts, copper_reads, drill_halts, netlist_halts}
 use Rattle.real_package.proofs.OnSpans.{on_spans}

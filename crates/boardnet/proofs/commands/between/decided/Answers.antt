@@ -1,6 +1,6 @@
 use Rattle.std.proofs.Common.{ℕ, IfOk, ap, length, subst, sym, ◌∙◌}
 use Rattle.std.proofs.lemmas.List.{length-map}
-use Rattle.arc_layer.specs.Real.{plain_real}
+use Rattle.real_copper.specs.Shapes.{plain_real}
 use Rattle.board_shapes.specs.Plain.{plain_board}
 use Rattle.reports.specs.Decision.{IsDecisionOn}
 use Rattle.reports.specs.Notes.{line_of, status_of}

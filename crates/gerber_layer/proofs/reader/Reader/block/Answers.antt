@@ -1,8 +1,0 @@
-use Rattle.gerber_layer.proofs.Edges.{plain_rest, rest_few}
-use Rattle.gerber_layer.proofs.reader.Reader.block.Goals as goal
-
-pub returns-clause-pieces : goal.returns-clause-pieces
-returns-clause-pieces c = rw c.deref.ensures.value (plain_rest c.args.self.now.pieces.items c.args.self.now.start)
-
-pub returns-clause-few : goal.returns-clause-few
-returns-clause-few c = rw c.deref.ensures.value (rest_few c.args.self.now.pieces.items c.args.self.now.start)

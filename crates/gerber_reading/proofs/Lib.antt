@@ -1,0 +1,9 @@
+pub mod Bodies
+pub mod Bridge
+pub mod Coordinates
+pub mod Copies
+pub mod Edges
+pub mod OneAnswer
+pub mod Placing
+pub mod Prefixes
+pub mod ReadSoFar

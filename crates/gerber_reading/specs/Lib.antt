@@ -1,0 +1,13 @@
+pub mod After
+pub mod Command
+pub mod CommandEffects
+pub mod Dialect
+pub mod Image
+pub mod Kinds
+pub mod Lawful
+pub mod Laws
+pub mod Outcomes
+pub mod Reader
+pub mod Settings
+pub mod Tools
+pub mod Blank

@@ -1,0 +1,15 @@
+pub mod Edges
+pub mod Near
+pub mod Numbers
+pub mod Setting
+pub mod Straight
+pub mod Sums
+pub mod Carrying
+pub mod Closed
+pub mod MacroFlash
+pub mod Defined
+pub mod Flashing
+pub mod LawfulAfter
+pub mod Layers
+pub mod Outcomes
+pub mod Stops

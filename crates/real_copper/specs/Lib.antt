@@ -1,0 +1,16 @@
+pub mod Apertures
+pub mod Arcs
+pub mod Centres
+pub mod Contours
+pub mod Draws
+pub mod Figures
+pub mod Flashed
+pub mod Flashes
+pub mod Kinds
+pub mod Moving
+pub mod Primitives
+pub mod RealReader
+pub mod Rows
+pub mod Shapes
+pub mod Table
+pub mod Words
