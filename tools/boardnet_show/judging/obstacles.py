@@ -32,7 +32,7 @@ def others(program: Program, package: Package, refusal: Refusal) -> Iterator[Ref
             told = judge(program, rest) if rest else None
         except (OSError, Stop):
             return
-        if not told or told.status != REFUSED or not told.refusal:
+        if not told or told.status != REFUSED or not told.refusal or told.refusal.file == refusal.file:
             return
         refusal = told.refusal
         if not refusal.has_bounds():
