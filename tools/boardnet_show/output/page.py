@@ -18,7 +18,7 @@ from boardnet_show.findings.finding import doubt
 
 from . import record_page, text_lines
 from .markup import in_html
-from .sentences import hints
+from .sentences import declarations, hints
 from .text_lines import cut
 
 HERE = os.path.join(os.path.dirname(os.path.abspath(__file__)), "page_assets")
@@ -228,9 +228,22 @@ def source_hash(source):
     return "'sha256-" + base64.b64encode(hashlib.sha256(source.encode()).digest()).decode() + "'"
 
 
-def notes(shown):
-    told = [*(f"hint: {hints.words(hint)}" for hint in shown.hints), *shown.notes, *([shown.seen.flood] if shown.seen.flood else []), *cut(list(text_lines.extra_lines(shown)), False)]
+def paragraphs(told):
     return "".join(f'<p class="advice">{in_html(words)}</p>\n' for words in told)
+
+
+def advice(shown):
+    """What is told above the findings: hints, what is declared, a flood, and what was asked for besides."""
+    told = [*(f"hint: {hints.words(hint)}" for hint in shown.hints), *declarations.notes(shown.seen), *([shown.seen.flood] if shown.seen.flood else [])]
+    return paragraphs([*told, *cut(list(text_lines.extra_lines(shown)), False)])
+
+
+def folded(shown):
+    """The other notes, which most do not want, behind a line that counts them."""
+    above = declarations.notes(shown.seen)
+    told = [words for words in shown.notes if words not in above]
+    count = f", and {counted(len(told), 'note')}" if told else ""
+    return f'<summary>How it was judged{count}</summary>\n<p class="facts">{in_html(facts(shown))}</p>\n{paragraphs(told)}'
 
 
 def page_html(shown):
@@ -239,7 +252,7 @@ def page_html(shown):
     fills = {
         "POLICY": f"default-src 'none'; script-src {source_hash(code)}; style-src {source_hash(style)}; base-uri 'none'; form-action 'none'",
         "TITLE": in_html(shown.title), "STYLE": style, "SCRIPT": code, "STATE": "agrees" if shown.status == 0 else "differs",
-        "VERDICT": in_html(verdict(shown)), "FACTS": in_html(facts(shown)), "ADVICE": notes(shown),
+        "VERDICT": in_html(verdict(shown)), "FOLDED": folded(shown), "ADVICE": advice(shown),
         "FINDINGS": lists or f'<p class="none">{"No finding" if shown.status else "No open, no short, no point without copper"}.</p>', "DATA": block(shown.board, shown.findings, wider_data(shown)),
         "RECORD": record_page.section(shown.requested.record),
     }
