@@ -2,6 +2,7 @@
 import os
 
 from boardnet_show.base.statuses import FAULT, REFUSED, UNDECIDED, BadCopper, fault_of
+from boardnet_show.base.wording import spoken
 from boardnet_show.extras import requested
 from boardnet_show.findings.board import Board
 from boardnet_show.findings.explained import Explained, title_of
@@ -41,13 +42,23 @@ def labels_of(program, told):
     return {record - 1: own.names[name] for record, _, name, _ in own.points}
 
 
+def flattened_notes(flattened, outside):
+    """One note of all files that were flattened, and one of those that could not be, with the reason of the first."""
+    if len(flattened) == 1:
+        yield f"{flattened[0]} has macros and was flattened: commands are those of the flattened file, which --keep keeps"
+    elif flattened:
+        yield f"{spoken(flattened)} have macros and were flattened: commands are those of the flattened files, which --keep keeps"
+    for name in [*outside][:1]:
+        rest = [*outside][1:]
+        yield f"{name} could not be flattened: {outside[name]}" + (f"; nor could {spoken(rest)}" if rest else "")
+
+
 def package_notes(files):
     """What was taken as what, where the manifest was made here, and what was flattened."""
     notes = [f"taken as {word}" for word in files.guessed]
     if files.left_out:
         notes.append(f"left out, {len(files.left_out)} of the folder's files: " + "; ".join(files.left_out))
-    notes += [f"{name} has macros and was flattened: commands are those of the flattened file, which --keep keeps" for name in sorted(files.flattened)]
-    notes += [f"{name} could not be flattened: {why}" for name, why in files.outside.items()]
+    notes += flattened_notes(sorted(files.flattened), files.outside)
     passed_over = netlist_files.note(files.manifest.netlist, mending.read(files, files.manifest.netlist)) if files.manifest else ""
     return notes + ([passed_over] if passed_over else [])
 

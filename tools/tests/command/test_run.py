@@ -11,6 +11,7 @@ import zipfile
 from xml.dom import minidom
 
 from boardnet_show.base.progress import Progress
+from boardnet_show.command import one_board
 from boardnet_show.command.run import SIGNALS
 from boardnet_show.formats import indented_json
 from tests.fixtures import common, made
@@ -185,6 +186,14 @@ class Answers(made.Case):
         self.assertEqual(len(minidom.parseString(self.read("b.lyrdb")).getElementsByTagName("item")), 3)
         self.board({**BAD, "top.gbr": gerber(*[line.replace("1,1,", "1,0,") for line in lines])}, "off")
         self.assertIn("top.gbr could not be flattened: top.gbr: flatten 34 ExposureOff", self.show("off")[1])
+
+    def test_notes_of_many_files(self):
+        """What is said of each of twelve layers is said once."""
+        names = [f"l{k}.gbr" for k in range(12)]
+        told = list(one_board.flattened_notes(names, {name: f"{name}: flatten 34 ExposureOff" for name in names}))
+        self.assertEqual(told, ["l0.gbr, l1.gbr, l2.gbr, l3.gbr, l4.gbr, l5.gbr and 6 more have macros and were flattened: commands are those of the flattened files, which --keep keeps",
+                                "l0.gbr could not be flattened: l0.gbr: flatten 34 ExposureOff; nor could l1.gbr, l2.gbr, l3.gbr, l4.gbr, l5.gbr, l6.gbr and 5 more"])
+        self.assertEqual((list(one_board.flattened_notes([], {})), list(one_board.flattened_notes([], {"a": "why"}))), ([], ["a could not be flattened: why"]))
 
     def test_copper_that_is_not_known(self):
         """Where `flatten` fails, the report alone says what is wrong, with the files' labels."""
