@@ -3,7 +3,7 @@ from types import SimpleNamespace
 
 FLAGS = ("-q", "--all", "--labels", "--yes", "--no-drills", "--no-cuts", "--audit-board", "--take-hints", "--help", "-h")
 WITH_VALUES = ("--page", "--svg", "--at", "--json", "--junit", "--sarif", "--rdb", "--format", "--keep", "--netlist", "--ipc", "--like", "--gaps", "--necks",
-               "--record", "--verify", "--declare", "--write-declarations", "--author")
+               "--record", "--verify", "--declare", "--write-declarations", "--author", "--jobs")
 OFTEN = ("--tie", "--with", "--waive")
 USAGE = "boardnet show PATH.. [OPTION ..]; boardnet show --help prints all"
 

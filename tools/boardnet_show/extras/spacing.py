@@ -9,10 +9,13 @@ from typing import NamedTuple
 from boardnet_show.base.statuses import Stop
 from boardnet_show.base.wording import millimetres
 from boardnet_show.findings import nearest_copper
+from boardnet_show.formats.units import INCH, MM
 from boardnet_show.geometry.box_tree import Tree, apart
 from boardnet_show.geometry.distances import of_lines
 from boardnet_show.geometry.segments import box_of_line
 
+# How lengths may be written; the millimetre where none is.
+UNITS = {"mm": MM, "mil": INCH // 1000, "in": INCH}
 STEP = 1_000        # distances are told in tenths of a micrometre
 MOST = 100_000_000  # 10 mm, the most that the program takes
 FEW = 64            # so many pairs of lines are looked at one by one
@@ -36,12 +39,13 @@ class Spacing(NamedTuple):
 
 
 def asked_width(text):
-    """A width in millimetres as u; None where it is none that can be asked for."""
-    head, _, tail = text.partition(".")
-    if not (head + tail).isascii() or not (head + tail).isdigit() or len(tail) > 7 or len(head) > 2:
+    """A width as u: a number of millimetres, or with its unit (`6mil`, `0.15mm`, `0.006in`); None where it is none that can be asked for."""
+    unit = next((it for it in UNITS if text.endswith(it)), "")
+    head, _, tail = text[:len(text) - len(unit)].partition(".")
+    if not (head + tail).isascii() or not (head + tail).isdigit() or len(tail) > 7 or len(head) > 3:
         return None
-    u = int(head or "0") * 10_000_000 + int(tail.ljust(7, "0"))
-    return u if u <= MOST else None
+    u, rest = divmod(int(head + tail) * UNITS.get(unit, MM), 10 ** len(tail))
+    return u if not rest and u <= MOST else None
 
 
 def asked_distance(text):

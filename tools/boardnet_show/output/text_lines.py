@@ -1,20 +1,43 @@
 """Findings as lines: grouped by name for a reader, one a line for `grep`."""
-from boardnet_show.base.statuses import UNJUDGED
+from boardnet_show.base.statuses import REFUSED, UNDECIDED, UNJUDGED
 from boardnet_show.base.wording import counted
 from boardnet_show.findings.finding import doubt
 
 from .sentences import hints
 
 MOST = 20
+WORDS = {0: "agrees", 1: "differs", UNDECIDED: "undecided", REFUSED: "refused"}
+# What became of boards, one and several.
+PLURALS = {0: ("agrees", "agree"), 1: ("differs", "differ"), UNDECIDED: ("is undecided", "are undecided"), REFUSED: ("is refused", "are refused"),
+           UNJUDGED: ("is not judged", "are not judged")}
 
 
 def heading(shown):
     return f"{shown.path}: {shown.line}"
 
 
+def first_hint(shown):
+    """The first hint that agrees, else the first one; nothing where there is none."""
+    best = next((it for it in shown.hints if it.answer.status == 0), None) or next(iter(shown.hints), None)
+    return hints.words(best) if best else ""
+
+
 def summary(shown):
-    """One line of a batch."""
-    return heading(shown)
+    """One line of a batch: the answer, and a hint where there is one."""
+    hint = first_hint(shown)
+    return heading(shown) + (f" [hint: {hint}]" if hint else "")
+
+
+def word_of(status):
+    """What became of a board, in a word."""
+    return WORDS.get(status, "not judged")
+
+
+def total(all_shown):
+    """How many boards there are of each answer."""
+    counts = [(sum(word_of(shown.status) == WORDS.get(status, "not judged") for shown in all_shown), words) for status, words in PLURALS.items()]
+    told = ", ".join(f"{count} {one if count == 1 else many}" for count, (one, many) in counts if count)
+    return f"{counted(len(all_shown), 'board')}: {told}"
 
 
 def notes(shown):
@@ -66,7 +89,9 @@ def cut(rows, is_all):
 
 
 def quiet(shown):
-    """A line `file:line: id: words` for each finding, as editors and CI read them, and one for the board."""
+    """A line for the board, and one `file:line: id: words` for each finding, as editors and CI read them."""
+    yield heading(shown)
+    yield from (f"{shown.path}: hint: {hints.words(hint)}" for hint in shown.hints)
     if shown.board:
         netlist = shown.board.package.told_path(shown.board.manifest.netlist)
         yield from (f"{shown.path}: {words}" for words in shown.seen.lost_ties())
@@ -75,11 +100,8 @@ def quiet(shown):
             yield f"{place}: {doubt(finding)}{finding.id}: {finding.sentence()}"
     for row in bounded(shown):
         yield f"{shown.path}: {row.strip()}"
-    for hint in shown.hints:
-        yield f"{shown.path}: hint: {hints.words(hint)}"
     for row in extra_lines(shown):
         yield f"{shown.path}: {row.strip()}"
-    yield summary(shown)
 
 
 def extra_lines(shown):

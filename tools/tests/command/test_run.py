@@ -30,12 +30,12 @@ BAD = {
                      record("SIG", "</b>.", -0.5, 9.999)),
 }
 QUIET = """\
+board: differs, opens 1, shorts 1, missing 1
 board/n.ipc:5: open-0: R1 pin 2 (the one layer, 3.000, 5.000 mm) is not joined to J1 pin 2 (the one layer, 0.000, 5.000 mm), 3.000 mm away; \
 SIG is in 2 parts, here R1 pin 2, there J1 pin 2. Suggestion: their copper comes nearest, 2.000 mm, on the one layer (top.gbr) at 1.500, 5.000 mm.
 board/n.ipc:2: short-0: GND and VCC are joined: GND has J1 pin 1 (the one layer, 0.000, 0.000 mm) and VCC has U1 pin 8 (the one layer, 10.000, 0.000 mm). \
 Suggestion: GND and VCC meet on the one layer (top.gbr) at 5.000, 0.000 mm; top.gbr command 13 is one piece that could be either's, between top.gbr command 7 and top.gbr command 8.
 board/n.ipc:6: missing-0: no copper of top.gbr lies under </b> (the one layer, -0.500, 9.999 mm), of SIG.
-board: differs, opens 1, shorts 1, missing 1
 """
 READER = """\
 board: differs, opens 1, shorts 1, missing 1 (audit true)
@@ -115,7 +115,7 @@ class Answers(made.Case):
 
     def test_words(self):
         self.board(GOOD)
-        for words in ([], ["--nonsense", "board"], ["board", "board", "--page", "p.html"], ["board", "--at", "short-0"]):
+        for words in ([], ["--nonsense", "board"], ["board", "board", "--svg", "p.svg"], ["board", "board", "--page", "-"], ["board", "--at", "short-0"]):
             status, out, notes = self.show(*words)
             self.assertEqual((status, out, notes.startswith("usage: boardnet show PATH..")), (2, "", True))
         for word in ("--help", "-h"):
@@ -160,12 +160,12 @@ class Answers(made.Case):
     def test_batch(self):
         for folder, files in (("good", GOOD), ("bad", BAD), ("refused", {**GOOD, "top.gbr": "%FSLAX46Y46*%\n"})):
             self.board(files, folder)
-        self.assertEqual(self.show("good", "good")[:2], (0, "good: agrees\ngood: agrees\n"))
+        self.assertEqual(self.show("good", "good")[:2], (0, "good: agrees\ngood: agrees\n2 boards: 2 agree\n"))
         status, out, _ = self.show("bad", "good", "--json", "all.json")
-        self.assertEqual((status, out), (1, "bad: differs, opens 1, shorts 1, missing 1\ngood: agrees\n"))
+        self.assertEqual((status, out), (1, "bad: differs, opens 1, shorts 1, missing 1\ngood: agrees\n2 boards: 1 agrees, 1 differs\n"))
         self.assertEqual([board["status"] for board in json.loads(self.read("all.json"))["boards"]], [1, 0])
         status, out, _ = self.show("good", "bad", "refused", "nowhere")
-        self.assertEqual((status, len(out.splitlines())), (3, 4))
+        self.assertEqual((status, len(out.splitlines()), out.splitlines()[-1]), (3, 5, "4 boards: 1 agrees, 1 differs, 1 is refused, 1 is not judged"))
 
     def test_macros_are_flattened(self):
         lines = [*label("GND"), *flash(10, (0, 0)), MACRO, *flash(13, (10, 0)), *draw(11, (0, 0), (10, 0))]
