@@ -226,7 +226,7 @@ def agrees_without(path, asked, program, scratch, its, ties):
     os.makedirs(inner)
     files = package.opened(path, asked, inner, declared=lambda _: its.sorted_files())
     by_own_names(files, asked)
-    mending.mend(files, program.progress, asked.yes)
+    mending.mend(files, program.progress, asked.yes, its.sorted_files().taken)
     agrees = ties.answer(judged.judge(program, files)).status == 0
     return ["what is declared does not fit these files any more: without its changes they agree"] if agrees else []
 
@@ -274,7 +274,7 @@ def shown_once(path, asked, program, scratch, taken):
         own_names.take_whole(files)
         ties = net_ties.declared(asked.tie, files, its.ties() if its else ())
         shown = shown._replace(seen=shown.seen._replace(ties=ties))
-        mending.mend(files, program.progress, asked.yes)
+        mending.mend(files, program.progress, asked.yes, sorted_by(its).taken)
         shown = shown._replace(seen=shown.seen._replace(declared=changed(files, its), taken=files.taken))
         told = judged.judge(program, files)
         shown = shown._replace(seen=shown.seen._replace(answer=ties.answer(told), audit=told.audit, report=told.text or b"",

@@ -157,6 +157,21 @@ class Sorted(Case):
         self.put({"inner1.gbr": gerber(*flash(10, (0, 0), (5, 0)))})
         self.assertEqual(self.show("board")[0], 10)
 
+    def test_readings(self):
+        """What the board alone says of a file, and --yes takes, is written and taken again; another reading is not."""
+        files = files_of()
+        files["n.ipc"] = files["n.ipc"].replace("P  UNITS CUST 1\n", "")
+        self.put(files)
+        for program in self.over_both():
+            self.assertEqual(self.show("board", program=program)[0], 10)
+            self.assertEqual(self.show("board", "--yes", "--write-declarations", "board/boardnet.json", program=program)[0], 0)
+            status, out, _ = self.show("board", program=program)
+            self.assertEqual((status, out.split("\n")[0]), (0, "board: agrees, with 1 declaration (audit true)"), out)
+            taken, = json.loads(self.read("board/boardnet.json"))["taken"]
+            self.declare(taken=[{**taken, "as": taken["as"] + " of another board"}])
+            self.assertEqual(self.show("board", program=program)[0], 10)
+            os.remove(self.path("board", "boardnet.json"))
+
     def test_plated(self):
         """A drill file is declared to be plated; one that says itself that it is not is refused."""
         self.put(self.FILES)
