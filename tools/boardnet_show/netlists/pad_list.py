@@ -1,7 +1,8 @@
 """Where a tester may touch a board: each pad of an outer layer, and each plated hole, with what the files say of it.
 
-A pad is what one flash makes, whatever its shape, or a region that the file gives to a pin (`TO.P`); of a flash whose copper is
-on two nets there is one for each. A pad whose middle lies in a plated hole of its layer is told with the hole.
+A pad is what one flash makes, whatever its shape, or a region that the file gives to a pin (`TO.P`); of a flash whose
+copper is on two nets there is one for each. A pad whose middle lies in a plated hole of its layer is told with the
+hole.
 """
 from collections import defaultdict
 
@@ -21,7 +22,8 @@ VIA = "VIA"
 
 
 class Place:
-    """A pad or a hole: its pieces, net and layers (first and last), its middle and size in u, and `hole`, the piece of a hole.
+    """A pad or a hole: its pieces, net and layers (first and last), its middle and size in u, and `hole`, the piece
+    of a hole.
 
     `aim` is where it is best touched.
     """
@@ -76,7 +78,8 @@ def between(board, package, name, pieces):
 
 
 def origins(board, base):
-    """The object of each piece of copper. Between bounds `base` is the package of the user's files, and the board has their commands."""
+    """The object of each piece of copper. Between bounds `base` is the package of the user's files, and the board has
+    their commands."""
     package, sources, found = base or board.package, board.report.sources, []
     by_file = defaultdict(list)
     for piece, (file, *_) in enumerate(sources):
