@@ -35,6 +35,8 @@ ANY_UNITS = re.compile(rb"^P[ \t]*UNITS", re.M)
 ANY_END = re.compile(rb"^999", re.M)
 ANY_PASSED_OVER = re.compile(rb"^(?:%s)" % b"|".join(PASSED_OVER), re.M)
 FULL_NAME = re.compile(rb"^3[012]7[!-~]{14}", re.M)
+# A parameter that KiCad alone writes, in the first lines.
+KICAD, HEAD = b"arrayDim", 400
 # A test record's name, what stands behind that, and its access code.
 FIELDS = re.compile(rb"^3[12]7(.{14})(.{3})?(?:.{18}A([ \d]\d))?", re.M)
 GRAPHIC = re.compile(rb"[!-~]+")
@@ -227,9 +229,10 @@ def fields(data: bytes) -> Fields:
     return Fields(names, list(long_names), {int(code) for _, _, code in rows if code})
 
 
-def has_full_name(data: bytes) -> bool:
-    """Whether a name fills its columns, and so may be cut."""
-    return FULL_NAME.search(data) is not None
+def has_other_names(data: bytes) -> bool:
+    """Whether its tool may have written names otherwise: KiCad does, in capitals, and a name that fills its columns may be
+    cut."""
+    return KICAD in data[:HEAD] or FULL_NAME.search(data) is not None
 
 
 def text_of(name: bytes) -> str:
