@@ -8,7 +8,7 @@ from math import isqrt
 from typing import Callable, List, Optional, Sequence, Tuple
 
 from .exact import Refused, ceil_root, floor_root
-from .plane import Capsule, Corners, Number, Spot
+from .pieces import Capsule, Corners, Number, Spot
 from .segments import cross, dot
 
 SAGITTA = 3600      # a chord leaves its arc by about 0.36 micrometres at most

@@ -4,7 +4,7 @@ from collections import defaultdict
 from typing import DefaultDict, Iterator, List, Sequence, Tuple
 
 from .box_tree import Tree
-from .plane import Box, Spot
+from .pieces import Box, Spot
 
 # A box over more squares than this is asked of the tree.
 MOST_SQUARES = 40

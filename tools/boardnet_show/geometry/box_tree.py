@@ -2,7 +2,7 @@
 import heapq
 from typing import Any, Callable, List, Sequence, Tuple
 
-from .plane import Box
+from .pieces import Box
 
 FAN = 16
 # As many pairs of boxes are looked at in a search for the nearest two.

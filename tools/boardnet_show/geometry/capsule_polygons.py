@@ -6,7 +6,7 @@ from typing import List, Optional, Tuple
 
 from .arcs import arc_points, goes_once, rounded, scaled
 from .exact import Refused, ceil_root
-from .plane import Corners, Piece, Spot
+from .pieces import Corners, Piece, Spot
 from .segments import cross, dot, edges
 
 SMALL = 8

@@ -1,7 +1,7 @@
 """How far apart lines and places are, exactly, over whole numbers: each distance is rounded down to u."""
 from math import isqrt
 
-from .plane import Line, Spot
+from .pieces import Line, Spot
 from .segments import segments_cross
 
 

@@ -5,7 +5,7 @@ from fractions import Fraction as Q
 from math import isqrt
 from typing import Optional, Tuple
 
-from .plane import Interval, Number, Point, Spot
+from .pieces import Interval, Number, Point, Spot
 from typing import Optional
 
 DECIMAL = re.compile(r"[+-]?(\d+\.?\d*|\.\d+)")

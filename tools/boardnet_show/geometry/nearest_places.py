@@ -1,7 +1,7 @@
 """Where straight lines are nearest, in floating point: for marks alone."""
 from typing import Optional, Tuple
 
-from .plane import Line, Spot
+from .pieces import Line, Spot
 
 Place = Tuple[float, float]
 

@@ -1,7 +1,7 @@
 """Whole places: segments between them, even-odd, and segments by cells."""
 from typing import Dict, Iterator, List, Sequence, Set, Tuple
 
-from .plane import Box, Corners, Line, Spot
+from .pieces import Box, Corners, Line, Spot
 
 
 def cross(o: Spot, a: Spot, b: Spot) -> int:

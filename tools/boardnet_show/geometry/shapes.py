@@ -2,7 +2,7 @@
 from array import array
 from typing import Iterable, List, Tuple
 
-from .plane import Box, Piece, Spot
+from .pieces import Box, Piece, Spot
 
 AREA = -1
 

@@ -3,7 +3,7 @@ from typing import Dict, Iterator, List, Optional, Sequence, Set, Tuple
 
 from . import box_grid, nearest_places
 from .box_tree import Tree
-from .plane import Box, Line, Spot
+from .pieces import Box, Line, Spot
 from .segments import box_of_line, cross, point_within, segments_within
 from .shapes import Shapes
 
