@@ -32,6 +32,13 @@ def has_board(folder: str) -> bool:
     return os.path.isfile(os.path.join(folder, "m.json")) or any(kind_of(os.path.join(folder, name)) == "gerber" for name in sorted(os.listdir(folder)))
 
 
+def is_sorted(names: Sequence[str], copper: str) -> bool:
+    """Whether folders are those of one board, its copper in one and its drills or netlist in another."""
+    others = (os.path.join(name, each) for name in names if name != copper and os.path.isdir(name)
+              for each in sorted(os.listdir(name)))
+    return not os.path.exists(os.path.join(copper, "m.json")) and any(kind_of(it) in ("drill", "netlist") for it in others)
+
+
 def boards_in(path: str) -> List[str]:
     """The boards of a folder that is none itself: archives, and folders of packages; nothing of any other path."""
     try:
@@ -40,6 +47,8 @@ def boards_in(path: str) -> List[str]:
         names = [os.path.join(path, name) for name in sorted(os.listdir(path))]
         archives = [name for name in names if name.lower().endswith(".zip") and os.path.isfile(name)]
         found = archives + [name for name in names if os.path.isdir(name) and has_board(name)]
+        if len(found) == 1 and not archives and is_sorted(names, found[0]):
+            return []
         is_board = any(kind_of(name) in ("gerber", "drill", "netlist") for name in names if name not in archives) if found else False
     except OSError:
         return []

@@ -12,7 +12,8 @@ BLANKS = b" \t\r"
 # Parts of a file: before `M48`, up to `%` or `M95`, up to `M30`, and behind. Without `M48` there is no header.
 FRONT, HEADER, BODY, BEHIND = "front", "header", "body", "behind"
 START, HEADER_ENDS, END = b"M48", (b"%", b"M95"), b"M30"
-NUMBER = rb"[+-]?[0-9.]+"
+# What `check` takes for a decimal, and more digits.
+NUMBER = rb"[+-]?(?:[0-9]{1,30}\.?[0-9]{0,30}|\.[0-9]{1,30})"
 XY = rb"(?:X(" + NUMBER + rb"))?(?:Y(" + NUMBER + rb"))?"
 PLACES = re.compile(rb"(G0?[01](?=[XY]))?" + XY + rb"(?:(G85)" + XY + rb")?")
 TOOL = re.compile(rb"T([0-9]{1,4})((?:[A-Z]" + NUMBER + rb")+)")
