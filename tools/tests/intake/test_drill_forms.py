@@ -5,7 +5,7 @@ import unittest
 from fractions import Fraction
 
 from boardnet_show.base.statuses import Stop
-from boardnet_show.formats.drills import gerber_drills
+from boardnet_show.formats.drills import drill_plating, gerber_drills
 from boardnet_show.formats.units import INCH, MM
 from boardnet_show.geometry.exact import Refused
 from boardnet_show.intake import file_kinds
@@ -317,6 +317,20 @@ class NearMisses(Case):
         name, drilled, _ = SILENT["orcad, pads"]
         self.assertNotIn(b"M48", self.mended(name, drilled.replace("T2C0.040", "T1C0.040"))[0])
         self.assertIn(b"\nT2C0.040C0.041F200S100\n", self.mended(name, drilled.replace("T2C0.040", "T2C0.040C0.041"))[0])
+
+    def test_plating_goes_with_a_tool(self):
+        """What a comment says of a tool that the body defines goes to the header with it; where it says it of what stays, there is no header."""
+        own, of_allegro = "; #@! TA.AperFunction,NonPlated,NPTH", ";T02 Holesize 2. = 1.0 Tolerance = +0.0/-0.0 NON_PLATED MM Quantity = 1"
+        rows = ((("%", "M71", "T1C0.4", "X1.0Y1.0", own, "T2C1.0", "X2.0Y2.0"), 7), (("M48", "METRIC", "%", "T1C0.4", "X1.0Y1.0", own, "T2C1.0", "X2.0Y2.0"), 8),
+                (("%", "M71", "T1C0.4", "X1.0Y1.0", of_allegro, "T2C1.0", "X2.0Y2.0"), 7), ((";TYPE=PLATED", "%", "M71", "T1C0.4", "X1.0Y1.0", ";TYPE=NON_PLATED", "X2.0Y2.0"), 7))
+        for lines, line in rows:
+            self.assertEqual(drill_plating.unplated_hole(text(*lines, "M30").encode()), line, lines)
+        data, _, _ = self.mended("m.drl", text(";TYPE=PLATED", "%", "M71", "T1C0.4", "X1.0Y1.0", ";TYPE=NON_PLATED", "T2C1.0", "X2.0Y2.0", "M30"))
+        self.assertEqual(read(data), [(1000, 1000, 400)])
+        for lines in (("%", "M71", "T1C0.4", own, "X1.0Y1.0", "T2C1.0", "X2.0Y2.0"), ("%", "M71", "T1C0.4", "X1.0Y1.0", own, "T1C0.4", "X2.0Y2.0"),
+                      ("M48", "METRIC", "T1C0.4", "%", "T1", "X1.0Y1.0", own, "T1C0.4", "X2.0Y2.0")):
+            its = text(*lines, "M30").encode()
+            self.assertEqual(drill_mends.mended(its, drill_numbers.settled("m.drl", its, ""))[0].count(b"T1C0.4"), its.count(b"T1C0.4"), lines)
 
     def test_counts(self):
         """Stops between tools, and repeats, are read where as many holes are there as the comments say."""
