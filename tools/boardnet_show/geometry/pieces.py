@@ -1,6 +1,6 @@
 """Pieces of copper as values, of whole places in u: a capsule is all that is within a radius of a line, or of a place;
 an area is a contour with its inside."""
-from typing import TYPE_CHECKING, List, Literal, Tuple, Union
+from typing import TYPE_CHECKING, Any, List, Literal, Tuple, Union
 
 if TYPE_CHECKING:       # loading it takes longer than a small board has
     from fractions import Fraction
@@ -18,3 +18,5 @@ Box = Tuple[int, int, int, int]             # left, low, right, high
 Number = Union[int, "Fraction"]
 Interval = Tuple["Fraction", "Fraction"]
 Point = Tuple[Interval, Interval]
+# A real figure: its kind, and what that is told by.
+Figure = Tuple[Any, ...]
