@@ -4,7 +4,7 @@ from typing import NamedTuple, Optional
 
 LINE = r"(?P<file>.*): (?P<form>Gerber|drill|netlist|flatten) (?P<number>\d+) (?P<kind>\w+) at (?P<unit>command|line) (?P<place>\d+)(?:, byte (?P<byte>\d+))?"
 GERBER, FLATTEN = "Gerber", "flatten"
-MACRO, WRONG_LAYER, IMPLIED_DECIMALS = "Macro", "WrongLayer", "ImpliedDecimals"
+MACRO, WRONG_LAYER, IMPLIED_DECIMALS, BAD_ACCESS = "Macro", "WrongLayer", "ImpliedDecimals", "BadAccess"
 # What copper files hold that bounds may be given for.
 BOUNDED = {"ClearPolarity", "Arc", MACRO, "Block", "Polygon", "Hole", "Transform", "ApertureTwice", "PenNotCircle", "OffGrid", "NegativeFile",
            "TooManyVertices", "NoOperation"}

@@ -6,7 +6,7 @@ status stays what it is.
 from functools import partial
 from typing import NamedTuple, Optional, Tuple, Union
 
-from boardnet_show.base.refusals import IMPLIED_DECIMALS, WRONG_LAYER, Refusal
+from boardnet_show.base.refusals import BAD_ACCESS, IMPLIED_DECIMALS, WRONG_LAYER, Refusal
 from boardnet_show.base.statuses import Stop
 from boardnet_show.formats.report import Report
 from boardnet_show.intake.cad_tools import setting
@@ -150,6 +150,15 @@ def recoded(rule, trials, base):
             yield hint("access codes", answer), answer
 
 
+def coded(trials, base):
+    """Access codes that are no layer of the board read otherwise, where the netlist is taken so."""
+    for rule in access_codes.RULES:
+        for change, files in access_codes.recoded(base.package, *rule):
+            answer = trials.of(base, change, files)
+            if answer.report:
+                yield hint("access codes", answer), answer
+
+
 def best(trials, base, kind, changes, names):
     """The best of some changes, tried until one agrees, where it leaves fewer faults."""
     found = None
@@ -251,7 +260,7 @@ def fitted(trials, base):
 def all_hints(program, told, ties):
     trials = Trials(program, ties)
     base = trials.trial(told)
-    for kind, changed in ((WRONG_LAYER, labelled), (IMPLIED_DECIMALS, decimals)):
+    for kind, changed in ((WRONG_LAYER, labelled), (IMPLIED_DECIMALS, decimals), (BAD_ACCESS, coded)):
         if base.is_refused_for(kind) and not base.report:
             found = list(changed(trials, base))
             yield from (each for each, _ in found)
