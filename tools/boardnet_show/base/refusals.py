@@ -47,4 +47,4 @@ def of_line(line: str) -> Optional[Refusal]:
     if not found:
         return None
     its = found.groupdict()
-    return Refusal(its["file"], its["form"], int(its["number"]), its["kind"], its["unit"], int(its["place"]), its["byte"] and int(its["byte"]))
+    return Refusal(its["file"], its["form"], int(its["number"]), its["kind"], its["unit"], int(its["place"]), int(its["byte"]) if its["byte"] else None)

@@ -12,7 +12,7 @@ FULL = (errno.ENOSPC, errno.EDQUOT)
 class Stop(Exception):
     """Why a board is not shown, and the status that says so."""
 
-    def __init__(self, status, words):
+    def __init__(self, status: int, words: str) -> None:
         super().__init__(words)
         self.status = status
 
@@ -21,7 +21,7 @@ class BadCopper(Exception):
     """Shapes that do not belong to a report."""
 
 
-def fault_of(path, fault):
+def fault_of(path: str, fault: Exception) -> Stop:
     """What ends a PATH where something happens that nothing here foresees."""
     if isinstance(fault, Stop):
         return fault
@@ -32,8 +32,8 @@ def fault_of(path, fault):
     if isinstance(fault, OSError) and fault.errno in FULL:
         return Stop(UNWRITABLE, f"{path}: {fault.strerror}")
     step = fault.__traceback__
-    while step.tb_next:
+    while step and step.tb_next:
         step = step.tb_next
-    where = f"{step.tb_frame.f_code.co_filename.rsplit('/', 1)[-1]} line {step.tb_lineno}"
+    where = f"{step.tb_frame.f_code.co_filename.rsplit('/', 1)[-1]} line {step.tb_lineno}" if step else "no line"
     words = " ".join(f"{type(fault).__name__} {fault}".split())[:120]
     return Stop(FAULT, f"{path}: a fault of `show` itself, which is no answer on the board ({words}, in {where}): please report it with this file")

@@ -61,7 +61,8 @@ class Cut:
 
     def names_on(self, net: int) -> Dict[int, List[Tuple[Spot, str]]]:
         """For each piece the points on it, with their names; tied ones are one."""
-        board, points, found = self.board, self.board.points_of[net], {}
+        board, points = self.board, self.board.points_of[net]
+        found: Dict[int, List[Tuple[Spot, str]]] = {}
         boxes = [board.touching.box(piece) for piece in self.pieces] + [board.spot(point) * 2 for point in points]
         for i, j in box_grid.pairs(boxes):
             i, j = max(i, j), min(i, j)

@@ -1,16 +1,18 @@
 """All that is known of a board once it was judged, as a value: each step gives one with more in it."""
 import os
-from typing import Any, List, NamedTuple, Optional, Sequence, Tuple
+from typing import TYPE_CHECKING, Any, List, NamedTuple, Optional, Sequence, Tuple
 
 from boardnet_show.formats.report import Report
 from boardnet_show.intake.package import Taken
 from boardnet_show.judging import net_ties
 from boardnet_show.judging.answers import Answer, Counts
-from boardnet_show.judging.two_bounds import Bounded
 
 from .board import Board
 from .finding import GAP, Finding
 from .waivers import Waived, Waiver
+
+if TYPE_CHECKING:       # most boards have no bounds, and loading takes longer than a small board
+    from boardnet_show.judging.two_bounds import Bounded
 
 
 class Explained(NamedTuple):
@@ -25,7 +27,7 @@ class Explained(NamedTuple):
     board: Optional[Board] = None
     findings: Sequence[Finding] = ()
     hints: Sequence[Any] = ()
-    bounds: Optional[Bounded] = None
+    bounds: "Optional[Bounded]" = None
     reports: Sequence[Report] = ()
     report: bytes = b""
     mends: Sequence[Any] = ()

@@ -61,7 +61,7 @@ class Reader:
             self.need(name in names, f"`{name}` is none of {', '.join(names)}")
         for name in must:
             self.need(name in value, f"`{name}` is missing in {json.dumps(value)[:80]}")
-        return value
+        return dict(value)
 
     def texts(self, value: Any, what: str) -> Tuple[str, ...]:
         self.need(isinstance(value, list) and bool(value) and all(isinstance(it, str) and it for it in value), f"{what} is no list of names")
@@ -185,7 +185,8 @@ class Reader:
             "changes": self.change, "made": self.change, "taken": self.taken, "plated": self.drilled, "ties": self.tie, "waivers": self.waiver}
         self.need(its.get("no_drills", True) is True, "`no_drills` is not true")
         netlist = self.words(its["netlist"], "`netlist`") if "netlist" in its else ""
-        return Declared(self.source, *(self.all_of(its, key, of[key]) for key in KEYS), netlist, "no_drills" in its)
+        changes, made, taken, drilled, ties, waivers = (self.all_of(its, key, of[key]) for key in KEYS)
+        return Declared(self.source, changes, made, taken, drilled, ties, waivers, netlist, "no_drills" in its)
 
 
 def once(pairs: List[Tuple[str, Any]]) -> Dict[str, Any]:
@@ -247,7 +248,9 @@ def values(declared: Declared) -> Dict[str, Any]:
         "taken": [{"file": it.file, "as": it.what} for it in declared.taken],
         "plated": [{"file": it.file, "from": it.first, "to": it.last} for it in declared.drilled],
         "ties": [text.split("=") for text in declared.ties], "waivers": [*map(waiver_values, declared.waivers)]}
-    more = {**({"netlist": declared.netlist} if declared.netlist else {}), **({"no_drills": True} if declared.has_no_drills else {})}
+    more: Dict[str, Any] = {"netlist": declared.netlist} if declared.netlist else {}
+    if declared.has_no_drills:
+        more["no_drills"] = True
     return {"boardnet": FORM, **{key: its for key, its in rows.items() if its}, **more}
 
 

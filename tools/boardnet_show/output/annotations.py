@@ -5,6 +5,7 @@ GitHub's "Workflow commands for GitHub Actions" has their form: `::error file=NA
 from typing import Iterator
 
 from .causes import Cause, causes_of
+from .shown import Shown
 from .text_lines import summary
 
 IN_MESSAGE = {"%": "%25", "\r": "%0D", "\n": "%0A"}
@@ -25,7 +26,7 @@ def row(cause: Cause) -> str:
     return f"::{word} {place}title={value_of(cause.name)}::{message(cause.words)}"
 
 
-def rows(shown) -> Iterator[str]:
+def rows(shown: Shown) -> Iterator[str]:
     """The causes of one board, and then its own line; no line begins with a text of the board's, which the runner could obey."""
     yield from map(row, causes_of(shown))
     yield f"::notice title=boardnet::{message(summary(shown))}"

@@ -1,29 +1,38 @@
 """The findings as JSON (docs/using/forms.md, "The JSON form"). Lengths are millimetres, exact."""
-from boardnet_show.findings.finding import GAP, NECK
+from typing import Any, Dict, Iterator, List, Sequence, Tuple
+
+from boardnet_show.findings.board import Board
+from boardnet_show.findings.finding import GAP, NECK, Finding
+from boardnet_show.findings.meeting_places import Meet
+from boardnet_show.findings.waivers import Waived
 from boardnet_show.fitting import declaration_file
+from boardnet_show.fitting.declared_changes import Declaration
+from boardnet_show.fitting.hints import Hint
 from boardnet_show.formats import indented_json
 from boardnet_show.formats.ipc356 import NO_NET
 from boardnet_show.intake.package import Drilled, Taken
 from boardnet_show.judging import net_ties
 
 from .sentences import answers, declarations, hints
+from .shown import Shown
 
+Place = Tuple[int, int]
 FORM = 3
 # As many points of a part of an open are told.
 MOST_OF_A_PART = 12
 
 
-def mm(u):
+def mm(u: int) -> float:
     """A number whose decimal text is exact: u has at most eleven digits."""
     return u / 10_000_000
 
 
-def place_object(spot, layer):
+def place_object(spot: Place, layer: int) -> Dict[str, Any]:
     x, y = map(mm, spot)
     return {"x": x, "y": y, "layer": layer}
 
 
-def point(board, number):
+def point(board: Board, number: int) -> Dict[str, Any]:
     record, layer, name, net = board.report.points[number]
     found = board.record(number)
     return {"point": number, "record": record, "line": board.line(number), "component": found.component if found else "",
@@ -31,23 +40,24 @@ def point(board, number):
             **place_object(board.spot(number), layer)}
 
 
-def piece(board, number):
+def piece(board: Board, number: int) -> Dict[str, Any]:
     file, command, copy, top, bottom = board.report.sources[number]
     word = "line" if board.manifest.is_drilled(file) else "command"
     return {"piece": number, "file": board.manifest.files[file], word: command, "copy": copy, "top": top, "bottom": bottom,
             **({"label": board.labels[number]} if number in board.labels else {})}
 
 
-def meet(board, found):
+def meet(board: Board, found: Meet) -> Dict[str, Any]:
     pieces = [{**piece(board, number), "of": found.names[0] if at <= found.near else found.names[1] if at >= found.far else None}
               for at, number in enumerate(found.chain)]
     return {"names": list(found.names), **place_object(found.place, found.layer), "touch": [piece(board, number) for number in found.touch],
             "between": [piece(board, number) for number in found.between], "path": pieces}
 
 
-def finding(board, one):
-    told = {"id": one.id, "kind": one.kind, "names": [board.name(name) for name in one.names], "words": one.words, "hints": one.hints,
-            "points": [point(board, number) for number in one.points], "nets": one.nets}
+def finding(board: Board, one: Finding) -> Dict[str, Any]:
+    told: Dict[str, Any] = {
+        "id": one.id, "kind": one.kind, "names": [board.name(name) for name in one.names], "words": one.words, "hints": one.hints,
+        "points": [point(board, number) for number in one.points], "nets": one.nets}
     if one.parts:
         told["parts"] = [{"count": len(part), "points": [point(board, number) for number in part[:MOST_OF_A_PART]]} for part in one.parts]
     if one.gap:
@@ -61,38 +71,43 @@ def finding(board, one):
     return told
 
 
-def absent_ties(shown):
+def absent_ties(shown: Shown) -> Iterator[Dict[str, Any]]:
     """The ties of names that no test point has, as findings without a place."""
     for number, (it, words) in enumerate(net_ties.absent(shown.seen.ties, shown.board.report)):
         yield {"id": f"tie-{number}", "kind": "tie", "names": list(it.names), "words": words, "hints": [], "points": [], "nets": [],
                **({"sure": True} if shown.bounds else {})}
 
 
-def like_of(likeness):
+def like_of(likeness: Any) -> Dict[str, Any]:
     """The comparison with another board."""
-    places = lambda its: [place_object((x, y), layer) for x, y, layer in its]
+    def places(its: Sequence[Tuple[int, int, int]]) -> List[Dict[str, Any]]:
+        return [place_object((x, y), layer) for x, y, layer in its]
     return {"path": likeness.path, "status": likeness.status, "line": likeness.line, "placed": likeness.placed, "not_compared": likeness.untouched, "differences": [
         {**each._asdict(), "places": places(each.places), "places_there": places(each.places_there)} for each in likeness.differences]}
 
 
-def declaration(declared):
+def declaration(declared: Declaration) -> Dict[str, Any]:
     """What is declared, as the file has it, in words, and what became of it."""
     what = declared.what
-    values = ({"file": what.file, "as": what.what} if isinstance(what, Taken) else {"of": "plated", "file": what.file, "from": what.first, "to": what.last}
-              if isinstance(what, Drilled) else declaration_file.change_values(what))
+    if isinstance(what, Taken):
+        values: Dict[str, Any] = {"file": what.file, "as": what.what}
+    elif isinstance(what, Drilled):
+        values = {"of": "plated", "file": what.file, "from": what.first, "to": what.last}
+    else:
+        values = declaration_file.change_values(what)
     return {**values, "words": declarations.what_words(declared), "source": declared.source, "stale": declared.is_stale, "made_before": declared.was_made}
 
 
-def signed(board, waived):
+def signed(board: Board, waived: Waived) -> Dict[str, Any]:
     """A finding that is waived, with its waiver."""
     return {**finding(board, waived.finding), "waiver": declaration_file.waiver_values(waived.waiver)}
 
 
-def hint_of(hint):
+def hint_of(hint: Hint) -> Dict[str, Any]:
     return {"kind": hint.kind, "words": hints.words(hint), "answer_status": hint.answer.status, "answer_line": answers.bare_line(hint.answer), "explains": hint.explains}
 
 
-def board_of(shown):
+def board_of(shown: Shown) -> Dict[str, Any]:
     """One board."""
     seen = shown.seen
     told = {"path": shown.path, "status": shown.status, "line": shown.line, "notes": shown.notes,
@@ -118,5 +133,5 @@ def board_of(shown):
             **shown.seen.counts()._asdict(), **shown.found_counts(), "flood": seen.flood, "waived": [signed(board, it) for it in seen.waived], "findings": [*(finding(board, it) for it in shown.findings), *absent_ties(shown)]}
 
 
-def json_text(all_shown):
+def json_text(all_shown: Sequence[Shown]) -> str:
     return indented_json.indented({"boardnet_show": FORM, "boards": [board_of(shown) for shown in all_shown]}) + "\n"
