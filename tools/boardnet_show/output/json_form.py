@@ -117,6 +117,8 @@ def board_of(shown: Shown) -> Dict[str, Any]:
     if shown.bounds:
         told["bounds"] = {"findings": [{"kind": kind, "sure": sure, "words": words, "places": [place_object((x, y), layer) for x, y, layer in places]}
                                        for kind, sure, words, places in shown.bounds.findings], "left_out": list(shown.bounds.left_out)}
+    if shown.answer.both:
+        told["bounds"].update(lower=shown.answer.both.lower, upper=shown.answer.both.upper)
     if shown.requested.gap_count is not None:
         told["gaps"] = shown.requested.gap_count
     if shown.requested.like:

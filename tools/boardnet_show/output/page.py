@@ -21,7 +21,7 @@ from boardnet_show.findings.meeting_places import Meet
 
 from . import record_page, text_lines
 from .markup import in_html
-from .sentences import declarations, hints
+from .sentences import answers, declarations, hints
 from .shown import Shown
 from .text_lines import cut
 
@@ -248,6 +248,7 @@ def folded(shown: Shown) -> str:
     """The other notes, which most do not want, behind a line that counts them."""
     above = declarations.notes(shown.seen)
     told = [words for words in shown.notes if words not in above]
+    told += [answers.bounds_words(shown.answer.both)] if shown.answer.both else []
     count = f", and {counted(len(told), 'note')}" if told else ""
     return f'<summary>How it was judged{count}</summary>\n<p class="facts">{in_html(facts(shown))}</p>\n{paragraphs(told)}'
 

@@ -5,6 +5,7 @@ from boardnet_show.base.statuses import REFUSED, UNDECIDED, UNJUDGED
 from boardnet_show.base.wording import counted
 from boardnet_show.findings.finding import Finding, doubt
 
+from .sentences import answers, hints
 from .shown import Shown
 
 MOST = 20
@@ -93,6 +94,8 @@ def reader(shown: Shown, is_all: bool) -> Iterator[str]:
     if left:
         yield f"{counted(left, 'further finding')}: --all prints them, --page FILE shows them"
     yield from cut(bounded(shown), is_all)
+    if is_all and shown.answer.both:
+        yield f"  {answers.bounds_words(shown.answer.both)}"
     yield from cut(list(extra_lines(shown)), is_all)
 
 
