@@ -110,7 +110,7 @@ def hint_of(hint: Hint) -> Dict[str, Any]:
 def board_of(shown: Shown) -> Dict[str, Any]:
     """One board."""
     seen = shown.seen
-    told = {"path": shown.path, "status": shown.status, "line": shown.line, "notes": shown.notes,
+    told: Dict[str, Any] = {"path": shown.path, "status": shown.status, "line": shown.line, "notes": shown.notes,
             "declarations": list(map(declaration, seen.declared)), "stale_waivers": list(map(declaration_file.waiver_values, seen.stale)),
             "mends": [it._asdict() for it in shown.seen.mends],
             "hints": list(map(hint_of, shown.hints))}
