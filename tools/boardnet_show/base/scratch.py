@@ -1,4 +1,5 @@
-"""A folder of our own for the time of one board. The library has the same in two modules that take longer to load than a small board."""
+"""A folder of our own for the time of one board. The library has the same in two modules that take longer to load
+than a small board."""
 import os
 
 PLACES = ("TMPDIR", "TEMP", "TMP")

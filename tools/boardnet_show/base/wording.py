@@ -3,14 +3,17 @@ from typing import Iterable, Optional
 
 
 def printable(text: str) -> str:
-    """A text as it is told wherever: controls, marks of direction, other ends of lines and halves of characters, which names in files may
-    have, are written by their numbers, since on a terminal or a page they hide or turn round what stands beside them."""
+    """A text as it is told wherever: controls, marks of direction, other ends of lines and halves of characters, which
+    names in files may have, are written by their numbers, since on a terminal or a page they hide or turn round what
+    stands beside them."""
     return text if text.isprintable() else "".join(it if it.isprintable() else numbered(ord(it)) for it in text)
 
 
 def numbered(code: int) -> str:
     """A character by its number; a byte of a name that is no UTF-8 by that."""
-    return f"\\x{code - 0xdc00:02x}" if 0xdc80 <= code <= 0xdcff else f"\\u{code:04x}" if code <= 0xffff else f"\\U{code:08x}"
+    if 0xdc80 <= code <= 0xdcff:
+        return f"\\x{code - 0xdc00:02x}"
+    return f"\\u{code:04x}" if code <= 0xffff else f"\\U{code:08x}"
 
 
 def with_ends(text: str) -> str:

@@ -9,7 +9,8 @@ from .statuses import UNWRITABLE, Stop
 
 
 def write(path: str, text: Union[str, bytes]) -> None:
-    """Writes a file by a new one that takes its place; `-` is the standard output. Names that are no UTF-8 stay the bytes that they are."""
+    """Writes a file by a new one that takes its place; `-` is the standard output. Names that are no UTF-8 stay the
+    bytes that they are."""
     data = text.encode("utf-8", "surrogateescape") if isinstance(text, str) else text
     try:
         if path == "-":
@@ -29,7 +30,8 @@ def write(path: str, text: Union[str, bytes]) -> None:
 
 
 def notes() -> None:
-    """Where the standard error was closed before the start, notes go nowhere: Python would print them on the standard output."""
+    """Where the standard error was closed before the start, notes go nowhere: Python would print them on the
+    standard output."""
     if sys.stderr is None:
         sys.stderr = open(os.devnull, "w", encoding="ascii", errors="replace")
 

@@ -64,7 +64,8 @@ def package_notes(files):
 
 
 def by_own_names(files, asked):
-    """Has the board judged by the copper's own names where there is no netlist or where it is asked; answers the notes."""
+    """Has the board judged by the copper's own names where there is no netlist or where it is asked; answers the
+    notes."""
     if not files.manifest:
         return []
     if files.manifest.netlist and not asked.labels:
@@ -212,31 +213,28 @@ def sorted_by(its):
     return its.sorted_files() if its else package.Sorted()
 
 
-def changed(files, its):
-    """Makes the declared changes of the files, and answers all that is declared."""
-    if not its or not files.manifest:
-        return []
-    from . import declared
-    return declared.made(files, its)
+def mended_and_changed(files, its, asked, progress):
+    """Mends the files, and makes the declared changes; answers all that is declared."""
+    is_declared = its and files.manifest
+    if is_declared:
+        from . import declared
+        digits = declared.digits_read(files, its)
+    mending.mend(files, progress, asked.yes, sorted_by(its).taken)
+    return declared.made(files, its, digits) if is_declared else []
 
 
 def agrees_without(path, asked, program, scratch, its, ties):
     """A note where the files as they came agree, so that what is declared of them does not fit any more."""
     inner = os.path.join(scratch, "undeclared")
     os.makedirs(inner)
-    files = package.opened(path, asked, inner, declared=lambda _: its.sorted_files())
-    by_own_names(files, asked)
-    mending.mend(files, program.progress, asked.yes, its.sorted_files().taken)
-    agrees = ties.answer(judged.judge(program, files)).status == 0
-    return ["what is declared does not fit these files any more: without its changes they agree"] if agrees else []
-
-
-def opened(path, asked, scratch, declared):
-    """The package of a PATH; where it wants a yes, all is said that it is wanted for."""
     try:
-        return package.opened(path, asked, scratch, declared=declared)
-    except package.Unconfirmed as unconfirmed:
-        raise mending.with_readings(unconfirmed) from None
+        files = package.opened(path, asked, inner, declared=lambda _: its.sorted_files())
+        by_own_names(files, asked)
+        mending.mend(files, program.progress, asked.yes, its.sorted_files().taken)
+        agrees = ties.answer(judged.judge(program, files)).status == 0
+    except Stop:            # they are not judged so
+        agrees = False
+    return ["what is declared does not fit these files any more: without its changes they agree"] if agrees else []
 
 
 def keep(files, seen, folder):
@@ -274,8 +272,8 @@ def shown_once(path, asked, program, scratch, taken):
         own_names.take_whole(files)
         ties = net_ties.declared(asked.tie, files, its.ties() if its else ())
         shown = shown._replace(seen=shown.seen._replace(ties=ties))
-        mending.mend(files, program.progress, asked.yes, sorted_by(its).taken)
-        shown = shown._replace(seen=shown.seen._replace(declared=changed(files, its), taken=files.taken))
+        said = mended_and_changed(files, its, asked, program.progress)
+        shown = shown._replace(seen=shown.seen._replace(declared=said, taken=files.taken))
         told = judged.judge(program, files)
         shown = shown._replace(seen=shown.seen._replace(answer=ties.answer(told), audit=told.audit, report=told.text or b"",
                                                         notes=own + package_notes(files)))

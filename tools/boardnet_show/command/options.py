@@ -20,8 +20,8 @@ def nothing():
 
 
 def plain(given):
-    """The words where each option is written whole with its value behind it, and the paths stand together, as nearly all are; None
-    where the parser is to judge them, which takes longer to load than a small board."""
+    """The words where each option is written whole with its value behind it, and the paths stand together, as nearly
+    all are; None where the parser is to judge them, which takes longer to load than a small board."""
     asked, rest, may_come = nothing(), iter(given), True
     for word in rest:
         if not word.startswith("-"):

@@ -145,8 +145,8 @@ def pictures(asked, shown):
 
 
 def write(asked, all_shown):
-    """Writes what was asked for, and prints the rest. Where a form goes to the standard output, nothing else does: what is told goes
-    to the standard error where there is no such form."""
+    """Writes what was asked for, and prints the rest. Where a form goes to the standard output, nothing else does:
+    what is told goes to the standard error where there is no such form."""
     is_form = False
     for path, text in forms(asked, all_shown):
         is_form = is_form or path == "-"

@@ -1,4 +1,5 @@
-"""What findings are told about: the report, the files that it speaks of, the netlist's records, and the copper where it is known."""
+"""What findings are told about: the report, the files that it speaks of, the netlist's records, and the copper where
+it is known."""
 from collections import defaultdict
 from functools import cached_property
 from typing import TYPE_CHECKING, Any, Dict, List, Optional, Sequence, Tuple
@@ -23,7 +24,8 @@ def touching(shapes: "Shapes", report: Report) -> Any:
 
 
 class Board:
-    """`shapes` is None where the copper is not known, `labels` (names of pieces by the files' own labels) where there are none."""
+    """`shapes` is None where the copper is not known, `labels` (names of pieces by the files' own labels) where
+    there are none."""
 
     def __init__(self, package: Package, report: Report, records: Sequence[Any], shapes: "Optional[Shapes]", labels: Optional[Dict[int, str]],
                  ties: Optional[Ties]) -> None:

@@ -16,9 +16,11 @@ if TYPE_CHECKING:       # most boards have no bounds, and loading takes longer t
 
 
 class Explained(NamedTuple):
-    """`board` is None where nothing was judged. `notes` are sentences on what was taken and what is not known, `hints` answers of `check` on
-    changed copies, `bounds` the answer on a board that lies between two, `reports` the report twice, or those of a lower and an upper board,
-    `report` its text, `taken` what its files were taken as, `declared` what is declared of them, `stale` the waivers of no finding, `wider` what an upper board has beyond a lower one, as (layer, corners)."""
+    """`board` is None where nothing was judged. `notes` are sentences on what was taken and what is not known, `hints`
+    answers of `check` on changed copies, `bounds` the answer on a board that lies between two, `reports` the report
+    twice, or those of a lower and an upper board, `report` its text, `taken` what its files were taken as, `declared`
+    what is declared of them, `stale` the waivers of no finding, `wider` what an upper board has beyond a lower one, as
+    (layer, corners)."""
 
     title: str
     answer: Answer
@@ -43,8 +45,9 @@ class Explained(NamedTuple):
         return self._replace(notes=[*self.notes, *notes])
 
     def counts(self) -> Counts:
-        """What the line counts: lines of the report, but for shorts that are declared ties, and apart the ties that no copper makes.
-        Between two bounds these are of the board that makes them certain: shorts of the lower one, all else of the upper one."""
+        """What the line counts: lines of the report, but for shorts that are declared ties, and apart the ties that no
+        copper makes. Between two bounds these are of the board that makes them certain: shorts of the lower one, all
+        else of the upper one."""
         low, high = self.reports
         return self.ties.counts(high)._replace(shorts=self.ties.counts(low).shorts)
 

@@ -1,4 +1,5 @@
-"""What is declared of a board, as a file beside it says it and is written: JSON, whose lengths are millimetres (docs/using/declarations.md).
+"""What is declared of a board, as a file beside it says it and is written: JSON, whose lengths are millimetres
+(docs/using/declarations.md).
 
 Nothing that is not understood is passed over: a word that is misspelt is refused.
 """
@@ -27,8 +28,8 @@ DATE = re.compile(r"\d{4}-(?:0[1-9]|1[0-2])-(?:0[1-9]|[12]\d|3[01])")
 
 
 class Declared(NamedTuple):
-    """`changes` are made of the files, in order; `made` were made of them before. `taken` is what files are taken as, `drilled` which of them
-    are plated and the layers of their holes; `source` is the file."""
+    """`changes` are made of the files, in order; `made` were made of them before. `taken` is what files are taken as,
+    `drilled` which of them are plated and the layers of their holes; `source` is the file."""
 
     source: str = ""
     changes: Tuple[Change, ...] = ()

@@ -25,8 +25,9 @@ UPSIDE_DOWN = 2     # the turn of `placement.FORMS` that a tool's setting makes
 
 
 class Hint(NamedTuple):
-    """What was changed and what `check` says then. `changes` are all that were made in that copy, in their order, this one the last; `setting` is
-    the tool's that would make it so; `explains` says that it leaves less than half of the findings."""
+    """What was changed and what `check` says then. `changes` are all that were made in that copy, in their order, this
+    one the last; `setting` is the tool's that would make it so; `explains` says that it leaves less than half of the
+    findings."""
 
     kind: str
     change: Union[Change, NowherePlaced]
@@ -38,8 +39,8 @@ class Hint(NamedTuple):
 
 
 class Trial(NamedTuple):
-    """What `check` says of a package, or both bounds where only they can be asked; `report` is then the upper one's. `refusals` are those of
-    the package and of a bound, and `changes` what was changed in it."""
+    """What `check` says of a package, or both bounds where only they can be asked; `report` is then the upper one's.
+    `refusals` are those of the package and of a bound, and `changes` what was changed in it."""
 
     package: Package
     answer: answers.Answer
@@ -118,7 +119,8 @@ def hint(kind, trial, words=""):
 
 
 def decimals(trials, base):
-    """Every reading of numbers without a point that fits, with its answer; where no hole says which fits, those that agree."""
+    """Every reading of numbers without a point that fits, with its answer; where no hole says which fits, those that
+    agree."""
     from .drill_decimals import implied
     for change, files, on in implied(base.package):
         answer = trials.of(base, change, files)
@@ -173,7 +175,8 @@ def best(trials, base, kind, changes, names):
 
 
 def drills(trials, base):
-    """Drill files whose holes miss the pads moved onto them: all by the same change, then the first few each by its own."""
+    """Drill files whose holes miss the pads moved onto them: all by the same change, then the first few each by its
+    own."""
     if not base.package.manifest.drills or not base.rank()[1] or base.is_misplaced():
         return
     holes = trials.holes(base.package)
@@ -219,7 +222,8 @@ def nowhere(base, best):
 
 
 def placed(trials, base):
-    """The best placement, and drills and layers once more, where they leave fewer faults and less than one point of five without copper."""
+    """The best placement, and drills and layers once more, where they leave fewer faults and less than one point of
+    five without copper."""
     best = best_placement(trials, base)
     if best is None:
         return

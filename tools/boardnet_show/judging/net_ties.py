@@ -1,4 +1,5 @@
-"""Net ties that are declared: names that the copper is meant to join, as `--tie A=B`, lines of ties.txt and pads of several nets say.
+"""Net ties that are declared: names that the copper is meant to join, as `--tie A=B`, lines of ties.txt and pads of
+several nets say.
 
 A short whose names are all tied together is such a tie and no finding. A tie that no copper makes is an open. What `check` says
 is not changed: its report has each tie as a short, and `audit` confirms that report.
@@ -46,8 +47,8 @@ def tie(text, source, whole=NONE_WHOLE):
 
 
 def declared(asked, package, declarations=()):
-    """The ties of the command, of (text, source) of declarations, of the file beside the manifest and of the copper's own names, each once,
-    by whole names."""
+    """The ties of the command, of (text, source) of declarations, of the file beside the manifest and of the copper's
+    own names, each once, by whole names."""
     rows = [*((text, "--tie") for text in asked), *declarations]
     found = [tie(text, source, package.whole)._replace(is_asked=True) for text, source in rows]
     try:

@@ -1,4 +1,5 @@
-"""Findings as annotations of GitHub Actions: workflow commands, one a line, as the runner reads them from the output of a step.
+"""Findings as annotations of GitHub Actions: workflow commands, one a line, as the runner reads them from the output
+of a step.
 
 GitHub's "Workflow commands for GitHub Actions" has their form: `::error file=NAME,line=N,title=TITLE::MESSAGE`.
 """
@@ -27,6 +28,7 @@ def row(cause: Cause) -> str:
 
 
 def rows(shown: Shown) -> Iterator[str]:
-    """The causes of one board, and then its own line; no line begins with a text of the board's, which the runner could obey."""
+    """The causes of one board, and then its own line; no line begins with a text of the board's, which the runner
+    could obey."""
     yield from map(row, causes_of(shown))
     yield f"::notice title=boardnet::{message(summary(shown))}"

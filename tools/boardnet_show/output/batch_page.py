@@ -11,7 +11,8 @@ STYLE = ("body{font:15px/1.5 'DejaVu Sans',sans-serif;margin:2em;max-width:75em;
 
 
 def page_names(path: str, all_shown: Sequence[Shown]) -> Dict[str, str]:
-    """The file of each board's own page, by the board's path: beside the list, numbered, since two boards may have one name."""
+    """The file of each board's own page, by the board's path: beside the list, numbered, since two boards may have
+    one name."""
     stem, ending = os.path.splitext(path)
     return {shown.path: f"{stem}-{number}{ending or '.html'}" for number, shown in enumerate(all_shown, 1)}
 

@@ -23,8 +23,8 @@ KINDS = {
 
 
 class Cause(NamedTuple):
-    """What is amiss: its kind, its name among the findings, what is told, whether it is certain, and the line of the netlist; the file is
-    None where it is about the board as a whole, the line then 0."""
+    """What is amiss: its kind, its name among the findings, what is told, whether it is certain, and the line of the
+    netlist; the file is None where it is about the board as a whole, the line then 0."""
 
     kind: str
     name: str

@@ -35,7 +35,8 @@ class Case(NamedTuple):
 
 
 def whole(shown: Shown, status: int, line: str) -> Case:
-    """The one case of a board whose names are not told one by one: it passes, fails or is an error as the board's status says."""
+    """The one case of a board whose names are not told one by one: it passes, fails or is an error as the board's
+    status says."""
     return Case("check", [(line, line)] if status else [], "failure" if status == 1 else "error")
 
 

@@ -32,7 +32,8 @@ TITLES = {"open": "Opens", "short": "Shorts", "missing": "Points without copper"
 # As the marks in the picture.
 SIGNS = {"open": "\u2296", "short": "\u2715", "missing": "\u25a1", "gap": "\u21d4", "cut": "\u2298", "outside": "\u21f1",
          "neck": "\u29d6"}
-# So many findings of a kind stand open, the further ones in folds; their suggestions stand in the data alone, which is packed.
+# So many findings of a kind stand open, the further ones in folds; their suggestions stand in the data alone, which is
+# packed.
 OPEN, FOLD = 300, 500
 FEW = 6             # files that are named
 SCRIPTS = ("data", "words", "view", "paint", "draw", "marks", "chosen", "list", "search", "move", "act")
@@ -82,7 +83,8 @@ class Columns:
 
 
 def sides_of(findings: Sequence[Finding], pieces: int) -> Tuple[List[int], Dict[str, List[str]]]:
-    """For each piece on a short the number, from 1, of its name among the finding's sides, else 0; and the sides of each finding."""
+    """For each piece on a short the number, from 1, of its name among the finding's sides, else 0; and the sides of
+    each finding."""
     column, names = [0] * pieces, {}
     for finding in findings:
         if finding.kind == "short":

@@ -1,4 +1,5 @@
-"""The findings in the Static Analysis Results Interchange Format, version 2.1.0 (OASIS): a run, with a result for each cause."""
+"""The findings in the Static Analysis Results Interchange Format, version 2.1.0 (OASIS): a run, with a result for
+each cause."""
 import os
 from typing import Any, Dict, Sequence
 from urllib.parse import quote
@@ -16,7 +17,8 @@ SCHEMA = "https://json.schemastore.org/sarif-2.1.0.json"
 
 
 def release() -> str:
-    """The release of the tools, where they say it: in a checkout a file of its own, installed the first line of another."""
+    """The release of the tools, where they say it: in a checkout a file of its own, installed the first line of
+    another."""
     for name in ("release", "version"):
         path = os.path.join(TOOLS, name)
         if os.path.isfile(path):

@@ -1,4 +1,5 @@
-"""A picture for a mail or a ticket: the whole board with its findings, or the place of one finding. Lengths are micrometres."""
+"""A picture for a mail or a ticket: the whole board with its findings, or the place of one finding. Lengths are
+micrometres."""
 from typing import Dict, Iterator, List, Optional, Sequence, Tuple
 
 from boardnet_show.base.statuses import NOT_UNDERSTOOD, Stop
@@ -60,7 +61,8 @@ class Picture:
         return grown(cover(boxes) if boxes else (0, 0, LEAST, LEAST), ROOM // 2)
 
     def finding_box(self, finding: Finding) -> Box:
-        """Its points with the copper beside them, or the chains of a short's names with where they meet, and what lies round them."""
+        """Its points with the copper beside them, or the chains of a short's names with where they meet, and what
+        lies round them."""
         shapes, meets = self.board.shapes, finding.meets[:3]
         spots = [self.board.spot(number) for number in finding.points] if finding.kind != "gap" else []
         places = [meet.place for meet in meets] or spots + ([finding.gap.place] if finding.gap else [])

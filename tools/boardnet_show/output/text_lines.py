@@ -5,7 +5,7 @@ from boardnet_show.base.statuses import REFUSED, UNDECIDED, UNJUDGED
 from boardnet_show.base.wording import counted
 from boardnet_show.findings.finding import Finding, doubt
 
-from .sentences import answers, hints
+from .sentences import answers
 from .shown import Shown
 
 MOST = 20
