@@ -237,6 +237,14 @@ def agrees_without(path, asked, program, scratch, its, ties):
     return ["what is declared does not fit these files any more: without its changes they agree"] if agrees else []
 
 
+def opened(path, asked, scratch, declared):
+    """The package of a PATH; where it wants a yes, all is said that it is wanted for."""
+    try:
+        return package.opened(path, asked, scratch, declared=declared)
+    except package.Unconfirmed as unconfirmed:
+        raise mending.with_readings(unconfirmed) from None
+
+
 def keep(files, seen, folder):
     """Keeps the files as they were judged, with what is declared of them still."""
     if seen.ties.ties:
