@@ -1,7 +1,7 @@
 """One board, from its files to its findings: each step gives a value to the next."""
 import os
 
-from boardnet_show.base.statuses import FAULT, REFUSED, UNDECIDED, BadCopper, fault_of
+from boardnet_show.base.statuses import FAULT, REFUSED, UNDECIDED, BadCopper, Stop, fault_of
 from boardnet_show.base.wording import spoken
 from boardnet_show.extras import requested
 from boardnet_show.findings.board import Board
