@@ -21,7 +21,7 @@ from boardnet_show.findings.meeting_places import Meet
 
 from . import record_page, text_lines
 from .markup import in_html
-from .sentences import answers, declarations, hints
+from .sentences import answers, declarations
 from .shown import Shown
 from .text_lines import cut
 
@@ -242,7 +242,7 @@ def paragraphs(told: Iterable[str]) -> str:
 
 def advice(shown: Shown) -> str:
     """What is told above the findings: hints, what is declared, a flood, and what was asked for besides."""
-    told = [*(f"hint: {hints.words(hint)}" for hint in shown.hints), *declarations.notes(shown.seen), *([shown.seen.flood] if shown.seen.flood else [])]
+    told = [*(f"hint: {words}" for words in text_lines.hint_words(shown)), *declarations.notes(shown.seen), *([shown.seen.flood] if shown.seen.flood else [])]
     return paragraphs([*told, *cut(list(text_lines.extra_lines(shown)), False)])
 
 
