@@ -4,5 +4,5 @@ import gc
 THRESHOLDS = (3_000_000, 20, 100)
 
 
-def collected():
+def collected() -> None:
     gc.set_threshold(*THRESHOLDS)

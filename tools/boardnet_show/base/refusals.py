@@ -2,17 +2,18 @@
 import re
 from typing import NamedTuple, Optional
 
-LINE = r"(?P<file>.*): (?P<form>Gerber|drill|netlist|flatten) (?P<number>\d+) (?P<kind>\w+) at (?P<unit>command|line) (?P<place>\d+)(?:, byte (?P<byte>\d+))?"
+LINE = (r"(?P<file>.*): (?P<form>Gerber|drill|netlist|flatten) (?P<number>\d+) (?P<kind>\w+) "
+        r"at (?P<unit>command|line) (?P<place>\d+)(?:, byte (?P<byte>\d+))?")
 GERBER, FLATTEN = "Gerber", "flatten"
-MACRO, WRONG_LAYER, IMPLIED_DECIMALS = "Macro", "WrongLayer", "ImpliedDecimals"
+MACRO, WRONG_LAYER, IMPLIED_DECIMALS, BAD_ACCESS = "Macro", "WrongLayer", "ImpliedDecimals", "BadAccess"
 # What copper files hold that bounds may be given for.
-BOUNDED = {"ClearPolarity", "Arc", MACRO, "Block", "Polygon", "Hole", "Transform", "ApertureTwice", "PenNotCircle", "OffGrid", "NegativeFile",
-           "TooManyVertices", "NoOperation"}
+BOUNDED = {"ClearPolarity", "Arc", MACRO, "Block", "Polygon", "Hole", "Transform", "ApertureTwice", "PenNotCircle", "OffGrid",
+           "NegativeFile", "TooManyVertices", "NoOperation"}
 
 
 class Refusal(NamedTuple):
-    """The file, what it was read as, the number and the name of the kind, and where: a command or a line, and the byte where one is said.
-    `is_comment` where it is by an attribute in a comment, which the program passes over."""
+    """The file, what it was read as, the number and the name of the kind, and where: a command or a line, and the byte
+    where one is said. `is_comment` where it is by an attribute in a comment, which the program passes over."""
 
     file: str
     form: str
@@ -35,7 +36,8 @@ class Refusal(NamedTuple):
 
 
 class Advice(NamedTuple):
-    """The way out of a refusal: the line of the file, 0 where the refusal says it, and what to export, in words of the tool that wrote it."""
+    """The way out of a refusal: the line of the file, 0 where the refusal says it, and what to export, in words of
+    the tool that wrote it."""
 
     line: int
     export: str
@@ -47,4 +49,5 @@ def of_line(line: str) -> Optional[Refusal]:
     if not found:
         return None
     its = found.groupdict()
-    return Refusal(its["file"], its["form"], int(its["number"]), its["kind"], its["unit"], int(its["place"]), its["byte"] and int(its["byte"]))
+    byte = int(its["byte"]) if its["byte"] else None
+    return Refusal(its["file"], its["form"], int(its["number"]), its["kind"], its["unit"], int(its["place"]), byte)

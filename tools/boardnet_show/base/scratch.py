@@ -1,16 +1,17 @@
-"""A folder of our own for the time of one board. The library has the same in two modules that take longer to load than a small board."""
+"""A folder of our own for the time of one board. The library has the same in two modules that take longer to load
+than a small board."""
 import os
 
 PLACES = ("TMPDIR", "TEMP", "TMP")
 COMMON = ("/tmp", "/var/tmp", "/usr/tmp", ".")
 
 
-def name():
+def name() -> str:
     """A name that nobody else has."""
     return f"boardnet-{os.urandom(8).hex()}"
 
 
-def made():
+def made() -> str:
     """A new folder that its owner alone can open, in the first place that takes one."""
     places = [*filter(None, map(os.environ.get, PLACES)), *COMMON]
     for place in places:
@@ -23,7 +24,7 @@ def made():
     raise fault
 
 
-def remove(folder):
+def remove(folder: str) -> None:
     """Removes a folder with all that is in it; what links lead to stays."""
     with os.scandir(folder) as found:
         entries = list(found)
@@ -36,9 +37,9 @@ def remove(folder):
 
 
 class Scratch:
-    def __enter__(self):
+    def __enter__(self) -> str:
         self.folder = made()
         return self.folder
 
-    def __exit__(self, *_):
+    def __exit__(self, *_: object) -> None:
         remove(self.folder)

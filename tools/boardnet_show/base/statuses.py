@@ -1,7 +1,8 @@
 """How a run ends: statuses of the program and those beside, and what stops a board."""
 import errno
 
-# Statuses of the program, and those beside: no package can be made of the files; the answer lies between two bounds; nothing was
+# Statuses of the program, and those beside: no package can be made of the files; the answer lies between two bounds;
+# nothing was
 # judged; a fault of `show` itself.
 NOT_UNDERSTOOD, REFUSED, UNREADABLE, UNWRITABLE, NO_MEMORY = 2, 3, 4, 5, 6
 UNCLEAR, UNDECIDED, UNJUDGED, FAULT, NO_PYTHON = 10, 11, 12, 70, 127
@@ -12,7 +13,7 @@ FULL = (errno.ENOSPC, errno.EDQUOT)
 class Stop(Exception):
     """Why a board is not shown, and the status that says so."""
 
-    def __init__(self, status, words):
+    def __init__(self, status: int, words: str) -> None:
         super().__init__(words)
         self.status = status
 
@@ -21,7 +22,7 @@ class BadCopper(Exception):
     """Shapes that do not belong to a report."""
 
 
-def fault_of(path, fault):
+def fault_of(path: str, fault: Exception) -> Stop:
     """What ends a PATH where something happens that nothing here foresees."""
     if isinstance(fault, Stop):
         return fault
@@ -32,8 +33,9 @@ def fault_of(path, fault):
     if isinstance(fault, OSError) and fault.errno in FULL:
         return Stop(UNWRITABLE, f"{path}: {fault.strerror}")
     step = fault.__traceback__
-    while step.tb_next:
+    while step and step.tb_next:
         step = step.tb_next
-    where = f"{step.tb_frame.f_code.co_filename.rsplit('/', 1)[-1]} line {step.tb_lineno}"
+    where = f"{step.tb_frame.f_code.co_filename.rsplit('/', 1)[-1]} line {step.tb_lineno}" if step else "no line"
     words = " ".join(f"{type(fault).__name__} {fault}".split())[:120]
-    return Stop(FAULT, f"{path}: a fault of `show` itself, which is no answer on the board ({words}, in {where}): please report it with this file")
+    return Stop(FAULT, f"{path}: a fault of `show` itself, which is no answer on the board ({words}, in {where}): "
+                       "please report it with this file")

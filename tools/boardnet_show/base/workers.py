@@ -2,7 +2,7 @@
 the same."""
 import os
 import signal
-from typing import Callable, Iterator, Optional, Sequence, TypeVar
+from typing import Any, Callable, Iterator, List, Optional, Sequence, TypeVar
 
 LARGE = 500_000     # bytes of what is worth a process
 Item = TypeVar("Item")
@@ -28,19 +28,31 @@ def mapped(work: Callable[[Item], Made], items: Sequence[Item], sizes: Sequence[
     here = here or work
     large = sorted((k for k, size in enumerate(sizes) if size >= LARGE), key=lambda k: -sizes[k])
     count = min(len(large), processors())
-    if count < 2 or not hasattr(os, "fork"):
+    begun = begun_elsewhere(work, items, large, count) if count > 1 and hasattr(os, "fork") else None
+    if begun is None:
         yield from map(here, items)
         return
-    from concurrent.futures import ProcessPoolExecutor      # loading both takes longer than a small board
-    from multiprocessing import get_context
-    with ProcessPoolExecutor(count, get_context("fork"), alone) as pool:
-        waiting = {k: pool.submit(work, items[k]) for k in large}
+    pool, waiting = begun
+    with pool:
         try:
             for k, item in enumerate(items):
                 yield waited(waiting[k].result, here, item) if k in waiting else here(item)
         finally:
             for future in waiting.values():
                 future.cancel()
+
+
+def begun_elsewhere(work: Callable[[Item], Made], items: Sequence[Item], large: List[int], count: int) -> Any:
+    """Processes with their work by number; None where there can be none."""
+    try:        # loading both takes longer than a small board
+        from concurrent.futures import ProcessPoolExecutor
+        from multiprocessing import current_process, get_context
+        if current_process().daemon:
+            return None
+        pool = ProcessPoolExecutor(count, get_context("fork"), alone)
+        return pool, {k: pool.submit(work, items[k]) for k in large}
+    except (ImportError, OSError):
+        return None
 
 
 def waited(result: Callable[[], Made], here: Callable[[Item], Made], item: Item) -> Made:

@@ -2,13 +2,15 @@
 import errno
 import os
 import sys
+from typing import Union
 
 from . import scratch
 from .statuses import UNWRITABLE, Stop
 
 
-def write(path, text):
-    """Writes a file by a new one that takes its place; `-` is the standard output. Names that are no UTF-8 stay the bytes that they are."""
+def write(path: str, text: Union[str, bytes]) -> None:
+    """Writes a file by a new one that takes its place; `-` is the standard output. Names that are no UTF-8 stay the
+    bytes that they are."""
     data = text.encode("utf-8", "surrogateescape") if isinstance(text, str) else text
     try:
         if path == "-":
@@ -27,13 +29,14 @@ def write(path, text):
         raise Stop(UNWRITABLE, f"{path}: {error.strerror}: cannot be written") from None
 
 
-def notes():
-    """Where the standard error was closed before the start, notes go nowhere: Python would print them on the standard output."""
+def notes() -> None:
+    """Where the standard error was closed before the start, notes go nowhere: Python would print them on the
+    standard output."""
     if sys.stderr is None:
         sys.stderr = open(os.devnull, "w", encoding="ascii", errors="replace")
 
 
-def replace(path, data):
+def replace(path: str, data: bytes) -> None:
     path = os.path.realpath(path)
     new = os.path.join(os.path.dirname(path), f".{scratch.name()}")
     file = open(new, "xb")

@@ -6,7 +6,7 @@ from boardnet_show.base.statuses import NOT_UNDERSTOOD, UNREADABLE, Stop
 from boardnet_show.findings.explained import Explained
 from boardnet_show.findings.waivers import Waiver
 from boardnet_show.fitting import declaration_file, declared_changes
-from boardnet_show.fitting.changes import Change
+from boardnet_show.fitting.changes import Change, DecimalsRead
 from boardnet_show.fitting.declaration_file import Declared, Reader
 from boardnet_show.fitting.declared_changes import Declaration
 from boardnet_show.fitting.hints import Hint
@@ -43,7 +43,8 @@ class Declarations(NamedTuple):
 # ---- options
 
 def value_of(text: str, source: str) -> Dict[str, Any]:
-    """What an option declares: an object of JSON as in the file, or a word and then names with values, as `netlist moved=1.5,-2`."""
+    """What an option declares: an object of JSON as in the file, or a word and then names with values, as `netlist
+    moved=1.5,-2`."""
     import json             # few boards have such an option
     import shlex
     try:
@@ -136,11 +137,20 @@ def of_files(files, its: Declared) -> Iterator[Declaration]:
         yield Declaration(NO_HOLES, its.source, not files.is_made or bool(files.manifest.drills))
 
 
-def made(files, its: Declarations) -> List[Declaration]:
-    """Makes the declared changes of the files, in order, and answers all that is declared."""
+def digits_read(files, its: Declarations) -> List[Declaration]:
+    """Reads the numbers of drill files as is declared, before what they may mean is looked for."""
+    return [declared_changes.make(files, change, each.source) for each in its.files for change in each.changes
+            if isinstance(change, DecimalsRead)]
+
+
+def made(files, its: Declarations, digits: Sequence[Declaration]) -> List[Declaration]:
+    """Makes the declared changes of the files, in order, but for `digits` that are read before, and answers all that is
+    declared."""
     rows = [Declaration(change, each.source, was_made=True) for each in its.files for change in each.made]
     rows += [row for each in its.files for row in of_files(files, each)]
-    return rows + [declared_changes.make(files, change, each.source) for each in its.files for change in each.changes]
+    before = iter(digits)
+    return rows + [next(before) if isinstance(change, DecimalsRead) else declared_changes.make(files, change, each.source)
+                   for each in its.files for change in each.changes]
 
 
 def agreeing(hints: Sequence[Hint]) -> Tuple[Change, ...]:

@@ -1,7 +1,8 @@
 """One board, from its files to its findings: each step gives a value to the next."""
 import os
 
-from boardnet_show.base.statuses import FAULT, REFUSED, UNDECIDED, BadCopper, fault_of
+from boardnet_show.base.statuses import FAULT, REFUSED, UNDECIDED, BadCopper, Stop, fault_of
+from boardnet_show.base.wording import spoken
 from boardnet_show.extras import requested
 from boardnet_show.findings.board import Board
 from boardnet_show.findings.explained import Explained, title_of
@@ -41,19 +42,30 @@ def labels_of(program, told):
     return {record - 1: own.names[name] for record, _, name, _ in own.points}
 
 
+def flattened_notes(flattened, outside):
+    """One note of all files that were flattened, and one of those that could not be, with the reason of the first."""
+    if len(flattened) == 1:
+        yield f"{flattened[0]} has macros and was flattened: commands are those of the flattened file, which --keep keeps"
+    elif flattened:
+        yield f"{spoken(flattened)} have macros and were flattened: commands are those of the flattened files, which --keep keeps"
+    for name in [*outside][:1]:
+        rest = [*outside][1:]
+        yield f"{name} could not be flattened: {outside[name]}" + (f"; nor could {spoken(rest)}" if rest else "")
+
+
 def package_notes(files):
     """What was taken as what, where the manifest was made here, and what was flattened."""
     notes = [f"taken as {word}" for word in files.guessed]
     if files.left_out:
         notes.append(f"left out, {len(files.left_out)} of the folder's files: " + "; ".join(files.left_out))
-    notes += [f"{name} has macros and was flattened: commands are those of the flattened file, which --keep keeps" for name in sorted(files.flattened)]
-    notes += [f"{name} could not be flattened: {why}" for name, why in files.outside.items()]
+    notes += flattened_notes(sorted(files.flattened), files.outside)
     passed_over = netlist_files.note(files.manifest.netlist, mending.read(files, files.manifest.netlist)) if files.manifest else ""
     return notes + ([passed_over] if passed_over else [])
 
 
 def by_own_names(files, asked):
-    """Has the board judged by the copper's own names where there is no netlist or where it is asked; answers the notes."""
+    """Has the board judged by the copper's own names where there is no netlist or where it is asked; answers the
+    notes."""
     if not files.manifest:
         return []
     if files.manifest.netlist and not asked.labels:
@@ -201,22 +213,27 @@ def sorted_by(its):
     return its.sorted_files() if its else package.Sorted()
 
 
-def changed(files, its):
-    """Makes the declared changes of the files, and answers all that is declared."""
-    if not its or not files.manifest:
-        return []
-    from . import declared
-    return declared.made(files, its)
+def mended_and_changed(files, its, asked, progress):
+    """Mends the files, and makes the declared changes; answers all that is declared."""
+    is_declared = its and files.manifest
+    if is_declared:
+        from . import declared
+        digits = declared.digits_read(files, its)
+    mending.mend(files, progress, asked.yes, sorted_by(its).taken)
+    return declared.made(files, its, digits) if is_declared else []
 
 
 def agrees_without(path, asked, program, scratch, its, ties):
     """A note where the files as they came agree, so that what is declared of them does not fit any more."""
     inner = os.path.join(scratch, "undeclared")
     os.makedirs(inner)
-    files = package.opened(path, asked, inner, declared=lambda _: its.sorted_files())
-    by_own_names(files, asked)
-    mending.mend(files, program.progress, asked.yes)
-    agrees = ties.answer(judged.judge(program, files)).status == 0
+    try:
+        files = package.opened(path, asked, inner, declared=lambda _: its.sorted_files())
+        by_own_names(files, asked)
+        mending.mend(files, program.progress, asked.yes, its.sorted_files().taken)
+        agrees = ties.answer(judged.judge(program, files)).status == 0
+    except Stop:            # they are not judged so
+        agrees = False
     return ["what is declared does not fit these files any more: without its changes they agree"] if agrees else []
 
 
@@ -263,8 +280,8 @@ def shown_once(path, asked, program, scratch, taken):
         own_names.take_whole(files)
         ties = net_ties.declared(asked.tie, files, its.ties() if its else ())
         shown = shown._replace(seen=shown.seen._replace(ties=ties))
-        mending.mend(files, program.progress, asked.yes)
-        shown = shown._replace(seen=shown.seen._replace(declared=changed(files, its), taken=files.taken))
+        said = mended_and_changed(files, its, asked, program.progress)
+        shown = shown._replace(seen=shown.seen._replace(declared=said, taken=files.taken))
         told = judged.judge(program, files)
         shown = shown._replace(seen=shown.seen._replace(answer=ties.answer(told), audit=told.audit, report=told.text or b"",
                                                         notes=own + package_notes(files)))

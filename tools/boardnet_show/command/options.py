@@ -3,7 +3,7 @@ from types import SimpleNamespace
 
 FLAGS = ("-q", "--all", "--labels", "--yes", "--no-drills", "--no-cuts", "--audit-board", "--take-hints", "--help", "-h")
 WITH_VALUES = ("--page", "--svg", "--at", "--json", "--junit", "--sarif", "--rdb", "--format", "--keep", "--netlist", "--ipc", "--like", "--gaps", "--necks",
-               "--record", "--verify", "--declare", "--write-declarations", "--author")
+               "--record", "--verify", "--declare", "--write-declarations", "--author", "--jobs")
 OFTEN = ("--tie", "--with", "--waive")
 USAGE = "boardnet show PATH.. [OPTION ..]; boardnet show --help prints all"
 
@@ -20,8 +20,8 @@ def nothing():
 
 
 def plain(given):
-    """The words where each option is written whole with its value behind it, and the paths stand together, as nearly all are; None
-    where the parser is to judge them, which takes longer to load than a small board."""
+    """The words where each option is written whole with its value behind it, and the paths stand together, as nearly
+    all are; None where the parser is to judge them, which takes longer to load than a small board."""
     asked, rest, may_come = nothing(), iter(given), True
     for word in rest:
         if not word.startswith("-"):

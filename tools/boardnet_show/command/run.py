@@ -13,10 +13,12 @@ from boardnet_show.judging.program import TOOLS, Program, found
 from boardnet_show.output import text_lines
 
 from . import options
+from .batch import MOST_JOBS, jobs_of, judged_at_once, paths_of
 from .one_board import show
 
+LENGTH = "a length as 0.15, 0.15mm, 6mil or 0.006in"
 SIGNALS = (signal.SIGINT, signal.SIGTERM, signal.SIGHUP)
-ONE_BOARD = ("rdb", "page", "svg", "keep", "ipc", "record", "verify", "declare", "write_declarations", "with", "waive")
+ONE_BOARD = ("rdb", "svg", "keep", "ipc", "record", "verify", "declare", "write_declarations", "with", "waive")
 
 
 class Interrupted(BaseException):
@@ -38,17 +40,21 @@ def words(given):
         sys.exit(0)
     if not asked.paths:
         options.wrong("it wants a folder, a zip archive or a manifest")
+    asked.paths = paths_of(asked.paths)
+    asked.jobs = jobs_of(asked.jobs) or options.wrong(f"--jobs wants a number from 1 to {MOST_JOBS}")
+    if len(asked.paths) > 1 and asked.page == "-":
+        options.wrong("--page of several boards wants a file, beside which their pages are written")
     for name in ONE_BOARD:
         if len(asked.paths) > 1 and getattr(asked, name):
             options.wrong(f"--{name.replace('_', '-')} is for one PATH")
     if asked.gaps is not None:
         from boardnet_show.extras import spacing
-        asked.gaps = spacing.asked_distance(asked.gaps) or options.wrong("--gaps wants millimetres, over 0 and at most 10, with at most seven decimals")
+        asked.gaps = spacing.asked_distance(asked.gaps) or options.wrong(f"--gaps wants {LENGTH}, over 0 and at most 10 mm, with at most seven decimals")
     if asked.necks is not None:
         from boardnet_show.extras import spacing
         asked.necks = spacing.asked_width(asked.necks)
         if asked.necks is None:
-            options.wrong("--necks wants millimetres, from 0 to 10, with at most seven decimals")
+            options.wrong(f"--necks wants {LENGTH}, from 0 to 10 mm, with at most seven decimals")
     if asked.format not in (None, "text", "github"):
         options.wrong("--format is text or github")
     if asked.waive and not (asked.author or "").strip():
@@ -70,12 +76,17 @@ def printed(asked, all_shown):
         from boardnet_show.output import annotations
         rows = [row for shown in all_shown for row in annotations.rows(shown)]
     elif asked.q:
-        rows = [row for shown in all_shown for row in text_lines.quiet(shown)]
+        rows = [row for shown in all_shown for row in text_lines.quiet(shown)] + total_of(all_shown)
     elif len(all_shown) > 1:
-        rows = [text_lines.summary(shown) for shown in all_shown]
+        rows = [text_lines.summary(shown) for shown in all_shown] + total_of(all_shown)
     else:
         rows = text_lines.reader(all_shown[0], asked.all)
     return "".join(printable(row) + "\n" for row in rows)
+
+
+def total_of(all_shown):
+    """The last line of a batch."""
+    return [text_lines.total(all_shown)] if len(all_shown) > 1 else []
 
 
 def forms(asked, all_shown):
@@ -101,8 +112,20 @@ def forms(asked, all_shown):
     if asked.write_declarations:
         from . import declared
         yield asked.write_declarations, declared.written_text(first.seen, asked)
-    if asked.page or asked.svg:
+    if asked.page and len(all_shown) > 1:
+        yield from pages(asked, all_shown)
+    elif asked.page or asked.svg:
         yield from pictures(asked, first)
+
+
+def pages(asked, all_shown):
+    """The page of each board whose copper is known, and the list of all."""
+    from boardnet_show.output import batch_page, page
+    names = {shown.path: name for shown, name in zip(all_shown, batch_page.page_names(asked.page, all_shown).values()) if shown.board and shown.board.shapes}
+    for shown in all_shown:
+        if shown.path in names:
+            yield names[shown.path], page.page_html(shown)
+    yield asked.page, batch_page.page_html(all_shown, names)
 
 
 def pictures(asked, shown):
@@ -122,8 +145,8 @@ def pictures(asked, shown):
 
 
 def write(asked, all_shown):
-    """Writes what was asked for, and prints the rest. Where a form goes to the standard output, nothing else does: what is told goes
-    to the standard error where there is no such form."""
+    """Writes what was asked for, and prints the rest. Where a form goes to the standard output, nothing else does:
+    what is told goes to the standard error where there is no such form."""
     is_form = False
     for path, text in forms(asked, all_shown):
         is_form = is_form or path == "-"
@@ -136,7 +159,9 @@ def write(asked, all_shown):
 
 
 def boards(asked, program):
-    """Each PATH in turn, in a scratch folder of its own."""
+    """Each PATH in turn, in a scratch folder of its own, or some at once."""
+    if asked.jobs > 1 and len(asked.paths) > 1 and program.path:
+        return judged_at_once(asked, program)
     all_shown = []
     for path in asked.paths:
         with Scratch() as scratch:

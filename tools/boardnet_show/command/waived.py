@@ -62,7 +62,8 @@ def counted_again(seen: Explained, found: Sequence[Optional[Waiver]]) -> Explain
 
 
 def without(answer: Answer, seen: Explained, waived: Sequence[Finding]) -> Answer:
-    """The answer by the report without findings that are waived; opens behind the report's are ties that no copper makes."""
+    """The answer by the report without findings that are waived; opens behind the report's are ties that no copper
+    makes."""
     ties = sum(it.kind == OPEN and it.number >= len(seen.board.report.opens) for it in waived)
     of = {kind: sum(it.kind == kind for it in waived) for kind in KINDS}
     all_counts = seen.counts()

@@ -4,15 +4,19 @@ The program's `gaps` names the pairs, so that none is missed; here is how far ap
 """
 import heapq
 from collections import defaultdict
+from math import inf
 from typing import NamedTuple
 
 from boardnet_show.base.statuses import Stop
 from boardnet_show.base.wording import millimetres
 from boardnet_show.findings import nearest_copper
-from boardnet_show.geometry.box_tree import Tree, apart
+from boardnet_show.formats.units import INCH, MM
+from boardnet_show.geometry.box_tree import FAN, Tree, apart
 from boardnet_show.geometry.distances import of_lines
 from boardnet_show.geometry.segments import box_of_line
 
+# How lengths may be written; the millimetre where none is.
+UNITS = {"mm": MM, "mil": INCH // 1000, "in": INCH}
 STEP = 1_000        # distances are told in tenths of a micrometre
 MOST = 100_000_000  # 10 mm, the most that the program takes
 FEW = 64            # so many pairs of lines are looked at one by one
@@ -36,12 +40,13 @@ class Spacing(NamedTuple):
 
 
 def asked_width(text):
-    """A width in millimetres as u; None where it is none that can be asked for."""
-    head, _, tail = text.partition(".")
-    if not (head + tail).isascii() or not (head + tail).isdigit() or len(tail) > 7 or len(head) > 2:
+    """A width as u: a number of millimetres, or with its unit (`6mil`, `0.15mm`, `0.006in`); None where it is none that can be asked for."""
+    unit = next((it for it in UNITS if text.endswith(it)), "")
+    head, _, tail = text[:len(text) - len(unit)].partition(".")
+    if not (head + tail).isascii() or not (head + tail).isdigit() or len(tail) > 7 or len(head) > 3:
         return None
-    u = int(head or "0") * 10_000_000 + int(tail.ljust(7, "0"))
-    return u if u <= MOST else None
+    u, rest = divmod(int(head + tail) * UNITS.get(unit, MM), 10 ** len(tail))
+    return u if not rest and u <= MOST else None
 
 
 def asked_distance(text):
@@ -93,11 +98,11 @@ def measured(a, b):
     return of_lines(a[0], b[0]) - a[1] - b[1]
 
 
-def least(lines, layer, low, high):
-    """(distance, row, row) of the two nearest lines of two nets on a layer."""
+def least(lines, layer, low, high, most=None):
+    """(distance, row, row) of the two nearest lines of two nets on a layer, which are at most so far apart where that is given."""
     (ours, our_boxes), (theirs, their_boxes) = lines.of(low, layer), lines.of(high, layer)
     if len(ours) * len(theirs) > FEW:
-        return by_trees(lines.tree(low, layer), lines.tree(high, layer), ours, theirs)
+        return by_trees(lines.tree(low, layer), lines.tree(high, layer), ours, theirs, most)
     best = None
     for a, box in zip(ours, our_boxes):
         for b, other in zip(theirs, their_boxes):
@@ -107,33 +112,48 @@ def least(lines, layer, low, high):
     return best
 
 
-def by_trees(first, second, ours, theirs):
+def by_trees(first, second, ours, theirs, most):
     """The same by trees of boxes: what is not nearer than the nearest so far is not looked at."""
-    def entry(a, b):
-        return apart(first.levels[a[0]][a[1]], second.levels[b[0]][b[1]]), a, b
-    heap, best = [entry((len(first.levels) - 1, 0), (len(second.levels) - 1, 0))], None
+    tops, best = (len(first.levels) - 1, len(second.levels) - 1), None
+    limit = inf if most is None else (most + 1) * (most + 1)
+    heap = [(apart(first.levels[tops[0]][0], second.levels[tops[1]][0]), tops[0], 0, tops[1], 0)]
     while heap:
-        squared, a, b = heapq.heappop(heap)
-        if best is not None and squared >= best[0] * best[0]:
+        squared, level, node, other_level, other = heapq.heappop(heap)
+        if best is not None and squared >= limit:
             break
-        if a[0] == b[0] == 0:
-            one, other = ours[first.order[a[1]]], theirs[second.order[b[1]]]
-            found = measured(one, other)
-            best = (found, one, other) if best is None or found < best[0] else best
-            continue
-        parts = [(child, b) for child in first.children(*a)] if a[0] >= b[0] else [(a, child) for child in second.children(*b)]
-        for each in parts:
-            it = entry(*each)
-            if best is None or it[0] < best[0] * best[0]:
-                heapq.heappush(heap, it)
+        if level == other_level == 0:
+            one, two = ours[first.order[node]], theirs[second.order[other]]
+            found = measured(one, two)
+            if best is None or found < best[0]:
+                best, limit = (found, one, two), found * found
+        elif level >= other_level:
+            for k, apart_by in nearer(first.levels[level - 1], node, second.levels[other_level][other], limit):
+                heapq.heappush(heap, (apart_by, level - 1, k, other_level, other))
+        else:
+            for k, apart_by in nearer(second.levels[other_level - 1], other, first.levels[level][node], limit):
+                heapq.heappush(heap, (apart_by, level, node, other_level - 1, k))
     return best
+
+
+def nearer(boxes, node, box, limit):
+    """Of the boxes below a node of a tree those that are nearer to a box than a limit, with how far they are, squared."""
+    left, low, right, high = box
+    found = []
+    for k in range(node * FAN, min(node * FAN + FAN, len(boxes))):
+        l, b, r, t = boxes[k]
+        across = l - right if l > right else left - r if left > r else 0
+        up = b - high if b > high else low - t if low > t else 0
+        squared = across * across + up * up
+        if squared < limit:
+            found.append((k, squared))
+    return found
 
 
 def spacings(program, board, u):
     """The pairs of nets that are closer than u, in the order of layers and nets; and how many the program lists."""
     rows, lines, found = listed(program, board.package, u), Lines(board), []
     for layer, low, high, *_ in rows:
-        distance, a, b = least(lines, layer, low, high)
+        distance, a, b = least(lines, layer, low, high, u + 10)     # the program lists by whole nanometres
         # What is rounded down to less than a whole number is less than it.
         if distance < u:
             place = nearest_copper.gap_of_lines(a[:2], b[:2], layer).place

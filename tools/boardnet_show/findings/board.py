@@ -1,13 +1,22 @@
-"""What findings are told about: the report, the files that it speaks of, the netlist's records, and the copper where it is known."""
+"""What findings are told about: the report, the files that it speaks of, the netlist's records, and the copper where
+it is known."""
 from collections import defaultdict
 from functools import cached_property
+from typing import TYPE_CHECKING, Any, Dict, List, Optional, Sequence, Tuple
 
 from boardnet_show.base.wording import millimetres
 from boardnet_show.formats.ipc356 import NO_NET
+from boardnet_show.formats.report import Report
+from boardnet_show.intake.package import Package
 from boardnet_show.judging.net_ties import Ties
 
+if TYPE_CHECKING:       # most boards have no copper looked at
+    from boardnet_show.geometry.shapes import Shapes
 
-def touching(shapes, report):
+Spot = Tuple[int, int]
+
+
+def touching(shapes: "Shapes", report: Report) -> Any:
     from boardnet_show.geometry.touching import (        # a board that agrees wants none of it, and loading takes longer than a small board
         Touching
     )
@@ -15,51 +24,55 @@ def touching(shapes, report):
 
 
 class Board:
-    """`shapes` is None where the copper is not known, `labels` (names of pieces by the files' own labels) where there are none."""
+    """`shapes` is None where the copper is not known, `labels` (names of pieces by the files' own labels) where
+    there are none."""
 
-    def __init__(self, package, report, records, shapes, labels, ties):
+    def __init__(self, package: Package, report: Report, records: Sequence[Any], shapes: "Optional[Shapes]", labels: Optional[Dict[int, str]],
+                 ties: Optional[Ties]) -> None:
         self.package, self.manifest, self.report = package, package.manifest, report
-        self.records, self.shapes, self.labels, self.ties = records, shapes, labels or {}, ties or Ties()
-        self.touching = touching(shapes, report) if shapes is not None else None
+        self.records, self.labels, self.ties = records, labels or {}, ties or Ties()
+        # Of any type: who asks for copper knows whether there is some.
+        self.shapes: Any = shapes
+        self.touching: Any = touching(shapes, report) if shapes is not None else None
 
     @cached_property
-    def pieces_of(self):
+    def pieces_of(self) -> Dict[int, List[int]]:
         """The pieces of each net."""
-        found = defaultdict(list)
+        found: Dict[int, List[int]] = defaultdict(list)
         for piece, net in enumerate(self.report.net_of):
             found[net].append(piece)
         return found
 
     @cached_property
-    def points_of(self):
+    def points_of(self) -> Dict[int, List[int]]:
         """The test points of each net, those without copper under -1."""
-        found = defaultdict(list)
+        found: Dict[int, List[int]] = defaultdict(list)
         for point, (*_, net) in enumerate(self.report.points):
             found[net].append(point)
         return found
 
     # ---- names
 
-    def name(self, number):
+    def name(self, number: int) -> str:
         return self.report.names[number]
 
-    def spoken_name(self, number):
+    def spoken_name(self, number: int) -> str:
         return "a pin without net (N/C)" if self.name(number) == NO_NET else self.name(number)
 
-    def name_of(self, point):
+    def name_of(self, point: int) -> int:
         return self.report.points[point][2]
 
-    def side_of(self, number):
+    def side_of(self, number: int) -> str:
         """What a name counts as where names meet: tied names are one."""
         return self.ties.side(self.name(number))
 
     # ---- points
 
-    def record(self, point):
+    def record(self, point: int) -> Any:
         number = self.report.points[point][0]
         return self.records[number - 1] if number <= len(self.records) else None
 
-    def pin(self, point):
+    def pin(self, point: int) -> str:
         """A point by component and pin, or by its record."""
         record = self.record(point)
         if not record or not record.component:
@@ -68,34 +81,34 @@ class Board:
             return f"the via of test record {self.report.points[point][0]}"
         return f"{record.component} pin {record.pin}" if record.pin else record.component
 
-    def spot(self, point):
+    def spot(self, point: int) -> Spot:
         """Where a point lies, in u."""
         return self.report.spots[point]
 
-    def layer(self, point):
+    def layer(self, point: int) -> int:
         return self.report.points[point][1]
 
-    def line(self, point):
+    def line(self, point: int) -> int:
         """The line of the netlist that a point is from."""
         record = self.record(point)
         return record.line if record else 0
 
-    def point_words(self, point):
+    def point_words(self, point: int) -> str:
         """A point with its layer and place."""
         return f"{self.pin(point)} ({self.manifest.layer_word(self.layer(point))}, {self.place_words(self.spot(point))})"
 
     # ---- places and pieces
 
     @staticmethod
-    def place_words(spot):
+    def place_words(spot: Spot) -> str:
         return f"{millimetres(spot[0])}, {millimetres(spot[1])} mm"
 
-    def copper_place(self, spot, layer):
+    def copper_place(self, spot: Sequence[float], layer: int) -> str:
         """A place of the copper, rounded to a micrometre: it is where to look."""
         x, y = (round(v, -4) for v in spot)
         return f"{self.manifest.layer_word(layer)} ({self.manifest.copper[layer - 1]}) at {self.place_words((x, y))}"
 
-    def source(self, piece):
+    def source(self, piece: int) -> str:
         """Which command or line of which file made a piece."""
         file, command, copy, *_ = self.report.sources[piece]
         name = self.manifest.files[file]
@@ -103,6 +116,6 @@ class Board:
         flattened = " as flattened" if name in self.package.flattened and not self.manifest.is_drilled(file) else ""
         return f"{name}{flattened} {word} {command}" + (f" copy {copy}" if copy else "")
 
-    def common_layer(self, p, q):
+    def common_layer(self, p: int, q: int) -> int:
         """The first layer that two pieces share."""
         return max(self.report.sources[p][3], self.report.sources[q][3])

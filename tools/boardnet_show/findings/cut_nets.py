@@ -1,4 +1,5 @@
-"""A net without what touches within some places: whether copper still joins two of its names. It says no only where that is sure.
+"""A net without what touches within some places: whether copper still joins two of its names. It says no only where
+that is sure.
 
 A touch of pieces of one name stays, wherever it is. A touch of two names, or of what could be either's, goes where all of it lies within a
 place; a stroke that could be either's is parted where a place has its whole width.
@@ -37,7 +38,8 @@ def at(line: Line, part: float) -> Spot:
 
 
 def within(a: Spot, d: Spot, radius: int) -> Tuple[float, float]:
-    """From where to where a line from a by d lies within a radius of the origin, as parts of it; else nothing of it, from 2 to 2."""
+    """From where to where a line from a by d lies within a radius of the origin, as parts of it; else nothing of it,
+    from 2 to 2."""
     squared, ahead, off = d[0] ** 2 + d[1] ** 2, a[0] * d[0] + a[1] * d[1], a[0] ** 2 + a[1] ** 2 - max(radius, 0) ** 2
     if radius <= 0 or squared == 0:
         return (0.0, 1.0) if radius > 0 and off <= 0 else (2.0, 2.0)
@@ -61,7 +63,8 @@ class Cut:
 
     def names_on(self, net: int) -> Dict[int, List[Tuple[Spot, str]]]:
         """For each piece the points on it, with their names; tied ones are one."""
-        board, points, found = self.board, self.board.points_of[net], {}
+        board, points = self.board, self.board.points_of[net]
+        found: Dict[int, List[Tuple[Spot, str]]] = {}
         boxes = [board.touching.box(piece) for piece in self.pieces] + [board.spot(point) * 2 for point in points]
         for i, j in box_grid.pairs(boxes):
             i, j = max(i, j), min(i, j)
@@ -79,7 +82,8 @@ class Cut:
         return max(self.board.shapes.radius[piece], 0)
 
     def parts(self, piece: int) -> List[List[Line]]:
-        """The lines of each node of a piece: one node, or of a stroke that could be either's what lies on both sides of the places."""
+        """The lines of each node of a piece: one node, or of a stroke that could be either's what lies on both sides
+        of the places."""
         lines = self.board.touching.lines(piece)
         if piece in self.sides or self.board.shapes.is_area(piece):
             return [lines]
@@ -90,7 +94,8 @@ class Cut:
         yield from ((piece, k) for piece in self.pieces for k in range(len(self.lines[piece])))
 
     def may_touch(self, p: int, lines: Sequence[Line], other: Node) -> bool:
-        """Whether some of these lines of a piece come as near to a node of another one as both are wide, or lie in it."""
+        """Whether some of these lines of a piece come as near to a node of another one as both are wide, or lie in
+        it."""
         q, its = other[0], self.lines[other[0]][other[1]]
         touching, r = self.board.touching, self.radius(p) + self.radius(q) + SURE
         for a, b in lines:

@@ -1,22 +1,26 @@
 """All that is known of a board once it was judged, as a value: each step gives one with more in it."""
 import os
-from typing import Any, List, NamedTuple, Optional, Sequence, Tuple
+from typing import TYPE_CHECKING, Any, List, NamedTuple, Optional, Sequence, Tuple
 
 from boardnet_show.formats.report import Report
 from boardnet_show.intake.package import Taken
 from boardnet_show.judging import net_ties
 from boardnet_show.judging.answers import Answer, Counts
-from boardnet_show.judging.two_bounds import Bounded
 
 from .board import Board
 from .finding import GAP, Finding
 from .waivers import Waived, Waiver
 
+if TYPE_CHECKING:       # most boards have no bounds, and loading takes longer than a small board
+    from boardnet_show.judging.two_bounds import Bounded
+
 
 class Explained(NamedTuple):
-    """`board` is None where nothing was judged. `notes` are sentences on what was taken and what is not known, `hints` answers of `check` on
-    changed copies, `bounds` the answer on a board that lies between two, `reports` the report twice, or those of a lower and an upper board,
-    `report` its text, `taken` what its files were taken as, `declared` what is declared of them, `stale` the waivers of no finding, `wider` what an upper board has beyond a lower one, as (layer, corners)."""
+    """`board` is None where nothing was judged. `notes` are sentences on what was taken and what is not known, `hints`
+    answers of `check` on changed copies, `bounds` the answer on a board that lies between two, `reports` the report
+    twice, or those of a lower and an upper board, `report` its text, `taken` what its files were taken as, `declared`
+    what is declared of them, `stale` the waivers of no finding, `wider` what an upper board has beyond a lower one, as
+    (layer, corners)."""
 
     title: str
     answer: Answer
@@ -25,7 +29,7 @@ class Explained(NamedTuple):
     board: Optional[Board] = None
     findings: Sequence[Finding] = ()
     hints: Sequence[Any] = ()
-    bounds: Optional[Bounded] = None
+    bounds: "Optional[Bounded]" = None
     reports: Sequence[Report] = ()
     report: bytes = b""
     mends: Sequence[Any] = ()
@@ -41,8 +45,9 @@ class Explained(NamedTuple):
         return self._replace(notes=[*self.notes, *notes])
 
     def counts(self) -> Counts:
-        """What the line counts: lines of the report, but for shorts that are declared ties, and apart the ties that no copper makes.
-        Between two bounds these are of the board that makes them certain: shorts of the lower one, all else of the upper one."""
+        """What the line counts: lines of the report, but for shorts that are declared ties, and apart the ties that no
+        copper makes. Between two bounds these are of the board that makes them certain: shorts of the lower one, all
+        else of the upper one."""
         low, high = self.reports
         return self.ties.counts(high)._replace(shorts=self.ties.counts(low).shorts)
 

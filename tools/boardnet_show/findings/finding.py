@@ -20,7 +20,8 @@ class Clue(NamedTuple):
 
 
 class Finding(NamedTuple):
-    """kind and number are its name for good; `name` is the net name that it is listed under, `words` what is so, `clues` where to look.
+    """kind and number are its name for good; `name` is the net name that it is listed under, `words` what is so,
+    `clues` where to look.
 
     `points` are the test points that it speaks of, the first one leads; `nets` those of the copper, `names` those of the netlist, by their
     numbers; `parts` the points on both parts of an open and `gap` their nearest copper, `meets` the places where a short's names meet,

@@ -22,7 +22,8 @@ Place = Tuple[int, int, int]
 
 
 class Waiver(NamedTuple):
-    """What is waived, by whom, when and why. `pins` are of an open those of each part that stands apart; `places` (x, y, layer) in u."""
+    """What is waived, by whom, when and why. `pins` are of an open those of each part that stands apart; `places`
+    (x, y, layer) in u."""
 
     kind: str
     names: Tuple[str, ...]
@@ -59,7 +60,8 @@ class Pins:
         return f"{record.component}-{record.pin}" if record and record.component and record.pin and record.component != "VIA" else ""
 
     def pin(self, point: int) -> str:
-        """A point by its part and pin where no other one has these, else with its place: a pin may have several pads."""
+        """A point by its part and pin where no other one has these, else with its place: a pin may have several
+        pads."""
         pin, (x, y) = self.component_pin(point), self.board.spot(point)
         return pin if pin and self.counts[pin] == 1 else f"{pin}@{millimetres(x)},{millimetres(y)},{self.board.layer(point)}"
 
@@ -70,7 +72,8 @@ class Pins:
         return frozenset(self.pin(other) for other in points) if net >= 0 else frozenset([self.pin(point)])
 
     def of(self, finding: Finding) -> Tuple[FrozenSet[str], ...]:
-        """Of an open those of each part but the second one, where the name is at home; of a point without copper its own."""
+        """Of an open those of each part but the second one, where the name is at home; of a point without copper its
+        own."""
         if finding.kind == OPEN:
             its = [self.part(finding, point) for k, point in enumerate(finding.points) if k != 1]
             return tuple(sorted(its, key=sorted))
@@ -114,7 +117,8 @@ def waiver_of(finding: Finding, low: Board, high: Board, reason: str, author: st
 
 
 class Waivers:
-    """The waivers of a board that were declared, and what became of each. `boards` are the lower and the upper one, or the board twice."""
+    """The waivers of a board that were declared, and what became of each. `boards` are the lower and the upper one,
+    or the board twice."""
 
     def __init__(self, waivers: Sequence[Waiver], low: Board, high: Board) -> None:
         self.waivers, self.low, self.high = list(waivers), low, high

@@ -1,5 +1,5 @@
-"""What is changed in a copy of a board's files so that they fit together, as values. Hints find them, and declarations say them; lengths
-are in u, and a turn is a number of `placement.FORMS`."""
+"""What is changed in a copy of a board's files so that they fit together, as values. Hints find them, and declarations
+say them; lengths are in u, and a turn is a number of `placement.FORMS`."""
 from typing import NamedTuple, Optional, Tuple, Union
 
 Shift = Tuple[int, int]
@@ -32,8 +32,8 @@ class CopperPlaced(NamedTuple):
 
 
 class LayersOrdered(NamedTuple):
-    """The copper files in another order, and why: as they say of themselves, where surface points have a pad, or as is declared;
-    `is_inner_unknown` where points cannot tell the order of inner layers."""
+    """The copper files in another order, and why: as they say of themselves, where surface points have a pad, or as is
+    declared; `is_inner_unknown` where points cannot tell the order of inner layers."""
 
     order: Tuple[str, ...]
     why: str = ""
@@ -41,8 +41,8 @@ class LayersOrdered(NamedTuple):
 
 
 class DigitsRead(NamedTuple):
-    """The numbers of a drill file without points: so many decimals behind, or, where trailing zeros are left out, filled up to `width` digits.
-    So many of its holes lie on a through point, where that was looked for."""
+    """The numbers of a drill file without points: so many decimals behind, or, where trailing zeros are left out,
+    filled up to `width` digits. So many of its holes lie on a through point, where that was looked for."""
 
     file: str
     decimals: int

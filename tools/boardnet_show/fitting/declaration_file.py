@@ -1,4 +1,5 @@
-"""What is declared of a board, as a file beside it says it and is written: JSON, whose lengths are millimetres (docs/using/declarations.md).
+"""What is declared of a board, as a file beside it says it and is written: JSON, whose lengths are millimetres
+(docs/using/declarations.md).
 
 Nothing that is not understood is passed over: a word that is misspelt is refused.
 """
@@ -27,8 +28,8 @@ DATE = re.compile(r"\d{4}-(?:0[1-9]|1[0-2])-(?:0[1-9]|[12]\d|3[01])")
 
 
 class Declared(NamedTuple):
-    """`changes` are made of the files, in order; `made` were made of them before. `taken` is what files are taken as, `drilled` which of them
-    are plated and the layers of their holes; `source` is the file."""
+    """`changes` are made of the files, in order; `made` were made of them before. `taken` is what files are taken as,
+    `drilled` which of them are plated and the layers of their holes; `source` is the file."""
 
     source: str = ""
     changes: Tuple[Change, ...] = ()
@@ -61,7 +62,7 @@ class Reader:
             self.need(name in names, f"`{name}` is none of {', '.join(names)}")
         for name in must:
             self.need(name in value, f"`{name}` is missing in {json.dumps(value)[:80]}")
-        return value
+        return dict(value)
 
     def texts(self, value: Any, what: str) -> Tuple[str, ...]:
         self.need(isinstance(value, list) and bool(value) and all(isinstance(it, str) and it for it in value), f"{what} is no list of names")
@@ -185,7 +186,8 @@ class Reader:
             "changes": self.change, "made": self.change, "taken": self.taken, "plated": self.drilled, "ties": self.tie, "waivers": self.waiver}
         self.need(its.get("no_drills", True) is True, "`no_drills` is not true")
         netlist = self.words(its["netlist"], "`netlist`") if "netlist" in its else ""
-        return Declared(self.source, *(self.all_of(its, key, of[key]) for key in KEYS), netlist, "no_drills" in its)
+        changes, made, taken, drilled, ties, waivers = (self.all_of(its, key, of[key]) for key in KEYS)
+        return Declared(self.source, changes, made, taken, drilled, ties, waivers, netlist, "no_drills" in its)
 
 
 def once(pairs: List[Tuple[str, Any]]) -> Dict[str, Any]:
@@ -247,7 +249,9 @@ def values(declared: Declared) -> Dict[str, Any]:
         "taken": [{"file": it.file, "as": it.what} for it in declared.taken],
         "plated": [{"file": it.file, "from": it.first, "to": it.last} for it in declared.drilled],
         "ties": [text.split("=") for text in declared.ties], "waivers": [*map(waiver_values, declared.waivers)]}
-    more = {**({"netlist": declared.netlist} if declared.netlist else {}), **({"no_drills": True} if declared.has_no_drills else {})}
+    more: Dict[str, Any] = {"netlist": declared.netlist} if declared.netlist else {}
+    if declared.has_no_drills:
+        more["no_drills"] = True
     return {"boardnet": FORM, **{key: its for key, its in rows.items() if its}, **more}
 
 

@@ -17,8 +17,9 @@ Files = Dict[str, bytes]
 
 
 class Declaration(NamedTuple):
-    """What is declared, and where: a change of files, or what a file is taken as. It is stale where it changed nothing or there is no such file;
-    `was_made` says that the files had the change before; `files` are those that it changed."""
+    """What is declared, and where: a change of files, or what a file is taken as. It is stale where it changed nothing
+    or there is no such file; `was_made` says that the files had the change before; `files` are those that it
+    changed."""
 
     what: Union[Change, Taken, Drilled]
     source: str

@@ -6,7 +6,7 @@ status stays what it is.
 from functools import partial
 from typing import NamedTuple, Optional, Tuple, Union
 
-from boardnet_show.base.refusals import IMPLIED_DECIMALS, WRONG_LAYER, Refusal
+from boardnet_show.base.refusals import BAD_ACCESS, IMPLIED_DECIMALS, WRONG_LAYER, Refusal
 from boardnet_show.base.statuses import Stop
 from boardnet_show.formats.report import Report
 from boardnet_show.intake.cad_tools import setting
@@ -25,8 +25,9 @@ UPSIDE_DOWN = 2     # the turn of `placement.FORMS` that a tool's setting makes
 
 
 class Hint(NamedTuple):
-    """What was changed and what `check` says then. `changes` are all that were made in that copy, in their order, this one the last; `setting` is
-    the tool's that would make it so; `explains` says that it leaves less than half of the findings."""
+    """What was changed and what `check` says then. `changes` are all that were made in that copy, in their order, this
+    one the last; `setting` is the tool's that would make it so; `explains` says that it leaves less than half of the
+    findings."""
 
     kind: str
     change: Union[Change, NowherePlaced]
@@ -38,8 +39,8 @@ class Hint(NamedTuple):
 
 
 class Trial(NamedTuple):
-    """What `check` says of a package, or both bounds where only they can be asked; `report` is then the upper one's. `refusals` are those of
-    the package and of a bound, and `changes` what was changed in it."""
+    """What `check` says of a package, or both bounds where only they can be asked; `report` is then the upper one's.
+    `refusals` are those of the package and of a bound, and `changes` what was changed in it."""
 
     package: Package
     answer: answers.Answer
@@ -118,7 +119,8 @@ def hint(kind, trial, words=""):
 
 
 def decimals(trials, base):
-    """Every reading of numbers without a point that fits, with its answer; where no hole says which fits, those that agree."""
+    """Every reading of numbers without a point that fits, with its answer; where no hole says which fits, those that
+    agree."""
     from .drill_decimals import implied
     for change, files, on in implied(base.package):
         answer = trials.of(base, change, files)
@@ -150,6 +152,15 @@ def recoded(rule, trials, base):
             yield hint("access codes", answer), answer
 
 
+def coded(trials, base):
+    """Access codes that are no layer of the board read otherwise, where the netlist is taken so."""
+    for rule in access_codes.RULES:
+        for change, files in access_codes.recoded(base.package, *rule):
+            answer = trials.of(base, change, files)
+            if answer.report:
+                yield hint("access codes", answer), answer
+
+
 def best(trials, base, kind, changes, names):
     """The best of some changes, tried until one agrees, where it leaves fewer faults."""
     found = None
@@ -164,7 +175,8 @@ def best(trials, base, kind, changes, names):
 
 
 def drills(trials, base):
-    """Drill files whose holes miss the pads moved onto them: all by the same change, then the first few each by its own."""
+    """Drill files whose holes miss the pads moved onto them: all by the same change, then the first few each by its
+    own."""
     if not base.package.manifest.drills or not base.rank()[1] or base.is_misplaced():
         return
     holes = trials.holes(base.package)
@@ -210,7 +222,8 @@ def nowhere(base, best):
 
 
 def placed(trials, base):
-    """The best placement, and drills and layers once more, where they leave fewer faults and less than one point of five without copper."""
+    """The best placement, and drills and layers once more, where they leave fewer faults and less than one point of
+    five without copper."""
     best = best_placement(trials, base)
     if best is None:
         return
@@ -251,7 +264,7 @@ def fitted(trials, base):
 def all_hints(program, told, ties):
     trials = Trials(program, ties)
     base = trials.trial(told)
-    for kind, changed in ((WRONG_LAYER, labelled), (IMPLIED_DECIMALS, decimals)):
+    for kind, changed in ((WRONG_LAYER, labelled), (IMPLIED_DECIMALS, decimals), (BAD_ACCESS, coded)):
         if base.is_refused_for(kind) and not base.report:
             found = list(changed(trials, base))
             yield from (each for each, _ in found)

@@ -30,7 +30,8 @@ def reordered(manifest, order):
 
 
 def layerings(package):
-    """(change, manifest) with the outer files where the surface points are, or none where that is as it is. Inner files keep their order."""
+    """(change, manifest) with the outer files where the surface points are, or none where that is as it is. Inner
+    files keep their order."""
     data, layers = package.read(package.manifest.netlist), package.manifest.layers
     unit = ipc356.unit_of(data)
     surface = [r for r in ipc356.places(data) if not r.is_through]

@@ -1,4 +1,5 @@
-"""Where a netlist may belong: its unit, mirror, turn and origin, by votes of places that lie on centres of pads and holes.
+"""Where a netlist may belong: its unit, mirror, turn and origin, by votes of places that lie on centres of pads and
+holes.
 
 A vote decides what is tried, and nothing else: what is told is what `check` says of the changed copy.
 """
@@ -76,8 +77,8 @@ def all_flashes(package):
 
 
 def voters(package, text, without):
-    """Places of records with centres that they may lie on: through points and holes, else all points and all centres. The holes
-    of some drill files have no vote."""
+    """Places of records with centres that they may lie on: through points and holes, else all points and all centres.
+    The holes of some drill files have no vote."""
     told = records(text)
     holes = sorted({spot for name, _, _ in package.manifest.drills if name not in without for spot in places(package.read(name))})
     through = sorted({(r.x, r.y) for r in told if r.is_through})
@@ -183,7 +184,8 @@ def votes(package, text, declared, without=()):
 
 
 def placements(package, without):
-    """(change, changed files), the likeliest first; among equal votes the fewest changes first. Holes of some files have no vote."""
+    """(change, changed files), the likeliest first; among equal votes the fewest changes first. Holes of some files
+    have no vote."""
     name = package.manifest.netlist
     text = text_of(package, name)
     declared = unit_of(text)

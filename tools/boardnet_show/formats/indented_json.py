@@ -1,16 +1,17 @@
 """JSON as the standard library writes it with an indent of 1, whose encoder with an indent is slow: in a third of its time."""
 import json
 from json.encoder import encode_basestring_ascii as quoted
+from typing import Any
 
 from boardnet_show.base.wording import numbered
 
 
-def whole(text):
+def whole(text: str) -> str:
     """A text without halves of characters, as names that are no UTF-8 have them: no text of JSON has one."""
     return text if text.isascii() else "".join(numbered(ord(it)) if "\ud800" <= it <= "\udfff" else it for it in text)
 
 
-def indented(value, line="\n"):
+def indented(value: Any, line: str = "\n") -> str:
     """A value of texts, whole numbers, finite ones, lists and the like; `line` is how a line of it begins."""
     kind = type(value)
     if kind is str:

@@ -4,7 +4,7 @@ The columns are those of the crate `ipc356_records`. A place of a line is what P
 """
 import re
 from functools import lru_cache
-from typing import Callable, Dict, Iterable, Iterator, List, NamedTuple, Optional, Sequence, Tuple
+from typing import Callable, Dict, Iterable, Iterator, List, NamedTuple, Optional, Sequence, Set, Tuple
 
 from .units import CODES, CUSTOM
 
@@ -34,10 +34,12 @@ ANY_RECORD = re.compile(rb"^(?:317|327)", re.M)
 ANY_UNITS = re.compile(rb"^P[ \t]*UNITS", re.M)
 ANY_END = re.compile(rb"^999", re.M)
 ANY_PASSED_OVER = re.compile(rb"^(?:%s)" % b"|".join(PASSED_OVER), re.M)
-ANY_NAME = re.compile(rb"^3[12]7(.{14})", re.M)
 FULL_NAME = re.compile(rb"^3[012]7[!-~]{14}", re.M)
-# A name that fills its columns and runs on behind them.
-LONG_NAME = re.compile(rb"^3[12]7(.{13}[!-~]{2,4})", re.M)
+# A parameter that KiCad alone writes, in the first lines.
+KICAD, HEAD = b"arrayDim", 400
+# A test record's name, what stands behind that, and its access code.
+FIELDS = re.compile(rb"^3[12]7(.{14})(.{3})?(?:.{18}A([ \d]\d))?", re.M)
+GRAPHIC = re.compile(rb"[!-~]+")
 
 # ---- parameters
 
@@ -208,15 +210,29 @@ def name_of(line: bytes) -> bytes:
     return line[NAME].strip() if is_test(line) and len(line) >= NAME.stop else b""
 
 
-def names(data: bytes) -> List[bytes]:
-    """The names of all test records, each once, in their order."""
-    found = dict.fromkeys(ANY_NAME.findall(data))
-    return [name for name in dict.fromkeys(field.strip() for field in found) if name]
+class Fields(NamedTuple):
+    """Of all test records: their names, each once in their order, those that fill their columns and run on behind them,
+    and the access codes."""
+
+    names: List[bytes]
+    long_names: List[bytes]
+    codes: Set[int]
 
 
-def has_full_name(data: bytes) -> bool:
-    """Whether a name fills its columns, and so may be cut."""
-    return FULL_NAME.search(data) is not None
+@lru_cache(maxsize=2)
+def fields(data: bytes) -> Fields:
+    """Read in one pass, kept for the netlists that were read last: a netlist may have many records."""
+    rows = dict.fromkeys(FIELDS.findall(data))
+    names = [name for name in dict.fromkeys(field.strip() for field, _, _ in rows) if name]
+    runs = ((field, GRAPHIC.match(behind)) for field, behind, _ in rows if GRAPHIC.match(field[-1:]))
+    long_names = dict.fromkeys(field + found[0] for field, found in runs if found)
+    return Fields(names, list(long_names), {int(code) for _, _, code in rows if code})
+
+
+def has_other_names(data: bytes) -> bool:
+    """Whether its tool may have written names otherwise: KiCad does, in capitals, and a name that fills its columns may be
+    cut."""
+    return KICAD in data[:HEAD] or FULL_NAME.search(data) is not None
 
 
 def text_of(name: bytes) -> str:

@@ -1,10 +1,11 @@
 """How far apart lines and places are, exactly, over whole numbers: each distance is rounded down to u."""
 from math import isqrt
 
+from .pieces import Line, Spot
 from .segments import segments_cross
 
 
-def from_line(place, a, b):
+def from_line(place: Spot, a: Spot, b: Spot) -> int:
     """The distance of a place from the line from a to b."""
     dx, dy, px, py = b[0] - a[0], b[1] - a[1], place[0] - a[0], place[1] - a[1]
     along, length = px * dx + py * dy, dx * dx + dy * dy
@@ -17,7 +18,7 @@ def from_line(place, a, b):
     return isqrt((px * dy - py * dx) ** 2 // length)
 
 
-def of_lines(first, second):
+def of_lines(first: Line, second: Line) -> int:
     """The distance of two lines, each of two places."""
     (a, b), (c, d) = first, second
     if a != b and c != d and segments_cross(a, b, c, d):

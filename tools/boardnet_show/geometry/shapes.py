@@ -2,6 +2,8 @@
 from array import array
 from typing import Iterable, List, Tuple
 
+from .pieces import Box, Piece, Spot
+
 AREA = -1
 
 
@@ -13,7 +15,7 @@ class Shapes:
         self.x, self.y = array("q"), array("q")
         self.boxes: List[Tuple[int, int, int, int]] = []
 
-    def __len__(self):
+    def __len__(self) -> int:
         return len(self.radius)
 
     def add(self, radius: int, places: Iterable[Tuple[int, int]]) -> None:
@@ -36,7 +38,7 @@ class Shapes:
         self.x.fromlist(xs)
         self.y.fromlist(ys)
 
-    def take(self, others, first, past):
+    def take(self, others: "Shapes", first: int, past: int) -> None:
         """Adds a range of other shapes, with their boxes where both are known."""
         a, b = others.start[first], others.start[past]
         if len(self.boxes) == len(self) and len(others.boxes) >= past:
@@ -47,49 +49,50 @@ class Shapes:
         self.x += others.x[a:b]
         self.y += others.y[a:b]
 
-    def has(self, piece, others, other):
+    def has(self, piece: int, others: "Shapes", other: int) -> bool:
         """Whether a piece is the same as one of other shapes."""
         mine, its = slice(self.start[piece], self.start[piece + 1]), slice(others.start[other], others.start[other + 1])
-        return self.radius[piece] == others.radius[other] and self.x[mine] == others.x[its] and self.y[mine] == others.y[its]
+        is_like = self.radius[piece] == others.radius[other]
+        return is_like and self.x[mine] == others.x[its] and self.y[mine] == others.y[its]
 
-    def is_area(self, piece):
+    def is_area(self, piece: int) -> bool:
         return self.radius[piece] == AREA
 
-    def places(self, piece):
+    def places(self, piece: int) -> List[Spot]:
         first, end = self.start[piece], self.start[piece + 1]
         if end - first == 1:
             return [(self.x[first], self.y[first])]
         return list(zip(self.x[first:end], self.y[first:end]))
 
-    def solid(self, piece):
+    def solid(self, piece: int) -> Piece:
         """A piece as bounds have it: ("capsule", a, b, r) or ("area", corners)."""
         places = self.places(piece)
         return ("area", places) if self.is_area(piece) else ("capsule", places[0], places[-1], self.radius[piece])
 
-    def is_spot(self, piece):
+    def is_spot(self, piece: int) -> bool:
         """Whether it is a capsule of one place, as of a round pad."""
         return self.start[piece + 1] - self.start[piece] == 1 and self.radius[piece] >= 0
 
-    def form(self, piece, x, y):
+    def form(self, piece: int, x: int, y: int) -> Tuple[int, Tuple[int, ...], Tuple[int, ...]]:
         """The radius and the places beside (x, y): pieces that are alike have the same."""
         a, b = self.start[piece], self.start[piece + 1]
         return self.radius[piece], tuple([v - x for v in self.x[a:b]]), tuple([w - y for w in self.y[a:b]])
 
-    def first(self, piece):
+    def first(self, piece: int) -> Spot:
         """The first place of a piece."""
         return self.x[self.start[piece]], self.y[self.start[piece]]
 
-    def box(self, piece):
+    def box(self, piece: int) -> Box:
         """The box round a piece: left, low, right, high."""
         return self.boxes[piece] if piece < len(self.boxes) else self.all_boxes()[piece]
 
-    def all_boxes(self):
+    def all_boxes(self) -> List[Box]:
         """The boxes of all pieces, found once."""
         if len(self.boxes) < len(self):
             self.boxes += self.boxes_from(len(self.boxes))
         return self.boxes
 
-    def boxes_from(self, first):
+    def boxes_from(self, first: int) -> List[Box]:
         """The boxes of all pieces from one on."""
         found = []
         for r, a, b in zip(self.radius[first:], self.start[first:], self.start[first + 1:]):
@@ -98,7 +101,8 @@ class Shapes:
                 found.append((x - r, y - r, x + r, y + r))
             elif r >= 0:
                 x, y, u, v = self.x[a], self.y[a], self.x[b - 1], self.y[b - 1]
-                found.append(((x if x < u else u) - r, (y if y < v else v) - r, (u if x < u else x) + r, (v if y < v else y) + r))
+                (left, right), (low, high) = (x, u) if x < u else (u, x), (y, v) if y < v else (v, y)
+                found.append((left - r, low - r, right + r, high + r))
             else:
                 xs, ys = self.x[a:b], self.y[a:b]
                 found.append((min(xs), min(ys), max(xs), max(ys)))

@@ -1,6 +1,7 @@
 """Zip archives: their files, written flat to a folder beside the archive."""
 import errno
 import os
+from typing import Dict
 
 from .file_names import MOST_BYTES, Refused, shown
 
@@ -20,6 +21,22 @@ def files_of(archive):
     if len(found) > MOST_FILES or sum(entry.file_size for entry in found.values()) > MOST_IN_ALL:
         raise Refused("the archive has over 1000 files, or over a gigabyte of them: unpack by hand what belongs to the board")
     return found
+
+
+def link_files(path: str, folder: str) -> None:
+    """Has the files of a folder's folders in a new one by links, as those of an archive."""
+    found: Dict[str, str] = {}
+    for home, folders, names in os.walk(path):
+        folders[:] = sorted(name for name in folders if not name.startswith((".", "__MACOSX")))
+        for name in sorted(name for name in names if not name.startswith(".")):
+            if name in found:
+                raise Refused(f"the folders in it have two files of the name {shown(name)}: give the folder of one board")
+            found[name] = os.path.abspath(os.path.join(home, name))
+        if len(found) > MOST_FILES:
+            raise Refused(f"the folders in it have over {MOST_FILES} files: give the folder of one board")
+    os.makedirs(folder)
+    for name, source in found.items():
+        os.symlink(source, os.path.join(folder, name))
 
 
 def is_damage(error):

@@ -10,23 +10,30 @@ from boardnet_show.formats.gerber_lexer import may_lack_quadrants
 from boardnet_show.intake.mends import mended_files as mends, netlist_mends
 
 from .evidence import drill_numbers
+from .package import Taken
 
 
-def mend(package, progress, is_yes=False):
+def mend(package, progress, is_yes=False, said=()):
     """Rewrites what `check` refuses and the files say otherwise, in the package's folder; what was mended is noted in it. What
-    the board alone says of a file is taken where that was said to be right."""
+    the board alone says of a file is taken where that was said to be right, or is among what is `said` to be taken."""
     if not package.manifest:
         return
     progress.begin("looking for what to mend")
     doubts = rewritten(package, partial(progress.step, "looking for what to mend, file"))
-    if doubts and not is_yes:
+    unsaid = [it for it in doubts if it not in said]
+    if unsaid and not is_yes:
         from .evidence import readings      # few boards want them
-        raise Stop(UNCLEAR, readings.ASK + would_be_taken(doubts))
-    package.guessed += doubts
+        raise Stop(UNCLEAR, readings.ASK + would_be_taken(unsaid))
+    package.guessed += map(sentence, unsaid)
+    package.taken += doubts
+
+
+def sentence(taken):
+    return f"{taken.file} {taken.what}"
 
 
 def would_be_taken(doubts):
-    return "".join(f"\n  would be taken: {it}" for it in doubts)
+    return "".join(f"\n  would be taken: {sentence(it)}" for it in doubts)
 
 
 def with_readings(unconfirmed):
@@ -39,7 +46,7 @@ def with_readings(unconfirmed):
 
 
 def rewritten(package, told=lambda number, count: None):
-    """Does it, and answers what the board alone says, in sentences; `told` hears which file it is."""
+    """Does it, and answers what the board alone says of its files; `told` hears which file it is."""
     drills = [name for name, _, _ in package.manifest.drills]
     need_functions(package)
     need_plated(package, drills)
@@ -49,21 +56,21 @@ def rewritten(package, told=lambda number, count: None):
     # A copy of a netlist that lies elsewhere cannot stand under its name, which is said where one is wanted.
     its = mends.of_files(lambda name: (read if name == netlist else bytes_of)(package, name), package.manifest.copper, drills,
                          netlist, settling, told)
-    for name, data, told in its:
+    for name, data, mends_of_it in its:
         package.put(name, data)
-        package.mends += told
-    return settling.sentences() + taken(package)
+        package.mends += mends_of_it
+    return [Taken(name, f"as {how}") for name, how in settling.taken()] + taken(package)
 
 
 def taken(package):
-    """Has files read as the board says, and answers how, in sentences."""
+    """Has files read as the board says, and answers how."""
     if not wants_readings(package):
         return []
     from .evidence import readings      # few boards want them
     found = list(readings.of_files(lambda name: bytes_of(package, name), package.manifest.copper, package.manifest.netlist))
     for it in found:
         package.put(it.file, it.data)
-    return [it.sentence() for it in found]
+    return [Taken(it.file, it.words) for it in found]
 
 
 def wants_readings(package):

@@ -226,6 +226,13 @@ def of_folder(home, asked, scratch, declared):
     return package
 
 
+def holds_folders_alone(path: str) -> bool:
+    """Whether a folder has folders in it and no file of its own, as some tools sort what they write."""
+    with os.scandir(path) as entries:
+        its = [entry.is_dir(follow_symlinks=False) for entry in entries if not entry.name.startswith((".", "__MACOSX"))]
+    return bool(its) and all(its)
+
+
 def is_archive(path):
     if not os.path.isfile(path):
         return False
@@ -266,6 +273,16 @@ def of_archive(path, asked, scratch, declared):
     return package
 
 
+def of_sorted_files(path, asked, scratch, declared):
+    """The package of a folder whose files its tool has sorted into folders, as that of an archive."""
+    from . import archives      # few boards are sorted so
+    folder = os.path.join(scratch, "unpacked")
+    archives.link_files(path, folder)
+    package = opened(folder, asked, scratch, None, declared)
+    package.home = path
+    return package
+
+
 def opened(path, asked, scratch, inside=None, declared: Callable[[str], Sorted] = nothing_declared):
     """The package of a folder, a zip archive or a manifest; with a folder the files are to lie there. `declared` says what is declared of the
     files of a folder."""
@@ -278,6 +295,8 @@ def opened(path, asked, scratch, inside=None, declared: Callable[[str], Sorted] 
             return of_manifest(path, scratch)
         if os.path.exists(os.path.join(path, "m.json")):
             return of_manifest(os.path.join(path, "m.json"), scratch, inside)
+        if not inside and holds_folders_alone(path):
+            return of_sorted_files(path, asked, scratch, declared)
         return of_folder(path, asked, scratch, declared)
     except Refused as why:
         raise Stop(UNCLEAR, str(why)) from None

@@ -3,7 +3,7 @@ import os
 from typing import Iterator, List, NamedTuple, Set
 
 from boardnet_show.base.statuses import BadCopper
-from boardnet_show.formats.drills.drill_lines import BODY, Hit, Pick, Rout, places_of
+from boardnet_show.formats.drills.drill_lines import BODY, Hit, Mode, Pick, Rout, Unit, places_of
 from boardnet_show.formats.drills.drill_plating import Plating
 from boardnet_show.formats.drills.drilled_holes import add_drilled
 from boardnet_show.geometry.shapes import Shapes
@@ -42,7 +42,11 @@ def read_plain(path: str) -> bytes:
 
 
 def is_exact(plating: Plating) -> bool:
-    """Whether every place of a drill file has numbers with a point, and so its places are known."""
+    """Whether a drill file says its unit first, and every number has a point, so that its places are known."""
+    records = (line.record() for line in plating.lines if line.text[:1] in b"MI")
+    said = [record for record in records if isinstance(record, (Mode, Unit))]
+    if plating.head.added or not said or isinstance(said[0], Mode) or len({record.unit for record in said}) > 1:
+        return False
     numbers = (number for line in plating.lines for place in places_of(line.record()) for number in place if number)
     return all(b"." in number for number in numbers)
 

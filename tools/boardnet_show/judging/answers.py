@@ -9,7 +9,8 @@ EXACT, BETWEEN, STOPPED, NOTHING = "exact", "between", "stopped", "nothing"
 
 
 class Counts(NamedTuple):
-    """How much counts: opens and points without copper, shorts that are no declared ties, and ties that no copper makes."""
+    """How much counts: opens and points without copper, shorts that are no declared ties, and ties that no copper
+    makes."""
 
     opens: int
     shorts: int
@@ -18,7 +19,8 @@ class Counts(NamedTuple):
 
 
 class Both(NamedTuple):
-    """The answers on a lower and an upper board, how many findings are certain and how many not, and whether the program takes both as bounds."""
+    """The answers on a lower and an upper board, how many findings are certain and how many not, and whether the
+    program takes both as bounds."""
 
     lower: str
     upper: str
@@ -28,8 +30,8 @@ class Both(NamedTuple):
 
 
 class Answer(NamedTuple):
-    """`said` is the program's own line, or why the board is not judged; `no_bounds` why there are no bounds of a board that is refused,
-    `behind` what else would stop it; `is_trial` whether a trial build said it, which is not proved.
+    """`said` is the program's own line, or why the board is not judged; `no_bounds` why there are no bounds of a board
+    that is refused, `behind` what else would stop it; `is_trial` whether a trial build said it, which is not proved.
 
     `counts` is what counts by the report where ties are declared or findings waived. `ties` is how many declared ties the copper has, None
     where none is declared; so many things are `declared`, findings `waived`, and declarations and waivers `stale`."""

@@ -1,4 +1,5 @@
-"""Whether the program takes both boards of a board as its bounds: its command `between`, where it reads all copper outside the profile.
+"""Whether the program takes both boards of a board as its bounds: its command `between`, where it reads all copper
+outside the profile.
 
 It reads the user's files with their arcs and macros, and tests of each piece of the board that it lies between those that stand for
 it. A file of counts says how many stand for each; nothing trusts it. What it finds is compared with the reports on both boards, line
@@ -25,7 +26,8 @@ NAME = re.compile(rb"^name [0-9]+ (.*)$", re.M)
 
 
 def counts(package, sides, high):
-    """How many pieces of both boards stand for each piece of the board: of a command that is written otherwise, and each copy, its rows."""
+    """How many pieces of both boards stand for each piece of the board: of a command that is written otherwise, and
+    each copy, its rows."""
     manifest = package.manifest
     rows = [sides.rows[name] for name in manifest.copper] + [{}] * len(manifest.drills)
     above, told = own_commands(high.report, manifest, sides.sources[1]).sources, []
@@ -58,7 +60,8 @@ def asked(program, package, sides, high):
 # ---- what it finds, by the reports on both boards
 
 class Found(NamedTuple):
-    """Test points: of each open the first one on its further net, of each short those of its names, and those without copper."""
+    """Test points: of each open the first one on its further net, of each short those of its names, and those
+    without copper."""
 
     opens: list
     shorts: list
@@ -135,7 +138,8 @@ def confirm(text, decision, status, ties):
 # ---- what is told
 
 def smaller(program, package, ties):
-    """The board by the smaller areas that `between` wants: both sides, and what `judge` of `bounds` answers of them; None where they are none."""
+    """The board by the smaller areas that `between` wants: both sides, and what `judge` of `bounds` answers of them;
+    None where they are none."""
     try:
         sides = two_bounds.of_package(package, is_coarse=True, told=program.progress.step)
         return sides, two_bounds.judged_by(program, package, sides, ties, package.between)
@@ -162,8 +166,8 @@ def proved(bounds):
 
 
 def answer_of_between(program, judged, answer, ties, is_finer=False):
-    """The answer on a board between two bounds, with the word where the program takes these and finds what they do; they are the package's then.
-    Of regions with arcs `is_finer` keeps the areas that it does not take."""
+    """The answer on a board between two bounds, with the word where the program takes these and finds what they do;
+    they are the package's then. Of regions with arcs `is_finer` keeps the areas that it does not take."""
     package = judged.package
     if not answer.sides or answer.status not in ANSWERS or None in package.sides.rows.values():
         return answer

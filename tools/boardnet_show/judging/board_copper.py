@@ -1,4 +1,5 @@
-"""The shapes of a board's pieces: copper from `flatten`'s normal form, holes from the drill lines that the report names."""
+"""The shapes of a board's pieces: copper from `flatten`'s normal form, holes from the drill lines that the report
+names."""
 from boardnet_show.base.statuses import BadCopper
 from boardnet_show.formats.drills.drilled_holes import add_drilled
 from boardnet_show.formats.normal_form import add_flat
@@ -17,7 +18,8 @@ def lines_of(files, report):
 
 
 class Known:
-    """The files of a board whose shapes are known: the pieces of each, by its bytes and of a drill file the lines with holes."""
+    """The files of a board whose shapes are known: the pieces of each, by its bytes and of a drill file the lines
+    with holes."""
 
     def __init__(self, board):
         self.shapes, self.pieces, first = board.shapes, {}, 0
@@ -28,7 +30,8 @@ class Known:
 
 
 def shapes_of(package, report, flatten, known=None):
-    """The shape of every piece. `flatten(name)` answers the normal form of a copper file; what is `known` of another board is taken."""
+    """The shape of every piece. `flatten(name)` answers the normal form of a copper file; what is `known` of another
+    board is taken."""
     files, shapes = package.manifest.files, Shapes()
     counts, lines = lines_of(files, report)
     for file, name in enumerate(files):

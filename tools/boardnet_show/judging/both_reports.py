@@ -10,7 +10,8 @@ FEW = 4     # parts that are told by a point
 
 
 class Joint:
-    """Both reports of one board; they have the same test points and names. Names that are declared to be tied count as one."""
+    """Both reports of one board; they have the same test points and names. Names that are declared to be tied count
+    as one."""
 
     def __init__(self, low, high, records, manifest, ties):
         self.low, self.high, self.records, self.manifest, self.ties = low, high, records, manifest, ties
@@ -76,7 +77,8 @@ class Joint:
             yield "open", False, told, self.places(firsts), firsts
 
     def parted(self):
-        """Declared ties that the copper does not have, or perhaps not; those of a name without a point have no place."""
+        """Declared ties that the copper does not have, or perhaps not; those of a name without a point have no
+        place."""
         above, firsts = nets_of(self.high), {}
         for point, (*_, net) in enumerate(self.high.points):
             firsts.setdefault(self.name(point), {}).setdefault(net, point)

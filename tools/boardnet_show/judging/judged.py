@@ -1,4 +1,5 @@
-"""What the program says of a package: `check`, and always `audit` on that report. Files that `check` refuses for a macro are flattened."""
+"""What the program says of a package: `check`, and always `audit` on that report. Files that `check` refuses for a
+macro are flattened."""
 from typing import NamedTuple, Optional
 
 from boardnet_show.base import refusals
@@ -12,7 +13,8 @@ from boardnet_show.intake.package import Package
 from .program import Answer
 
 class Judged(NamedTuple):
-    """The program's answer; `report` and `text` are None where a file is refused, `audit` is what the audit says of the report."""
+    """The program's answer; `report` and `text` are None where a file is refused, `audit` is what the audit says of
+    the report."""
 
     package: Package
     status: int

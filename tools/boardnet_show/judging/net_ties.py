@@ -1,13 +1,15 @@
-"""Net ties that are declared: names that the copper is meant to join, as `--tie A=B`, lines of ties.txt and pads of several nets say.
+"""Net ties that are declared: names that the copper is meant to join, as `--tie A=B`, lines of ties.txt and pads of
+several nets say.
 
 A short whose names are all tied together is such a tie and no finding. A tie that no copper makes is an open. What `check` says
 is not changed: its report has each tie as a short, and `audit` confirms that report.
 """
 import re
-from typing import NamedTuple, Tuple
+from typing import Any, Dict, Iterator, List, NamedTuple, Tuple
 
 from boardnet_show.base.statuses import NOT_UNDERSTOOD, Stop
 from boardnet_show.formats.ipc356 import NO_NET
+from boardnet_show.formats.report import Report
 from boardnet_show.intake.package import TIES
 
 from .answers import EXACT, STOPPED, Answer, Counts
@@ -45,8 +47,8 @@ def tie(text, source, whole=NONE_WHOLE):
 
 
 def declared(asked, package, declarations=()):
-    """The ties of the command, of (text, source) of declarations, of the file beside the manifest and of the copper's own names, each once,
-    by whole names."""
+    """The ties of the command, of (text, source) of declarations, of the file beside the manifest and of the copper's
+    own names, each once, by whole names."""
     rows = [*((text, "--tie") for text in asked), *declarations]
     found = [tie(text, source, package.whole)._replace(is_asked=True) for text, source in rows]
     try:
@@ -126,7 +128,7 @@ def nets_of(report):
     return nets
 
 
-def told_of(ties, report):
+def told_of(ties: Ties, report: Report) -> Iterator[Dict[str, Any]]:
     """Each tie for JSON: its names, where it is declared, and the net that makes it, or None."""
     nets = nets_of(report)
     for it in ties.ties:
@@ -134,12 +136,12 @@ def told_of(ties, report):
         yield {"names": list(it.names), "source": it.source, "net": min(both, default=None)}
 
 
-def lost(ties, report):
+def lost(ties: Ties, report: Report) -> List[str]:
     """For each tie of names that no test point has, and so without a place, what is told of it."""
     return [words for _, words in absent(ties, report)]
 
 
-def absent(ties, report):
+def absent(ties: Ties, report: Report) -> Iterator[Tuple[Tie, str]]:
     names = set(report.names)
     for it in ties.ties:
         some = [name for name in it.names if name not in names]

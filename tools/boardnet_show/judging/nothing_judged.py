@@ -1,4 +1,5 @@
-"""What a yes says nothing about: boards on which no two test points could contradict one another, and pins without net that are joined."""
+"""What a yes says nothing about: boards on which no two test points could contradict one another, and pins without
+net that are joined."""
 from boardnet_show.base.wording import counted, spoken
 from boardnet_show.formats.ipc356 import NO_NET
 
@@ -9,7 +10,8 @@ NO_POINTS = NOTHING + "the netlist has no test point (no 317 and no 327 record),
 
 
 def why_nothing(report):
-    """Why no two points of a report could contradict one another, or nothing: two of one name could be parted, two of others joined."""
+    """Why no two points of a report could contradict one another, or nothing: two of one name could be parted, two
+    of others joined."""
     names = {report.names[name] for _, _, name, _ in report.points}
     if not report.points:
         return NO_POINTS

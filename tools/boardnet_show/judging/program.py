@@ -9,13 +9,15 @@ from boardnet_show.base.statuses import REFUSED, Stop
 from . import building
 
 TOOLS = os.path.dirname(os.path.dirname(os.path.dirname(os.path.abspath(__file__))))
-# Where the program lies: beside the tools where it is installed, in a checkout where the gate or the launcher leaves it.
+# Where the program lies: beside the tools where it is installed, in a checkout where the gate or the launcher leaves
+# it.
 PLACES = (os.path.join(TOOLS, "boardnet"), os.path.join(os.path.dirname(TOOLS), "crates", "boardnet", "out", "boardnet"))
 NO_PROGRAM = 127
 
 
 class Answer(NamedTuple):
-    """What a command of the program answered; `line` is its line without `boardnet: `, and `refusal` what that says of a file."""
+    """What a command of the program answered; `line` is its line without `boardnet: `, and `refusal` what that says
+    of a file."""
 
     status: int
     out: bytes

@@ -39,8 +39,8 @@ class SideRefused(Refused):
 
 
 class Bounded(NamedTuple):
-    """The answer on a board between two; `findings` are (kind, sure, words, places), places (x, y, layer) with x and y in u.
-    `points` are those of each finding, `sides` what both boards are made of, `notes` what else is to be told."""
+    """The answer on a board between two; `findings` are (kind, sure, words, places), places (x, y, layer) with x and y
+    in u. `points` are those of each finding, `sides` what both boards are made of, `notes` what else is to be told."""
 
     answer: Answer
     findings: list
@@ -66,9 +66,10 @@ class Made(NamedTuple):
 
 
 class Sides(NamedTuple):
-    """The two packages of a board, with the words' sources by side and file, and what is left out below. `rows` are by file those of
-    the commands that `between` reads, None where a file has other copper outside the profile; `unlike` are the commands that make
-    other copper on both sides; `is_bent` says that regions with arcs are among those of `rows`."""
+    """The two packages of a board, with the words' sources by side and file, and what is left out below. `rows` are by
+    file those of the commands that `between` reads, None where a file has other copper outside the profile; `unlike`
+    are the commands that make other copper on both sides; `is_bent` says that regions with arcs are among those of
+    `rows`."""
 
     packages: tuple
     sources: tuple
@@ -140,7 +141,8 @@ def key_of(package, name, is_coarse):
 
 
 def made_once(package, names, is_coarse, told):
-    """The bounds of each copper file with the texts of both sides, which copies of the package that have the file too read again."""
+    """The bounds of each copper file with the texts of both sides, which copies of the package that have the file
+    too read again."""
     known = {name: package.made.get(key_of(package, name, is_coarse), (None, [])) for name in names}
     is_known = {name: bool(made and (paths or not made.replaced)) for name, (made, paths) in known.items()}
     works = [(name, package.read(name), is_coarse) for name in names if not is_known[name]]
@@ -164,8 +166,8 @@ def read_whole(path):
 
 
 def of_package(package, is_coarse=False, told=None):
-    """Both sides of each copper file that holds something outside the profile; the others are the same files. Coarse ones have areas
-    within regions as `between` wants them. `told` hears which file is made."""
+    """Both sides of each copper file that holds something outside the profile; the others are the same files. Coarse
+    ones have areas within regions as `between` wants them. `told` hears which file is made."""
     files, sources, left_out, rows, unlike, replaced, is_bent = ({}, {}), ({}, {}), [], {}, {}, 0, False
     for name, copper, texts in made_once(package, [*dict.fromkeys(package.manifest.copper)], is_coarse, told):
         is_bent = is_bent or copper.is_bent
@@ -193,7 +195,8 @@ def is_same_board(one, other):
 
 
 def both_judged(program, sides, before=()):
-    """What the program says of both packages, each report audited; one like another that was judged before is not judged again."""
+    """What the program says of both packages, each report audited; one like another that was judged before is not
+    judged again."""
     told = []
     for number, (side, package) in enumerate(zip(SIDES, sides.packages)):
         known = before and before[number]
@@ -220,7 +223,8 @@ def answered(program, package, sides, low, high, ties):
 
 
 def judged_by(program, package, sides, ties, before=()):
-    """(answer, lower, upper) of both sides of a package; Refused where one is. `before` is such an answer by other sides."""
+    """(answer, lower, upper) of both sides of a package; Refused where one is. `before` is such an answer by other
+    sides."""
     low, high = both_judged(program, sides, before[1:])
     return answered(program, package, sides, low, high, ties), low, high
 
@@ -248,7 +252,8 @@ def own_refusal(package, why):
 
 
 def refused_answer(told, why):
-    """The answer where no bounds can be given: by what truly stops the board, where that is a file of the user's own."""
+    """The answer where no bounds can be given: by what truly stops the board, where that is a file of the user's
+    own."""
     refusal = own_refusal(told.package, why) if isinstance(why, SideRefused) and why.refusal else None
     if refusal:
         return answers.blocked(told.status, refusal, told.refusal)

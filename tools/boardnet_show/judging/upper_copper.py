@@ -1,5 +1,5 @@
-"""Of the upper of two bounds the copper of the commands that are written otherwise below. Only these are flattened and read: all others
-make the same copper in both, but for a fifth of a nanometre at pens off the grid."""
+"""Of the upper of two bounds the copper of the commands that are written otherwise below. Only these are flattened and
+read: all others make the same copper in both, but for a fifth of a nanometre at pens off the grid."""
 from boardnet_show.base.statuses import BadCopper
 from boardnet_show.formats.normal_form import add_flat
 from boardnet_show.geometry.shapes import Shapes
@@ -11,7 +11,8 @@ DRAWN = "D01*"
 
 
 def reduced(text, sources, unlike):
-    """A side's file with the words of some commands alone, all definitions and blocks, and a move to where each command begins."""
+    """A side's file with the words of some commands alone, all definitions and blocks, and a move to where each
+    command begins."""
     lines, kept, last, is_there = text.split("\n"), [], 0, False
     for k in [k for k, (line, source) in enumerate(zip(lines, sources)) if source in unlike or line[0] in "%M"]:
         is_there, line = is_there and k == last + 1, lines[k]
@@ -32,7 +33,8 @@ def place_before(lines, k):
 
 
 def above(program, high, sides):
-    """(shapes, sources by the user's commands) of the upper board's pieces that may be other ones; BadCopper where they are not known."""
+    """(shapes, sources by the user's commands) of the upper board's pieces that may be other ones; BadCopper where
+    they are not known."""
     package, shapes, told = high.package, Shapes(), []
     own = two_bounds.own_commands(high.report, package.manifest, sides.sources[1]).sources
     for file, name in enumerate(package.manifest.copper):

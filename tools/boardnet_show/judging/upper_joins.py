@@ -45,7 +45,8 @@ class Differing:
         return self.below.get(key) or {key}
 
     def graph(self, net):
-        """The lower nets that touches of an upper net join: for each the others, with the touching pieces. A net may have many findings."""
+        """The lower nets that touches of an upper net join: for each the others, with the touching pieces. A net may
+        have many findings."""
         if net not in self.graphs:
             self.graphs[net] = self.joined(self.pieces[net])
         return self.graphs[net]

@@ -1,24 +1,27 @@
 """What the flashes of blocks make: of a copper file with AB for each piece of the lower bound the object of the block.
 
-A block's object has its own attributes, or where it has none those of the flash. The walk is that which writes the bounds, so that
-pieces come in the same order; a flash whose pieces are others, as where they are cut, has no objects here.
+A block's object has its own attributes, or where it has none those of the flash. The walk is that which writes the
+bounds, so that pieces come in the same order; a flash whose pieces are others, as where they are cut, has no objects
+here.
 """
 from collections import defaultdict
+from typing import Any, List, Sequence
 
 from boardnet_show.bounds.files.bounded_file import Copper
 from boardnet_show.formats.gerber_machine import FLASH
 from boardnet_show.formats.gerber_objects import Object
+from boardnet_show.geometry.pieces import Piece
 
 
 class Blocks(Copper):
     """`found` has for each flash of a block outside of blocks (object, pieces of the lower side), in order."""
 
-    def __init__(self, text):
+    def __init__(self, text: str) -> None:
         self.functions, self.found = {}, defaultdict(list)
         self.inner, self.is_contour = None, False
         super().__init__(text)
 
-    def attribute(self, text):
+    def attribute(self, text: str) -> None:
         self.attributes.word(text)
         super().attribute(text)
 
@@ -31,7 +34,7 @@ class Blocks(Copper):
         super().end_region(contours)
         self.is_contour = False
 
-    def object(self):
+    def object(self) -> Object:
         """What the command makes that is walked now."""
         its, kind = self.attributes, "contour" if self.is_contour else "flash" if self.code is FLASH else "draw"
         function = its.function if self.is_contour else self.functions.get(self.chosen, "")
@@ -51,14 +54,14 @@ class Blocks(Copper):
         elif its and dark:
             self.found[self.number].append((self.named(its), both[0]))
 
-    def named(self, made):
+    def named(self, made: Object) -> Object:
         """An object of a block as the flash has it."""
         own, number = self.object(), len(self.found[self.number]) + 1
         more = {} if made.part else {"part": own.part, "pin": own.pin}
         return made._replace(command=self.number, region=number if made.kind == "contour" else 0, inner=number, net=made.net or own.net, **more)
 
 
-def form(pieces):
+def form(pieces: Sequence[Piece]) -> List[Any]:
     """Pieces beside the first place: ("area", corners) or ("capsule", a, b, r)."""
     flat = [(-1, piece[1]) if piece[0] == "area" else (piece[3], dict.fromkeys(piece[1:3])) for piece in pieces]
     x, y = next(iter(flat[0][1]))

@@ -1,22 +1,27 @@
-"""A netlist of the names that the copper files give their own pads (Gerber Layer Format Specification, 5.6: .P, .N and .C).
+"""A netlist of the names that the copper files give their own pads (Gerber Layer Format Specification, 5.6: .P, .N
+and .C).
 
-One test point for each part of a flash or a draw and each contour of a region with a pin, on the layer of its file; where no file names a pin, one for
-each flash and contour with a net. What the flash of a block makes has a point for each object of the block, by its own attributes or those
-of the flash. A pad of several nets has a point of each and declares that they are tied. What is known so are opens and shorts against the
-copper's own names: that these are the right ones nothing says.
+One test point for each part of a flash or a draw and each contour of a region with a pin, on the layer of its file;
+where no file names a pin, one for each flash and contour with a net. What the flash of a block makes has a point for
+each object of the block, by its own attributes or those of the flash. A pad of several nets has a point of each and
+declares that they are tied. What is known so are opens and shorts against the copper's own names: that these are the
+right ones nothing says.
 """
 import re
-from typing import NamedTuple
+from typing import Dict, Iterator, List, NamedTuple, Optional, Sequence, Tuple
 
 from boardnet_show.base.statuses import UNCLEAR, UNREADABLE, Stop
 from boardnet_show.base.wording import at_most, counted, spoken, with_ends
+from boardnet_show.bounds.apertures.apertures import Block
 from boardnet_show.bounds.files import bounded_file
 from boardnet_show.bounds.polarity import dark_and_clear
 from boardnet_show.formats import gerber_attributes, ipc356
-from boardnet_show.formats.gerber_lexer import OPERATION
+from boardnet_show.formats.gerber_lexer import OPERATION, Parts, Word
 from boardnet_show.formats.gerber_machine import CENTRE, CODES, DRAW, FLASH, Machine
 from boardnet_show.geometry.box_tree import Tree
 from boardnet_show.geometry.exact import Refused
+from boardnet_show.geometry.pieces import Both
+from boardnet_show.intake.package import Package
 from boardnet_show.judging import net_ties
 
 from . import pad_places
@@ -33,7 +38,7 @@ class Label(NamedTuple):
     pin: str
     names: tuple
 
-    def within(self, outer):
+    def within(self, outer: "Label") -> "Label":
         """That of an object of a block whose flash has another: its own, and what it lacks is the flash's."""
         component, pin = self[:2] if self.pin else outer[:2]
         return Label(component, pin, self.names or outer.names)
@@ -61,7 +66,7 @@ CLEAR = "it takes copper away"
 NO_COPPER = "it makes no copper"
 
 
-def label_in_force(attributes):
+def label_in_force(attributes: gerber_attributes.InForce) -> Label:
     """The label of the next object."""
     its = {name: [*map(gerber_attributes.printable_field, fields)] for name, fields in attributes.of_objects.items()}
     part, pin, *_ = [*its.get(".P", []), "", ""]
@@ -71,32 +76,33 @@ def label_in_force(attributes):
 
 
 class Pads(Machine):
-    """The words of a copper file with its labelled objects and its blocks alone: walking all copper of a board would take long.
+    """The words of a copper file with its labelled objects and its blocks alone: walking all copper of a board would
+    take long.
 
-    `labels` are those of the commands of the new text that end an object, `tracks` the draws with a net of their own and no pin, `passed`
-    labels outside of blocks that are no test points, with why: of such draws where nets are wanted, and of flashes and regions where
-    pins are. Other draws and regions leave their last place, as what comes next may go on from it; where the file erases copper all words
-    stay.
+    `labels` are those of the commands of the new text that end an object, `tracks` the draws with a net of their own
+    and no pin, `passed` labels outside of blocks that are no test points, with why: of such draws where nets are
+    wanted, and of flashes and regions where pins are. Other draws and regions leave their last place, as what comes
+    next may go on from it; where the file erases copper all words stay.
     """
 
-    def __init__(self, data, wants_pins):
+    def __init__(self, data: bytes, wants_pins: bool) -> None:
         super().__init__()
         self.wants_pins, self.stays = wants_pins, b"LPC*" in data
         self.words, self.labels, self.label, self.first = [], {}, NONE, 0
         self.tracks, self.passed = set(), []
         self.read(data)
 
-    def attribute(self, text):
+    def attribute(self, text: str) -> None:
         super().attribute(text)
         if text[:2] in ("TO", "TD"):
             self.label = label_in_force(self.attributes)
 
-    def extended(self, word):
+    def extended(self, word: Word) -> None:
         super().extended(word)
         if not word.text.startswith((b"TO", b"TD")):
             self.words.append((True, word.text, word.first))
 
-    def plain(self, word):
+    def plain(self, word: Word) -> None:
         text = word.text
         said = gerber_attributes.as_written(text)
         if said.startswith((b"TO", b"TD")):
@@ -111,19 +117,19 @@ class Pads(Machine):
         self.put(text[3:] if is_told else text)
         super().plain(word)
 
-    def comment(self, text):
+    def comment(self, text: bytes) -> None:
         """An attribute in a comment is heard above."""
 
-    def put(self, text):
+    def put(self, text: bytes) -> None:
         self.words.append((False, text, True))
 
-    def operation(self, parts):
+    def operation(self, parts: Parts) -> None:
         if CENTRE.fullmatch(parts[3]):
             self.operated(self.word.text, parts)
         else:
             self.put(self.word.text)
 
-    def operated(self, text, parts):
+    def operated(self, text: bytes, parts: Parts) -> None:
         code = parts[-1]
         self.code = CODES[code] if code else self.code
         if not self.in_region and self.code in (None, DRAW):
@@ -134,7 +140,7 @@ class Pads(Machine):
         if self.code is FLASH:
             self.note()
 
-    def note(self, is_draw=False):
+    def note(self, is_draw: bool = False) -> bool:
         """Notes the label of the command that was last; answers whether it may be wanted."""
         found = self.label
         if found.pin or found.names:
@@ -144,10 +150,10 @@ class Pads(Machine):
             self.passed.append((found, NET_ALONE))
         return is_wanted
 
-    def is_wanted(self, label):
+    def is_wanted(self, label: Label) -> bool:
         return bool(label.pin or label.names and not self.wants_pins)
 
-    def drawn(self, text, parts):
+    def drawn(self, text: bytes, parts: Parts) -> None:
         """A draw outside of regions."""
         label = self.label
         if self.is_wanted(label) and not label.pin and not self.depth:
@@ -160,7 +166,7 @@ class Pads(Machine):
         else:
             self.leave([parts])
 
-    def leave(self, many):
+    def leave(self, many: Sequence[Parts]) -> None:
         """Writes the last mode and the last place of operations that go."""
         modes, xs, ys = ([it[k] for it in many if it[k]] for k in range(3))
         for mode in modes[-1:]:
@@ -168,11 +174,11 @@ class Pads(Machine):
         place = b"".join([*(b"X" + x for x in xs[-1:]), *(b"Y" + y for y in ys[-1:])])
         self.put(place + b"D02")
 
-    def region_begins(self):
+    def region_begins(self) -> None:
         super().region_begins()
         self.first = len(self.words) - 1
 
-    def region_ends(self):
+    def region_ends(self) -> None:
         if not self.in_region:
             return
         super().region_ends()
@@ -181,7 +187,7 @@ class Pads(Machine):
         inner, self.words[self.first:] = [text for _, text, _ in self.words[self.first:]], []
         self.leave([match.groups() for match in map(OPERATION.fullmatch, inner) if match])
 
-    def marked_text(self):
+    def marked_text(self) -> str:
         out = []
         for extended, word, first in self.words:
             if extended and not first:
@@ -201,10 +207,10 @@ def erased(objects):
 
 
 class Objects(bounded_file.Copper):
-    """What a copper file makes, the contours of a region each as an object, since they may stand apart. A tag is the number of the
-    command, and before it of an object in a block those of the flashes that make it."""
+    """What a copper file makes, the contours of a region each as an object, since they may stand apart. A tag is the
+    number of the command, and before it of an object in a block those of the flashes that make it."""
 
-    def __init__(self, text):
+    def __init__(self, text: str) -> None:
         self.inner, self.regions = None, []
         super().__init__(text, cuts=True)
 
@@ -213,25 +219,25 @@ class Objects(bounded_file.Copper):
         self.regions.append(made)
         return made
 
-    def flash_block(self, block):
+    def flash_block(self, block: Block) -> None:
         self.inner = iter([it.tag for it in block.objects])
         super().flash_block(block)
         self.inner = None
 
-    def stays_as(self, dark, both, areas=None, joins=True):
+    def stays_as(self, dark: bool, both: Both, areas=None, joins: bool = True) -> None:
         tag = (self.number, *(next(self.inner) if self.inner else ()))
         for each in self.contours_of() if self.regions else [both]:
             super().stays_as(dark, each, areas, joins)
             self.objects[-1] = self.objects[-1]._replace(tag=tag)
 
-    def contours_of(self):
+    def contours_of(self) -> List[Both]:
         """Both sides of the contours of the region that ends."""
         made, self.regions = self.regions, []
         areas = lambda runs: [("area", run[:-1]) for run in runs]
         return [(areas(it.runs[0]), areas(it.runs[1]) + it.grown) for it in made]
 
 
-def label_of(pads, tag):
+def label_of(pads: Pads, tag: Tuple[int, ...]) -> Optional[Label]:
     """The label of an object that is a test point, or None."""
     label = NONE
     for command in tag:
@@ -239,7 +245,7 @@ def label_of(pads, tag):
     return None if tag[-1] in pads.tracks and not label.pin or not pads.is_wanted(label) else label
 
 
-def points_of(text, layer, wants_pins):
+def points_of(text: str, layer: int, wants_pins: bool) -> Iterator[Point]:
     """The labelled objects of a copper file."""
     # Breaks within words say nothing of copper: `check` judges them.
     pads = Pads(text.encode("latin-1").translate(None, b"\r\n"), wants_pins)
@@ -263,14 +269,14 @@ def pad_of(pieces, near, at):
     return pad_places.Pad(((left + right) // 2, (low + high) // 2), pieces, near((left, low, right, high), at))
 
 
-def text_at(package, name):
+def text_at(package: Package, name: str) -> str:
     try:
         return package.read(name).decode("latin-1")
     except OSError:
         raise Stop(UNREADABLE, f"{name}: cannot be read") from None
 
 
-def all_points(package):
+def all_points(package: Package) -> List[Point]:
     """The points of all copper files: those of pins, or where there are none those of nets."""
     texts, found = {name: text_at(package, name) for name in package.manifest.copper}, []
     wants_pins = any(gerber_attributes.has_names(text.encode("latin-1"), b".P", 2) for text in texts.values())
@@ -278,13 +284,14 @@ def all_points(package):
         try:
             found += points_of(texts[name], layer, wants_pins) if "TO." in texts[name] else []
         except Refused as why:
-            raise Stop(UNCLEAR, f"{name}: its pads cannot be read ({why}), so their own names cannot be judged") from None
+            raise Stop(UNCLEAR, f"{name}: its pads cannot be read ({why}), "
+                       "so their own names cannot be judged") from None
     return found
 
 
 # ---- the netlist
 
-def named(names):
+def named(names: Sequence[str]) -> Dict[str, str]:
     """What stands for each name in 14 columns: itself, or an alias."""
     return {name: name if ipc356.PLAIN_NAME.fullmatch(name) else f"NNAME{number}" for number, name in enumerate(names, 1)}
 
@@ -309,7 +316,8 @@ def text_of(found, unit, places):
 
 
 def notes_of(package, found, lost, unit, places):
-    """What was taken, which labelled objects are no test points and which points are not at the middles of their pads."""
+    """What was taken, which labelled objects are no test points and which points are not at the middles of their
+    pads."""
     kept = [(point, place) for point, place in zip(found, places) if place]
     names, files = {name for it, _ in kept for name in it.label.names}, sorted({it.layer for it in found})
     count = sum(max(1, len(it.label.names)) for it, _ in kept)
@@ -332,7 +340,7 @@ def notes_of(package, found, lost, unit, places):
     return told
 
 
-def pin_of(package, point):
+def pin_of(package: Package, point: Point) -> str:
     layer = package.manifest.layer_word(point.layer)
     return f"{point.label.component} pin {point.label.pin} ({layer})" if point.label.pin else f"one of {point.label.names[0]} ({layer})"
 
@@ -344,7 +352,7 @@ def tied(package, found):
             yield net_ties.Tie(names, f"{package.manifest.copper[it.layer - 1]}, {pin_of(package, it)}")
 
 
-def need_holes(package, found):
+def need_holes(package: Package, found: Sequence[Point]) -> None:
     """Refuses a board of several layers without holes whose pins stand on several."""
     layers = {}
     for it in found:
@@ -352,11 +360,12 @@ def need_holes(package, found):
             layers.setdefault(it.label[:2], set()).add(it.layer)
     through = sum(len(of) > 1 for of in layers.values())
     if through and not package.manifest.drills:
-        raise Stop(UNCLEAR, f"{counted(through, 'pin')} of the copper files stand on several layers, and there is no drill file of plated holes, which join them: "
+        raise Stop(UNCLEAR, f"{counted(through, 'pin')} of the copper files stand on several layers, and there is no "
+                   "drill file of plated holes, which join them: "
                             "export it in the Excellon format; where the board truly has no plated hole, say --no-drills")
 
 
-def use(package, may_lack_holes):
+def use(package: Package, may_lack_holes: bool) -> List[str]:
     """Has the package judged by a netlist of the copper's own names; answers the notes."""
     labelled = all_points(package)
     found, lost = [it for it in labelled if it.pad], [it for it in labelled if not it.pad]

@@ -1,8 +1,10 @@
 """Which pieces of one object are one part of copper: where a pad has parts that stand apart, each is to be joined."""
 from functools import lru_cache
+from typing import List, Sequence, Tuple
 
 from boardnet_show.bounds.polarity.dark_and_clear import box, moved
 from boardnet_show.geometry.box_grid import meet
+from boardnet_show.geometry.pieces import Both, Piece, Spot
 from boardnet_show.geometry.segments import edges, segments_within
 
 from .pad_places import holds
@@ -10,12 +12,12 @@ from .pad_places import holds
 MOST = 200      # pieces that are looked at one by one
 
 
-def lines(piece):
+def lines(piece: Piece) -> Tuple[List[Tuple[Spot, Spot]], int]:
     """The lines of a piece, and how far it reaches round them."""
     return (edges(piece[1]), 0) if piece[0] == "area" else ([piece[1:3]], piece[3])
 
 
-def touch(p, q):
+def touch(p: Piece, q: Piece) -> bool:
     """Whether two pieces have a place in common."""
     if not meet(box(p), box(q)):
         return False
@@ -24,7 +26,7 @@ def touch(p, q):
             or any(segments_within(a, b, c, d, r + s) for a, b in ours for c, d in theirs))
 
 
-def grouped(pieces):
+def grouped(pieces: Sequence[Piece]) -> List[List[int]]:
     """Numbers of pieces that hang together, in order."""
     left, found = list(range(len(pieces))), []
     while left:
@@ -51,8 +53,9 @@ def frozen(pieces, x, y):
     return tuple((kind, *(tuple(it) if isinstance(it, list) else it for it in rest)) for kind, *rest in (moved(piece, -x, -y) for piece in pieces))
 
 
-def parts(both):
-    """(pieces, whether they lie within the object) of each part of an object; the pieces round it where none within is known."""
+def parts(both: Both) -> List[Tuple[List[Piece], bool]]:
+    """(pieces, whether they lie within the object) of each part of an object; the pieces round it where none within
+    is known."""
     lower, upper = both
     if len(upper) < 2 or len(lower) + len(upper) > MOST:
         return [(lower or upper, bool(lower))]

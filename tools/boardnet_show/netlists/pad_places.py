@@ -1,16 +1,18 @@
 """Where a netlist may name a pad: a place of its grid that lies in the pad's own copper.
 
-An IPC-D-356A file counts whole units of 0.0001 inch or 0.001 mm, and the middle of a pad is seldom a whole number of both. The
-place nearest to it is taken, where that is copper of the pad, and else another within the pad: a record is never off its copper.
-All is whole numbers and fractions. A pad that is erased again has a record all the same: where its copper would be.
+An IPC-D-356A file counts whole units of 0.0001 inch or 0.001 mm, and the middle of a pad is seldom a whole number of
+both. The place nearest to it is taken, where that is copper of the pad, and else another within the pad: a record is
+never off its copper. All is whole numbers and fractions. A pad that is erased again has a record all the same: where
+its copper would be.
 """
 from fractions import Fraction as Q
 from itertools import islice
-from typing import NamedTuple
+from typing import Iterator, List, NamedTuple, Optional, Sequence, Tuple
 
 from boardnet_show.bounds.polarity.dark_and_clear import box
 from boardnet_show.formats.units import CODES
 from boardnet_show.geometry.capsule_polygons import polygon
+from boardnet_show.geometry.pieces import Piece, Spot
 from boardnet_show.geometry.segments import edges, odd_inside, point_within
 
 MOST = 999_999                      # six digits
@@ -19,8 +21,8 @@ FEW = 8                             # of as many places that will do the nearest
 
 
 class Pad(NamedTuple):
-    """Copper with a place where a point is wanted. Pieces are ("capsule", a, b, r) or ("area", corners), whole numbers of u; what
-    lies in one of `gone` is not taken, as where copper is erased again."""
+    """Copper with a place where a point is wanted. Pieces are ("capsule", a, b, r) or ("area", corners), whole
+    numbers of u; what lies in one of `gone` is not taken, as where copper is erased again."""
 
     middle: tuple
     pieces: list
@@ -35,28 +37,28 @@ class Place(NamedTuple):
     off: int
 
 
-def holds(piece, spot):
+def holds(piece: Piece, spot: Spot) -> bool:
     """Whether a piece has a place; its border is part of it."""
     if piece[0] == "capsule":
         return point_within(spot, *piece[1:])
     return odd_inside(piece[1], spot) or any(point_within(spot, a, b, 0) for a, b in edges(piece[1]))
 
 
-def is_copper(pad, spot):
+def is_copper(pad: Pad, spot: Spot) -> bool:
     return any(holds(piece, spot) for piece in pad.pieces) and not any(holds(piece, spot) for piece in pad.gone)
 
 
-def around(spot, unit):
+def around(spot: Spot, unit: int) -> List[Spot]:
     """The four places of the grid about a place, the nearest first."""
     x, y = (v // unit for v in spot)
     return sorted(((x + i, y + j) for i in (0, 1) for j in (0, 1)), key=lambda at: apart(at, spot, unit))
 
 
-def apart(at, spot, unit):
+def apart(at: Spot, spot: Spot, unit: int) -> int:
     return sum((v * unit - wanted) ** 2 for v, wanted in zip(at, spot))
 
 
-def middles(piece):
+def middles(piece: Piece) -> List[Spot]:
     """Places that a piece is likely to have round them."""
     if piece[0] == "capsule":
         (x1, y1), (x2, y2) = piece[1:3]
@@ -65,7 +67,7 @@ def middles(piece):
     return [((left + right) // 2, (low + high) // 2)]
 
 
-def rows(piece, unit):
+def rows(piece: Piece, unit: int) -> List[int]:
     """Rows of the grid across a piece, spread over its height, those at half of it first."""
     _, low, _, high = box(piece)
     first, last = -(-low // unit), high // unit
@@ -73,13 +75,13 @@ def rows(piece, unit):
     return sorted(range(first + (last - first) % step // 2, last + 1, step), key=lambda row: abs(2 * row * unit - low - high))
 
 
-def across(corners, y):
+def across(corners: Sequence[Spot], y: int) -> List[Tuple[Q, Q]]:
     """Where a row is inside an area, as (from, to), the widest first."""
     cuts = sorted(Q((b[0] - a[0]) * (y - a[1]), b[1] - a[1]) + a[0] for a, b in edges(corners) if (a[1] > y) != (b[1] > y))
     return sorted(zip(cuts[::2], cuts[1::2]), key=lambda cut: cut[0] - cut[1])
 
 
-def within(piece, unit):
+def within(piece: Piece, unit: int) -> Iterator[Spot]:
     """Places of the grid that may lie in a piece."""
     for spot in middles(piece):
         yield from around(spot, unit)
@@ -90,22 +92,22 @@ def within(piece, unit):
                 yield round((first + (last - first) * k / 8) / unit), row
 
 
-def size(piece):
+def size(piece: Piece) -> int:
     left, low, right, high = box(piece)
     return (right - left) * (high - low)
 
 
-def is_erased(pad, at, unit):
+def is_erased(pad: Pad, at: Place, unit: int) -> bool:
     return bool(pad.gone) and not is_copper(pad, (at.x * unit, at.y * unit))
 
 
-def grid_place(pad, unit):
-    """A place of the grid in a pad's copper, as near to its middle as is easily found, or None. Of a pad that is erased again it is
-    the place that it would have, so that its copper is missed there."""
+def grid_place(pad: Pad, unit: int) -> Optional[Place]:
+    """A place of the grid in a pad's copper, as near to its middle as is easily found, or None. Of a pad that is
+    erased again it is the place that it would have, so that its copper is missed there."""
     return found_in(pad, unit) or (found_in(pad._replace(gone=()), unit) if pad.gone else None)
 
 
-def found_in(pad, unit):
+def found_in(pad: Pad, unit: int) -> Optional[Place]:
     for at in around(pad.middle, unit):
         if max(map(abs, at)) <= MOST and is_copper(pad, (at[0] * unit, at[1] * unit)):
             return Place(*at, apart(at, pad.middle, unit))
@@ -115,8 +117,9 @@ def found_in(pad, unit):
     return best and Place(*best, apart(best, pad.middle, unit))
 
 
-def settled(pads):
-    """(unit, places): the unit in which most pads have a place in copper, and of two such that with most at their middles."""
+def settled(pads: Sequence[Pad]) -> Tuple[int, List[Optional[Place]]]:
+    """(unit, places): the unit in which most pads have a place in copper, and of two such that with most at their
+    middles."""
     tried = [(unit, [grid_place(pad, unit) for pad in pads]) for unit in CODES]
     return min(tried, key=lambda way: (sum(at is None or is_erased(pad, at, way[0]) for pad, at in zip(pads, way[1])),
                                       sum(at is not None and at.off > 0 for at in way[1]), sum(at.off for at in way[1] if at)))

@@ -1,9 +1,10 @@
 """Each cause of a status that is not 0, with the line of the file that it is about: what annotations and SARIF say."""
-from typing import Iterator, NamedTuple, Optional
+from typing import Iterator, NamedTuple, Optional, Sequence
 
 from boardnet_show.base.statuses import UNDECIDED
-from boardnet_show.findings.finding import doubt
+from boardnet_show.findings.finding import Finding, doubt
 
+from .shown import Shown
 from .text_lines import summary
 
 # What each kind of cause is, in a sentence.
@@ -22,8 +23,8 @@ KINDS = {
 
 
 class Cause(NamedTuple):
-    """What is amiss: its kind, its name among the findings, what is told, whether it is certain, and the line of the netlist; the file is
-    None where it is about the board as a whole, the line then 0."""
+    """What is amiss: its kind, its name among the findings, what is told, whether it is certain, and the line of the
+    netlist; the file is None where it is about the board as a whole, the line then 0."""
 
     kind: str
     name: str
@@ -33,20 +34,20 @@ class Cause(NamedTuple):
     line: int = 0
 
 
-def of_findings_of(shown, findings) -> Iterator[Cause]:
+def of_findings_of(shown: Shown, findings: Sequence[Finding]) -> Iterator[Cause]:
     netlist = shown.board.package.told_path(shown.board.manifest.netlist)
     for finding in findings:
         place = (netlist, shown.board.line(finding.points[0])) if finding.points else (None, 0)
         yield Cause(finding.kind, doubt(finding) + finding.id, finding.sentence(), finding.sure is not False, *place)
 
 
-def of_findings(shown) -> Iterator[Cause]:
+def of_findings(shown: Shown) -> Iterator[Cause]:
     yield from of_findings_of(shown, shown.findings)
     for words in shown.seen.lost_ties():
         yield Cause("tie", "tie", words, True)
 
 
-def causes_of(shown) -> Iterator[Cause]:
+def causes_of(shown: Shown) -> Iterator[Cause]:
     """All of one board; where nothing else says why, its own line does."""
     found = list(of_findings(shown)) if shown.board else []
     for beside in shown.besides:

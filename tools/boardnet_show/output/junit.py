@@ -1,14 +1,15 @@
 """The findings as JUnit's XML: a suite a board, a case a net name, which fails where a finding is listed under it."""
-from typing import NamedTuple
+from typing import Dict, List, NamedTuple, Sequence, Tuple
 
 from boardnet_show.base.wording import printable
 from boardnet_show.findings.finding import doubt
 
 from .markup import escaped, for_xml
 from .sentences import declarations
+from .shown import Shown
 
 
-def quoted(text):
+def quoted(text: str) -> str:
     """A text as the value of an attribute, in the quotes that it has not."""
     told = escaped(text).replace("\n", "&#10;").replace("\r", "&#13;").replace("\t", "&#9;")
     return f'"{told}"' if '"' not in told else f"'{told}'" if "'" not in told else '"' + told.replace('"', "&quot;") + '"'
@@ -18,11 +19,11 @@ class Case(NamedTuple):
     """A case, with what is amiss: names with their words; `word` is XML's for it. What is waived of it is no cause."""
 
     name: str
-    causes: list
+    causes: Sequence[Tuple[str, str]]
     word: str = "failure"
-    waived: tuple = ()
+    waived: Sequence[str] = ()
 
-    def row(self, title):
+    def row(self, title: str) -> str:
         head = f"  <testcase classname={quoted(title)} name={quoted(self.name)}"
         if not self.causes and self.waived:
             return f"{head}><skipped message={quoted('; '.join(map(printable, self.waived)))}/></testcase>"
@@ -33,26 +34,28 @@ class Case(NamedTuple):
         return f"{head}><{self.word} message={message}>{told}</{self.word}></testcase>"
 
 
-def whole(shown, status, line):
-    """The one case of a board whose names are not told one by one: it passes, fails or is an error as the board's status says."""
+def whole(shown: Shown, status: int, line: str) -> Case:
+    """The one case of a board whose names are not told one by one: it passes, fails or is an error as the board's
+    status says."""
     return Case("check", [(line, line)] if status else [], "failure" if status == 1 else "error")
 
 
-def of_names(shown):
+def of_names(shown: Shown) -> List[Case]:
     """A case for each net name, and one for ties that have no place."""
-    failures, waived = {}, {}
+    failures: Dict[int, List[Tuple[str, str]]] = {}
+    waived: Dict[int, List[str]] = {}
     for it in shown.seen.findings:
         for name in it.names:
             failures.setdefault(name, []).append((doubt(it) + it.id, it.sentence()))
     nowhere = [("tie", words) for words in shown.seen.lost_ties()]
-    for it in shown.seen.waived:
-        for name in it.finding.names:
-            waived.setdefault(name, []).append(declarations.waived_words(it))
+    for each in shown.seen.waived:
+        for name in each.finding.names:
+            waived.setdefault(name, []).append(declarations.waived_words(each))
     cases = [Case(name, failures.get(number, []), waived=tuple(waived.get(number, ()))) for number, name in enumerate(shown.board.report.names)]
     return cases + ([Case("ties", nowhere)] if nowhere else [])
 
 
-def cases_of(shown):
+def cases_of(shown: Shown) -> List[Case]:
     """All cases: no status but 0 is without one that fails or is an error."""
     status = shown.answer.status
     cases = of_names(shown) if shown.board and status in (0, 1) else [whole(shown, status, shown.netlist_line)]
@@ -60,7 +63,7 @@ def cases_of(shown):
     return cases if not shown.status or any(it.causes for it in cases) else [*cases, whole(shown, shown.status, shown.line)]
 
 
-def suite(shown):
+def suite(shown: Shown) -> List[str]:
     cases = cases_of(shown)
     failed, errors = (sum(bool(it.causes) and it.word == word for it in cases) for word in ("failure", "error"))
     skipped = sum(not it.causes and bool(it.waived) for it in cases)
@@ -69,6 +72,6 @@ def suite(shown):
     return [head, *(it.row(shown.title) for it in cases), "</testsuite>"]
 
 
-def junit_text(all_shown):
+def junit_text(all_shown: Sequence[Shown]) -> str:
     rows = [row for shown in all_shown for row in suite(shown)]
     return for_xml("\n".join(['<?xml version="1.0" encoding="UTF-8"?>', "<testsuites>", *rows, "</testsuites>", ""]))

@@ -12,46 +12,52 @@ import sys
 import zlib
 from array import array
 from operator import sub
+from typing import Any, Dict, Iterable, List, Sequence, Tuple
 
 from boardnet_show.base.wording import counted, printable, spoken
-from boardnet_show.findings.finding import doubt
+from boardnet_show.findings.board import Board
+from boardnet_show.findings.finding import Finding, doubt
+from boardnet_show.findings.meeting_places import Meet
 
 from . import record_page, text_lines
 from .markup import in_html
-from .sentences import hints
+from .sentences import answers, declarations
+from .shown import Shown
 from .text_lines import cut
 
+Place = Tuple[float, float]
 HERE = os.path.join(os.path.dirname(os.path.abspath(__file__)), "page_assets")
 TITLES = {"open": "Opens", "short": "Shorts", "missing": "Points without copper", "gap": "Gaps", "cut": "Cut by holes", "outside": "Outside the edge",
           "neck": "Necks"}
 # As the marks in the picture.
 SIGNS = {"open": "\u2296", "short": "\u2715", "missing": "\u25a1", "gap": "\u21d4", "cut": "\u2298", "outside": "\u21f1",
          "neck": "\u29d6"}
-# So many findings of a kind stand open, the further ones in folds; their suggestions stand in the data alone, which is packed.
+# So many findings of a kind stand open, the further ones in folds; their suggestions stand in the data alone, which is
+# packed.
 OPEN, FOLD = 300, 500
 FEW = 6             # files that are named
 SCRIPTS = ("data", "words", "view", "paint", "draw", "marks", "chosen", "list", "search", "move", "act")
 
 
-def asset(name):
+def asset(name: str) -> str:
     with open(os.path.join(HERE, name), encoding="utf-8") as file:
         return file.read()
 
 
-def script():
+def script() -> str:
     parts = "\n".join(asset(name + ".js") for name in SCRIPTS)
     return f'"use strict";\n(async () => {{\n{parts}}})();\n'
 
 
-def nanometres(u):
+def nanometres(u: int) -> int:
     return (u + 5) // 10
 
 
-def in_nanometres(lengths):
+def in_nanometres(lengths: Iterable[int]) -> List[int]:
     return [(u + 5) // 10 for u in lengths]
 
 
-def steps(numbers):
+def steps(numbers: Sequence[int]) -> List[int]:
     """Each number less the one before it: neighbours in a file are near each other, and pack well."""
     return [*numbers[:1], *map(sub, numbers[1:], numbers)]
 
@@ -59,10 +65,11 @@ def steps(numbers):
 class Columns:
     """Named columns of whole numbers, each of as many bytes as it wants, as byte planes, lowest first."""
 
-    def __init__(self):
-        self.heads, self.parts = [], []
+    def __init__(self) -> None:
+        self.heads: List[List[Any]] = []
+        self.parts: List[bytes] = []
 
-    def add(self, name, numbers, are_steps=False):
+    def add(self, name: str, numbers: Sequence[int], are_steps: bool = False) -> None:
         least, most = min(numbers, default=0), max(numbers, default=0)
         packed = array("b" if -128 <= least and most < 128 else "h" if -32_768 <= least and most < 32_768 else "i", numbers)
         if sys.byteorder == "big":
@@ -71,12 +78,13 @@ class Columns:
         self.heads.append([name, width, len(packed), int(are_steps)])
         self.parts += [data[plane::width] for plane in range(width)]
 
-    def add_steps(self, name, numbers):
+    def add_steps(self, name: str, numbers: Iterable[int]) -> None:
         self.add(name, steps(list(numbers)), True)
 
 
-def sides_of(findings, pieces):
-    """For each piece on a short the number, from 1, of its name among the finding's sides, else 0; and the sides of each finding."""
+def sides_of(findings: Sequence[Finding], pieces: int) -> Tuple[List[int], Dict[str, List[str]]]:
+    """For each piece on a short the number, from 1, of its name among the finding's sides, else 0; and the sides of
+    each finding."""
     column, names = [0] * pieces, {}
     for finding in findings:
         if finding.kind == "short":
@@ -89,12 +97,12 @@ def sides_of(findings, pieces):
     return column, names
 
 
-def by_names(names, rows):
+def by_names(names: Sequence[str], rows: Sequence[Sequence[int]]) -> Iterable[Tuple[str, Sequence[int]]]:
     """The columns of rows, each with its name."""
     return zip(names, [*zip(*rows)] or [()] * len(names))
 
 
-def columns_of(board, sides):
+def columns_of(board: Board, sides: Sequence[int]) -> Columns:
     shapes, report, columns = board.shapes, board.report, Columns()
     starts = shapes.start
     columns.add("counts", [*map(sub, starts[1:], starts)])
@@ -112,24 +120,24 @@ def columns_of(board, sides):
     return columns
 
 
-def distinct(texts):
+def distinct(texts: Iterable[str]) -> Tuple[List[str], List[int]]:
     """The distinct texts, and which one each is."""
-    numbers = {}
+    numbers: Dict[str, int] = {}
     which = [numbers.setdefault(text, len(numbers)) for text in texts]
     return list(numbers), which
 
 
-def in_whole_nanometres(spot):
+def in_whole_nanometres(spot: Place) -> List[int]:
     return [nanometres(round(spot[0])), nanometres(round(spot[1]))]
 
 
-def meet_data(meet, sides):
+def meet_data(meet: Meet, sides: Sequence[str]) -> Dict[str, Any]:
     x, y = in_whole_nanometres(meet.place)
     return {"first": sides.index(meet.names[0]), "second": sides.index(meet.names[1]), "chain": meet.chain, "near": meet.near, "far": meet.far,
             "x": x, "y": y, "layer": meet.layer}
 
 
-def finding_data(finding, sides):
+def finding_data(finding: Finding, sides: Dict[str, List[str]]) -> Dict[str, Any]:
     told = {"id": finding.id, "points": finding.points, "nets": finding.nets, "hints": finding.hints}
     if finding.gap:
         gap = finding.gap
@@ -140,19 +148,19 @@ def finding_data(finding, sides):
     return told
 
 
-def wider_data(shown):
+def wider_data(shown: Shown) -> List[Any]:
     """What the upper of two bounds has beyond the lower one: layer and corners."""
     return [[layer, [v for spot in corners for v in in_whole_nanometres(spot)]] for layer, corners in shown.seen.wider]
 
 
-def in_page(value):
+def in_page(value: Any) -> Any:
     """The same data with texts as they are told."""
     if isinstance(value, dict):
         return {key: in_page(it) for key, it in value.items()}
     return printable(value) if isinstance(value, str) else [in_page(it) for it in value] if isinstance(value, (list, tuple)) else value
 
 
-def block(board, findings, wider=()):
+def block(board: Board, findings: Sequence[Finding], wider: Sequence[Any] = ()) -> str:
     """The data, packed."""
     manifest, (column, sides) = board.manifest, sides_of(findings, board.report.pieces)
     columns = columns_of(board, column)
@@ -170,22 +178,22 @@ def block(board, findings, wider=()):
     return base64.b64encode(zlib.compress(raw, 9)).decode()
 
 
-def row(finding, is_hinted):
+def row(finding: Finding, is_hinted: bool) -> str:
     hints = "".join(f'<p class="hint">{in_html(hint)}</p>' for hint in finding.hints) if is_hinted else ""
     return (f'<li id="{finding.id}"><a href="#{finding.id}"><b>{doubt(finding)}{finding.kind} {finding.number}</b> '
             f"{in_html(finding.words)}</a>{hints}</li>")
 
 
-def rows(findings, is_hinted):
+def rows(findings: Sequence[Finding], is_hinted: bool) -> str:
     return "<ol>\n" + "\n".join(row(finding, is_hinted) for finding in findings) + "\n</ol>"
 
 
-def fold(kind, findings):
+def fold(kind: str, findings: Sequence[Finding]) -> str:
     """Rows that a browser with scripts reads as text, until they are wanted."""
     return f"<details><summary>{kind} {findings[0].number} to {findings[-1].number}</summary><noscript>{rows(findings, False)}</noscript></details>\n"
 
 
-def list_of(kind, findings):
+def list_of(kind: str, findings: Sequence[Finding]) -> str:
     if not findings:
         return ""
     folds = "".join(fold(kind, findings[at:at + FOLD]) for at in range(OPEN, len(findings), FOLD))
@@ -195,7 +203,7 @@ def list_of(kind, findings):
     return f"<section>{head}\n{rows(findings[:OPEN], True)}\n{folds}</section>\n"
 
 
-def verdict(shown):
+def verdict(shown: Shown) -> str:
     """The words of the terminal, and what they mean where the board agrees."""
     words = f"{shown.line[:1].upper()}{shown.line[1:]}"
     if shown.bounds or shown.answer.status != 0 or shown.seen.waived:
@@ -204,7 +212,7 @@ def verdict(shown):
     return f"{words}. The copper joins exactly the points {what}{' or the ties do' if shown.seen.ties.ties else ''}."
 
 
-def audited(shown):
+def audited(shown: Shown) -> str:
     """What the audit is of: the files, or copies in place of some."""
     copies = dict.fromkeys(it.file for it in shown.seen.mends)
     words = [*(f"{name} (mended)" for name in copies), *(f"{name} (flattened)" for name in sorted(shown.board.package.flattened))]
@@ -213,7 +221,7 @@ def audited(shown):
     return f"The report was audited: it is true of {of}{', and has each declared tie as a short' if shown.seen.ties.ties else ''}{', and what is waived as a finding' if shown.seen.waived else ''}."
 
 
-def facts(shown):
+def facts(shown: Shown) -> str:
     board, sure = shown.board, audited(shown)
     if shown.bounds:
         from boardnet_show.findings import between_bounds        # most boards lie between no bounds
@@ -224,22 +232,36 @@ def facts(shown):
             "Suggestions are where to look, and no part of the report.")
 
 
-def source_hash(source):
+def source_hash(source: str) -> str:
     return "'sha256-" + base64.b64encode(hashlib.sha256(source.encode()).digest()).decode() + "'"
 
 
-def notes(shown):
-    told = [*(f"hint: {hints.words(hint)}" for hint in shown.hints), *shown.notes, *([shown.seen.flood] if shown.seen.flood else []), *cut(list(text_lines.extra_lines(shown)), False)]
+def paragraphs(told: Iterable[str]) -> str:
     return "".join(f'<p class="advice">{in_html(words)}</p>\n' for words in told)
 
 
-def page_html(shown):
+def advice(shown: Shown) -> str:
+    """What is told above the findings: hints, what is declared, a flood, and what was asked for besides."""
+    told = [*(f"hint: {words}" for words in text_lines.hint_words(shown)), *declarations.notes(shown.seen), *([shown.seen.flood] if shown.seen.flood else [])]
+    return paragraphs([*told, *cut(list(text_lines.extra_lines(shown)), False)])
+
+
+def folded(shown: Shown) -> str:
+    """The other notes, which most do not want, behind a line that counts them."""
+    above = declarations.notes(shown.seen)
+    told = [words for words in shown.notes if words not in above]
+    told += [answers.bounds_words(shown.answer.both)] if shown.answer.both else []
+    count = f", and {counted(len(told), 'note')}" if told else ""
+    return f'<summary>How it was judged{count}</summary>\n<p class="facts">{in_html(facts(shown))}</p>\n{paragraphs(told)}'
+
+
+def page_html(shown: Shown) -> str:
     style, code = asset("page.css"), script()
     lists = "".join(list_of(kind, [f for f in shown.findings if f.kind == kind]) for kind in TITLES)
     fills = {
         "POLICY": f"default-src 'none'; script-src {source_hash(code)}; style-src {source_hash(style)}; base-uri 'none'; form-action 'none'",
         "TITLE": in_html(shown.title), "STYLE": style, "SCRIPT": code, "STATE": "agrees" if shown.status == 0 else "differs",
-        "VERDICT": in_html(verdict(shown)), "FACTS": in_html(facts(shown)), "ADVICE": notes(shown),
+        "VERDICT": in_html(verdict(shown)), "FOLDED": folded(shown), "ADVICE": advice(shown),
         "FINDINGS": lists or f'<p class="none">{"No finding" if shown.status else "No open, no short, no point without copper"}.</p>', "DATA": block(shown.board, shown.findings, wider_data(shown)),
         "RECORD": record_page.section(shown.requested.record),
     }

@@ -1,22 +1,25 @@
 """A record for people: a part of the board's page, or a page of its own where no picture can be drawn."""
+from typing import Any, Dict, Iterable, Iterator, List, Tuple
+
 from . import text_lines
 from .markup import in_html
+from .shown import Shown
 
 SIDES = (("came", "SHA-256 as it came"), ("judged", "as it was judged"), ("lower", "lower bound"), ("upper", "upper bound"))
 
 
-def cells(tag, words):
+def cells(tag: str, words: Iterable[object]) -> str:
     return "<tr>" + "".join(f"<{tag}>{in_html(str(word))}</{tag}>" for word in words) + "</tr>"
 
 
-def files(record):
+def files(record: Dict[str, Any]) -> List[str]:
     """The sums of the files; those of bounds where there are some."""
     sides = [(key, word) for key, word in SIDES if any(key in it for it in record["files"])]
     rows = [[it["name"], it["role"], *((it.get(key) or "none") for key, _ in sides)] for it in record["files"]]
     return [cells("th", ["file", "role", *(word for _, word in sides)]), *(cells("td", row) for row in rows)]
 
 
-def facts(record):
+def facts(record: Dict[str, Any]) -> Iterator[Tuple[str, object]]:
     """What is said beside the files, word and value."""
     yield "date", record["date"]
     yield "answer", f"{record['line']} (status {record['status']})"
@@ -30,7 +33,7 @@ def facts(record):
         yield f"report of the {it['of']}", f"{it['line']} ({it['audit']}), SHA-256 {it['sha256']}"
 
 
-def section(record):
+def section(record: Dict[str, Any]) -> str:
     """The part of a page."""
     if not record:
         return ""
@@ -39,7 +42,7 @@ def section(record):
     return f'<section class="record"><h2>Record</h2>\n<table>\n{told}\n</table>\n<table>\n{sums}\n</table></section>\n'
 
 
-def page(shown):
+def page(shown: Shown) -> str:
     """The record and what is told of the board, without a picture."""
     told = "".join(f"<p>{in_html(words)}</p>\n" for words in [shown.line, *shown.notes, *text_lines.extra_lines(shown)])
     return (f'<!DOCTYPE html>\n<html lang="en">\n<head>\n<meta charset="utf-8">\n'

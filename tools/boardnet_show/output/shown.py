@@ -1,14 +1,15 @@
 """What all forms are made of: a board, what is known of it, and what was asked for besides."""
-from typing import Any, Dict, List, NamedTuple, Optional, Sequence, Tuple
+from typing import TYPE_CHECKING, Any, Dict, List, NamedTuple, Optional, Sequence, Tuple
 
 from boardnet_show.findings.besides import Beside, Requested, status_with
-from boardnet_show.findings.board import Board
 from boardnet_show.findings.explained import Explained
 from boardnet_show.findings.finding import Finding
 from boardnet_show.judging.answers import Answer
-from boardnet_show.judging.two_bounds import Bounded
 
 from .sentences import answers
+
+if TYPE_CHECKING:       # most boards have no bounds, and loading takes longer than a small board
+    from boardnet_show.judging.two_bounds import Bounded
 
 
 class Shown(NamedTuple):
@@ -41,7 +42,8 @@ class Shown(NamedTuple):
         return answers.whole_line(self.answer, [it.words for it in self.besides])
 
     @property
-    def board(self) -> Optional[Board]:
+    def board(self) -> Any:
+        """The board, or None where nothing was judged."""
         return self.seen.board
 
     @property
@@ -57,7 +59,7 @@ class Shown(NamedTuple):
         return [*self.seen.notes, *self.requested.notes]
 
     @property
-    def bounds(self) -> Optional[Bounded]:
+    def bounds(self) -> "Optional[Bounded]":
         """The answer between two boards, with what was looked for besides."""
         bounds = self.seen.bounds
         if not bounds or not self.requested.findings:
@@ -68,8 +70,10 @@ class Shown(NamedTuple):
     def places(self, finding: Finding) -> List[Tuple[int, int, int]]:
         """Where a finding is, by its gap or by its test points."""
         if finding.gap:
-            return [(*finding.gap.place, finding.gap.layer)]
-        return [(*self.board.spot(point), self.board.layer(point)) for point in finding.points] if self.board else []
+            x, y = finding.gap.place
+            return [(x, y, finding.gap.layer)]
+        spots = [(self.board.spot(point), self.board.layer(point)) for point in finding.points] if self.board else []
+        return [(x, y, layer) for (x, y), layer in spots]
 
     @property
     def besides(self) -> Sequence[Beside]:

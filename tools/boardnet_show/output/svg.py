@@ -1,11 +1,19 @@
-"""A picture for a mail or a ticket: the whole board with its findings, or the place of one finding. Lengths are micrometres."""
+"""A picture for a mail or a ticket: the whole board with its findings, or the place of one finding. Lengths are
+micrometres."""
+from typing import Dict, Iterator, List, Optional, Sequence, Tuple
+
 from boardnet_show.base.statuses import NOT_UNDERSTOOD, Stop
+from boardnet_show.findings.finding import Finding
 from boardnet_show.geometry.box_grid import meet as boxes_meet
 from boardnet_show.geometry.box_tree import apart, cover
+from boardnet_show.geometry.shapes import Shapes
 
 from .markup import escaped, for_xml
 from .rdb import micrometres
+from .shown import Shown
 
+Place = Tuple[int, int]
+Box = Tuple[int, int, int, int]
 # Room round a finding, the least side of what is shown, both in u, and the width of the picture in pixels.
 ROOM, LEAST, WIDTH = 10_000_000, 60_000_000, 1000
 STYLE = """
@@ -18,12 +26,12 @@ STRIPES = ('<pattern id="stripes" patternUnits="userSpaceOnUse" width="{0}" heig
            '<rect width="{0}" height="{0}" fill="#d55e00"/><rect width="{1}" height="{0}" fill="#ffe2cc"/></pattern>')
 
 
-def point(place):
+def point(place: Place) -> str:
     """A place, with y upwards."""
     return f"{micrometres(round(place[0]))} {micrometres(-round(place[1]))}"
 
 
-def solid(shapes, piece, word):
+def solid(shapes: Shapes, piece: int, word: str) -> str:
     """A piece as an element."""
     places, r = shapes.places(piece), shapes.radius[piece]
     if shapes.is_area(piece):
@@ -34,44 +42,45 @@ def solid(shapes, piece, word):
     return stroke(places, r, word)
 
 
-def stroke(places, r, word):
+def stroke(places: Sequence[Place], r: int, word: str) -> str:
     return f'<path class="line {word}" stroke-width="{micrometres(2 * r)}" d="M{point(places[0])}L{point(places[1])}"/>'
 
 
 class Picture:
     """What is drawn of a board, and how each piece is."""
 
-    def __init__(self, shown, finding):
+    def __init__(self, shown: Shown, finding: Optional[Finding]) -> None:
         self.shown, self.board, self.finding = shown, shown.board, finding
-        self.box = self.finding_box() if finding else self.whole_box()
+        self.box = self.finding_box(finding) if finding else self.whole_box()
         # A pixel, in u.
         self.pixel = max(1, (self.box[2] - self.box[0]) // WIDTH)
 
-    def whole_box(self):
+    def whole_box(self) -> Box:
         boxes = [self.board.touching.box(piece) for piece in range(self.board.report.pieces)]
         boxes += [spot * 2 for spot in self.board.report.spots]
         return grown(cover(boxes) if boxes else (0, 0, LEAST, LEAST), ROOM // 2)
 
-    def finding_box(self):
-        """Its points with the copper beside them, or the chains of a short's names with where they meet, and what lies round them."""
-        it, shapes, meets = self.finding, self.board.shapes, self.finding.meets[:3]
-        spots = [self.board.spot(number) for number in it.points] if it.kind != "gap" else []
-        places = [meet.place for meet in meets] or spots + ([it.gap.place] if it.gap else [])
-        places += self.beside(places[0], self.board.layer(it.points[0])) if it.kind == "missing" else []
+    def finding_box(self, finding: Finding) -> Box:
+        """Its points with the copper beside them, or the chains of a short's names with where they meet, and what
+        lies round them."""
+        shapes, meets = self.board.shapes, finding.meets[:3]
+        spots = [self.board.spot(number) for number in finding.points] if finding.kind != "gap" else []
+        places = [meet.place for meet in meets] or spots + ([finding.gap.place] if finding.gap else [])
+        places += self.beside(places[0], self.board.layer(finding.points[0])) if finding.kind == "missing" else []
         chains = [shapes.box(piece) for meet in meets for piece in meet.chain if not shapes.is_area(piece)]
         box = grown(cover(chains + [tuple(place) * 2 for place in places]), ROOM)
         wide, high = max(0, LEAST - box[2] + box[0]) // 2, max(0, LEAST * 5 // 8 - box[3] + box[1]) // 2
         return box[0] - wide, box[1] - high, box[2] + wide, box[3] + high
 
-    def beside(self, spot, layer):
+    def beside(self, spot: Place, layer: int) -> List[Place]:
         """Where the box of a layer's copper is nearest to a spot, if there is any."""
         boxes = [self.board.touching.box(piece) for piece, source in enumerate(self.board.report.sources) if source[3] <= layer <= source[4]]
         if not boxes:
             return []
-        left, low, right, high = min(boxes, key=lambda box: apart(box, spot * 2))
+        left, low, right, high = min(boxes, key=lambda box: int(apart(box, spot * 2)))
         return [(min(max(spot[0], left), right), min(max(spot[1], low), high))]
 
-    def words(self):
+    def words(self) -> Dict[int, str]:
         """How a piece is drawn: `a` and `b` are the sides of the finding, `c` what could be either's."""
         it = self.finding
         if not it:
@@ -82,14 +91,14 @@ class Picture:
         look = dict(zip(names, "ab"))
         return {piece: look.get(it.sides.get(piece), "c" if piece not in it.sides else "copper") for piece in self.board.pieces_of[it.nets[0]]}
 
-    def front(self):
+    def front(self) -> int:
         """The layer that is drawn last, and full: the finding's."""
         it = self.finding
         if not it:
             return 1
-        return it.meets[0].layer if it.meets else it.gap.layer if it.gap else self.board.layer(it.points[0])
+        return int(it.meets[0].layer if it.meets else it.gap.layer if it.gap else self.board.layer(it.points[0]))
 
-    def copper(self):
+    def copper(self) -> Iterator[str]:
         """The copper, the layer in front last, then the holes."""
         words, sources, manifest = self.words(), self.board.report.sources, self.board.manifest
         seen = [piece for piece in range(self.board.report.pieces) if boxes_meet(self.board.touching.box(piece), self.box)]
@@ -105,28 +114,28 @@ class Picture:
             yield from self.hole(piece)
         yield "</g>"
 
-    def wider(self, layer):
+    def wider(self, layer: int) -> Iterator[str]:
         """What the upper of two bounds has beyond the lower one, by its outline in dashes."""
         dash = micrometres(3 * self.pixel)
         for of, corners in self.shown.seen.wider:
             if of == layer:
                 yield f'<path class="wider" stroke-width="{micrometres(self.pixel)}" stroke-dasharray="{dash}" d="M{"L".join(map(point, corners))}Z"/>'
 
-    def hole(self, piece):
+    def hole(self, piece: int) -> Iterator[str]:
         """A hole with a dark rim, of a slot by a wider stroke below."""
         shapes = self.board.shapes
         yield solid(shapes, piece, "hole")
         if len(shapes.places(piece)) == 2:
             yield stroke(shapes.places(piece), max(0, shapes.radius[piece] - self.pixel), "slot")
 
-    def marks(self):
+    def marks(self) -> Iterator[str]:
         """The places of the findings."""
         yield f'<g class="mark" stroke-width="{micrometres(3 * self.pixel)}">'
         for it in [self.finding] if self.finding else self.shown.findings:
             yield from self.marks_of(it)
         yield "</g>"
 
-    def marks_of(self, finding):
+    def marks_of(self, finding: Finding) -> Iterator[str]:
         spots, size = [self.board.spot(number) for number in finding.points], 9 * self.pixel
         if finding.kind == "open":
             dash = micrometres(8 * self.pixel)
@@ -139,7 +148,7 @@ class Picture:
         for x, y in [found.place for found in finding.meets]:
             yield f'<path d="M{point((x - size, y))}L{point((x, y + size))}L{point((x + size, y))}L{point((x, y - size))}Z"/>'
 
-    def labels(self):
+    def labels(self) -> Iterator[str]:
         """The pins of the finding's points, and what the picture is of."""
         size, (left, low, _, _) = 16 * self.pixel, self.box
         head = f"{self.finding.id}: {self.finding.name}" if self.finding else self.shown.line
@@ -153,7 +162,7 @@ class Picture:
             anchor = ' text-anchor="end"' if is_right else ""
             yield f'<text x="{x}" y="{y}"{anchor} font-size="{micrometres(size)}">{escaped(told)}</text>'
 
-    def rows(self):
+    def rows(self) -> Iterator[str]:
         left, low, right, high = self.box
         height = max(1, WIDTH * (high - low) // max(1, right - left))
         told = self.finding.sentence() if self.finding else f"{self.shown.title}: {self.shown.line}"
@@ -168,16 +177,16 @@ class Picture:
         yield "</svg>\n"
 
 
-def ring(place, size):
+def ring(place: Place, size: int) -> str:
     x, y = point(place).split(" ")
     return f'<circle cx="{x}" cy="{y}" r="{micrometres(size)}"/>'
 
 
-def grown(box, by):
+def grown(box: Box, by: int) -> Box:
     return box[0] - by, box[1] - by, box[2] + by, box[3] + by
 
 
-def picture(shown, wanted):
+def picture(shown: Shown, wanted: Optional[str]) -> str:
     """The picture of a board, or of the finding of that name."""
     finding = next((it for it in shown.findings if it.id == wanted), None)
     if wanted and not finding:

@@ -1,42 +1,78 @@
 """Findings as lines: grouped by name for a reader, one a line for `grep`."""
-from boardnet_show.base.statuses import UNJUDGED
-from boardnet_show.base.wording import counted
-from boardnet_show.findings.finding import doubt
+from typing import Dict, Iterator, List, Sequence
 
-from .sentences import hints
+from boardnet_show.base.statuses import REFUSED, UNDECIDED, UNJUDGED
+from boardnet_show.base.wording import counted
+from boardnet_show.findings.finding import Finding, doubt
+
+from .sentences import answers
+from .shown import Shown
 
 MOST = 20
+WORDS = {0: "agrees", 1: "differs", UNDECIDED: "undecided", REFUSED: "refused"}
+# What became of boards, one and several.
+PLURALS = {0: ("agrees", "agree"), 1: ("differs", "differ"), UNDECIDED: ("is undecided", "are undecided"), REFUSED: ("is refused", "are refused"),
+           UNJUDGED: ("is not judged", "are not judged")}
 
 
-def heading(shown):
+def heading(shown: Shown) -> str:
     return f"{shown.path}: {shown.line}"
 
 
-def summary(shown):
-    """One line of a batch."""
-    return heading(shown)
+def hint_words(shown: Shown) -> List[str]:
+    """The hints, in order."""
+    if not shown.hints:
+        return []
+    from .sentences import (        # most boards have none, and loading takes longer than a small board
+        hints
+    )
+    return list(map(hints.words, shown.hints))
 
 
-def notes(shown):
+def first_hint(shown: Shown) -> str:
+    """The first hint that agrees, else the first one; nothing where there is none."""
+    rows = list(zip(shown.hints, hint_words(shown)))
+    return next((words for it, words in rows if it.answer.status == 0), rows[0][1] if rows else "")
+
+
+def summary(shown: Shown) -> str:
+    """One line of a batch: the answer, and a hint where there is one."""
+    hint = first_hint(shown)
+    return heading(shown) + (f" [hint: {hint}]" if hint else "")
+
+
+def word_of(status: int) -> str:
+    """What became of a board, in a word."""
+    return WORDS.get(status, "not judged")
+
+
+def total(all_shown: Sequence[Shown]) -> str:
+    """How many boards there are of each answer."""
+    counts = [(sum(word_of(shown.status) == WORDS.get(status, "not judged") for shown in all_shown), words) for status, words in PLURALS.items()]
+    told = ", ".join(f"{count} {one if count == 1 else many}" for count, (one, many) in counts if count)
+    return f"{counted(len(all_shown), 'board')}: {told}"
+
+
+def notes(shown: Shown) -> List[str]:
     """What is told before the findings."""
     told = [*shown.notes, *([shown.seen.flood] if shown.seen.flood else [])]
-    return told + [f"hint: {hints.words(hint)}" for hint in shown.hints]
+    return told + [f"hint: {words}" for words in hint_words(shown)]
 
 
-def bounded(shown):
+def bounded(shown: Shown) -> List[str]:
     """What a board between two bounds leaves out below."""
     return [f"  left out of the lower bound: {word}" for word in shown.bounds.left_out] if shown.bounds else []
 
 
-def grouped(findings):
+def grouped(findings: Sequence[Finding]) -> Dict[str, List[Finding]]:
     """The findings by their names, in order of first appearance."""
-    groups = {}
+    groups: Dict[str, List[Finding]] = {}
     for finding in findings:
         groups.setdefault(finding.name, []).append(finding)
     return groups
 
 
-def blocks(shown):
+def blocks(shown: Shown) -> Iterator[List[str]]:
     """The lines of each finding, the first of a name with the name."""
     for name, members in grouped(shown.findings).items():
         for at, finding in enumerate(members):
@@ -44,7 +80,7 @@ def blocks(shown):
             yield head + [f"  {doubt(finding)}{finding.id}: {finding.words}"] + [f"      {hint}" for hint in finding.hints]
 
 
-def reader(shown, is_all):
+def reader(shown: Shown, is_all: bool) -> Iterator[str]:
     """What is printed of one board: at most twenty lines of findings where not all are wanted."""
     yield heading(shown) + (f" ({shown.seen.audit})" if shown.seen.audit and shown.status != UNJUDGED and not shown.bounds else "")
     yield from notes(shown)
@@ -58,15 +94,19 @@ def reader(shown, is_all):
     if left:
         yield f"{counted(left, 'further finding')}: --all prints them, --page FILE shows them"
     yield from cut(bounded(shown), is_all)
+    if is_all and shown.answer.both:
+        yield f"  {answers.bounds_words(shown.answer.both)}"
     yield from cut(list(extra_lines(shown)), is_all)
 
 
-def cut(rows, is_all):
+def cut(rows: List[str], is_all: bool) -> List[str]:
     return rows if is_all or len(rows) <= MOST else [*rows[:MOST], f"{len(rows) - MOST} more lines: --all prints them"]
 
 
-def quiet(shown):
-    """A line `file:line: id: words` for each finding, as editors and CI read them, and one for the board."""
+def quiet(shown: Shown) -> Iterator[str]:
+    """A line for the board, and one `file:line: id: words` for each finding, as editors and CI read them."""
+    yield heading(shown)
+    yield from (f"{shown.path}: hint: {words}" for words in hint_words(shown))
     if shown.board:
         netlist = shown.board.package.told_path(shown.board.manifest.netlist)
         yield from (f"{shown.path}: {words}" for words in shown.seen.lost_ties())
@@ -75,14 +115,11 @@ def quiet(shown):
             yield f"{place}: {doubt(finding)}{finding.id}: {finding.sentence()}"
     for row in bounded(shown):
         yield f"{shown.path}: {row.strip()}"
-    for hint in shown.hints:
-        yield f"{shown.path}: hint: {hints.words(hint)}"
     for row in extra_lines(shown):
         yield f"{shown.path}: {row.strip()}"
-    yield summary(shown)
 
 
-def extra_lines(shown):
+def extra_lines(shown: Shown) -> Iterator[str]:
     """What is told of it in lines."""
     if shown.requested.like:
         yield f"like {shown.requested.like.path}: {shown.requested.like.line}" + (f" ({shown.requested.like.placed})" if shown.requested.like.placed else "")

@@ -37,6 +37,12 @@ class Mapped(unittest.TestCase):
         with mock.patch.object(workers, "processors", return_value=3):
             self.assertEqual([*workers.mapped(doubled, [2, 12, 13], [workers.LARGE] * 3, lambda number: 0)], [4, 24, 0])
 
+    def test_no_processes(self):
+        """Where none can be begun the work is done here."""
+        for name in ("concurrent.futures.ProcessPoolExecutor", "multiprocessing.get_context"):
+            with mock.patch(name, side_effect=OSError("no semaphores")):
+                self.assertEqual(self.made(3, [2, 3, 5]), [4, 6, 10])
+
     def test_what_is_small_stays_here(self):
         with mock.patch.object(workers, "processors", return_value=4):
             found = [*workers.mapped(named, [1, 2, 3, 4], [0, workers.LARGE, 0, workers.LARGE])]

@@ -1,4 +1,5 @@
 """Copper files between two files, and packages between two packages, over the stand-in and over the built program."""
+import json
 import os
 import random
 import tempfile
@@ -241,7 +242,7 @@ class Packages(made.Case):
         for program in self.over_both():
             told = self.bounded(program, self.ARC, [record("A", "J1.1", 1, 0), record("A", "J1.2", -1, 0), record("A", "J1.3", 0, 1)])
             self.assertEqual((told.status, told.findings, told.left_out), (0, [], []))
-            self.assertEqual(sentences.line(told.answer), "agrees, between two bounds (lower agrees; upper agrees)")
+            self.assertEqual(sentences.line(told.answer), "agrees, between two bounds")
 
     def test_differs(self):
         """What both have is the board's: a short, a point without copper, a name in two parts."""
@@ -355,9 +356,12 @@ class Packages(made.Case):
         self.write("board/top.gbr", "\n".join([*self.ARC, "M02*", ""]))
         self.write("board/n.ipc", netlist(record("A", "J1.1", 0, 1.1), record("A", "J1.2", 1, 0)))
         before = {name: os.stat(self.path("board", name)).st_mtime_ns for name in os.listdir(self.path("board"))}
-        status, out, _ = self.show("board")
-        self.assertEqual((status, out.splitlines()[0]), (11, "board: undecided, between two bounds: 1 finding undecided "
-                                                             "(lower differs, opens 0, shorts 0, missing 1; upper agrees)"))
+        status, out, _ = self.show("board", "--all", "--json", "b.json")
+        self.assertEqual((status, out.splitlines()[0]), (11, "board: undecided, between two bounds: 1 finding undecided"))
+        self.assertIn("  bounds: lower differs, opens 0, shorts 0, missing 1; upper agrees\n", out)
+        its = json.loads(self.read("b.json"))["boards"][0]["bounds"]
+        self.assertEqual((its["lower"], its["upper"]), ("differs, opens 0, shorts 0, missing 1", "agrees"))
+        self.assertNotIn("lower", self.show("board")[1].splitlines()[0])
         self.assertIn("  undecided missing-0: copper lies under J1 pin 1 (the one layer, 0.000, 1.100 mm), of A, on the upper board alone", out)
         self.assertEqual({name: os.stat(self.path("board", name)).st_mtime_ns for name in os.listdir(self.path("board"))}, before)
 

@@ -155,15 +155,15 @@ class Unforeseen(made.Case):
         points = [record("A", f"J1.{k}", 3 * k, 5) for k in range(3)] + [record("B", "J2.1", 0, 7), record("C", "J2.2", 9, 5), record("C", "J2.3", 12, 5)]
         self.write("board/n.ipc", netlist(*points))
         for program in self.over_both():
-            status, out, _ = self.show("board", "--json", "b.json", "--page", "b.html", "--junit", "b.xml", "--rdb", "b.lyrdb", program=program)
-            line = "(lower differs, opens 2, shorts 1, missing 1; upper differs, opens 2, shorts 1, missing 1)"
+            status, out, _ = self.show("board", "--all", "--json", "b.json", "--page", "b.html", "--junit", "b.xml", "--rdb", "b.lyrdb", program=program)
+            line = "bounds: lower differs, opens 2, shorts 1, missing 1; upper differs, opens 2, shorts 1, missing 1\n"
             self.assertEqual((status, line in out, "3 findings certain" in out), (1, True, True), out)
             board = json.loads(self.read("b.json"))["boards"][0]
             words = ("opens", "shorts", "missing", "open_ties", "certain", "undecided")
             self.assertEqual([board[word] for word in words], [2, 1, 1, 0, 3, 0])
             self.assertEqual(len(board["findings"]), 3)
-            self.assertTrue("Opens <span>1 finding</span>" in self.read("b.html") and line in self.read("b.html"))
-            self.assertIn(line, self.read("b.lyrdb"))
+            self.assertTrue("Opens <span>1 finding</span>" in self.read("b.html") and line.strip() in self.read("b.html"))
+            self.assertRegex(self.read("b.lyrdb"), "<description>board: differs, between two bounds(, proved)?: 3 findings certain</description>")
 
     def test_no_memory(self):
         self.assertEqual(fault_of("x", MemoryError()).status, 6)

@@ -21,7 +21,8 @@ DEFAULTS = {
     "mirrored drills": lambda: with_drills(files_of(), 2, (0, 0)),
     "both": lambda: with_netlist(with_drills(files_of(), 0, (35_000_000, -22_500_000)), placement.FORMS[0][1], (12345, -678)),
     "layers": lambda: {**files_of(), "m.json": files_of()["m.json"].replace('["a.gbr", "b.gbr"]', '["b.gbr", "a.gbr"]')},
-    "digits": lambda: files_of(number=lambda v: f"{v // 10:06d}"),
+    # So few holes that the pads do not decide how numbers are read.
+    "digits": lambda: files_of(pads=7, number=lambda v: f"{v // 10:06d}"),
 }
 SIGNED = {"reason": "signed by the customer", "author": "Ann", "date": "2026-12-01"}
 
@@ -79,6 +80,14 @@ class Changes(Case):
             self.put(DEFAULTS[name](), f"row{row}")
             status, out, notes = self.show(f"row{row}", "--with", words, program=self.programs()[0])
             self.assertEqual((status, out.split("\n")[0]), (0, f"row{row}: agrees, with 1 declaration (audit true)"), (words, out, notes))
+
+    def test_digits_of_many_holes(self):
+        """Where pads decide how numbers are read, and that is asked, declared digits are what is said of them."""
+        self.put(files_of(number=lambda v: f"{v // 10:06d}"))
+        program = self.programs()[0]
+        self.assertEqual(self.show("board", program=program)[0], 10)
+        self.assertEqual(self.show("board", "--with", "digits file=p.drl decimals=3", program=program)[0], 0)
+        self.assertEqual(self.show("board", "--with", "digits file=p.drl decimals=4", program=program)[0], 1)
 
     def test_order(self):
         """Changes are made in the order in which they are declared: turned and then moved is not moved and then turned."""
@@ -156,6 +165,21 @@ class Sorted(Case):
         self.assertEqual((status, out.split("\n")[0]), (0, "board: agrees, with 3 declarations (audit true)"), out)
         self.put({"inner1.gbr": gerber(*flash(10, (0, 0), (5, 0)))})
         self.assertEqual(self.show("board")[0], 10)
+
+    def test_readings(self):
+        """What the board alone says of a file, and --yes takes, is written and taken again; another reading is not."""
+        files = files_of()
+        files["n.ipc"] = files["n.ipc"].replace("P  UNITS CUST 1\n", "")
+        self.put(files)
+        for program in self.over_both():
+            self.assertEqual(self.show("board", program=program)[0], 10)
+            self.assertEqual(self.show("board", "--yes", "--write-declarations", "board/boardnet.json", program=program)[0], 0)
+            status, out, _ = self.show("board", program=program)
+            self.assertEqual((status, out.split("\n")[0]), (0, "board: agrees, with 1 declaration (audit true)"), out)
+            taken, = json.loads(self.read("board/boardnet.json"))["taken"]
+            self.declare(taken=[{**taken, "as": taken["as"] + " of another board"}])
+            self.assertEqual(self.show("board", program=program)[0], 10)
+            os.remove(self.path("board", "boardnet.json"))
 
     def test_plated(self):
         """A drill file is declared to be plated; one that says itself that it is not is refused."""

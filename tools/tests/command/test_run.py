@@ -11,6 +11,7 @@ import zipfile
 from xml.dom import minidom
 
 from boardnet_show.base.progress import Progress
+from boardnet_show.command import one_board
 from boardnet_show.command.run import SIGNALS
 from boardnet_show.formats import indented_json
 from tests.fixtures import common, made
@@ -29,12 +30,12 @@ BAD = {
                      record("SIG", "</b>.", -0.5, 9.999)),
 }
 QUIET = """\
+board: differs, opens 1, shorts 1, missing 1
 board/n.ipc:5: open-0: R1 pin 2 (the one layer, 3.000, 5.000 mm) is not joined to J1 pin 2 (the one layer, 0.000, 5.000 mm), 3.000 mm away; \
 SIG is in 2 parts, here R1 pin 2, there J1 pin 2. Suggestion: their copper comes nearest, 2.000 mm, on the one layer (top.gbr) at 1.500, 5.000 mm.
 board/n.ipc:2: short-0: GND and VCC are joined: GND has J1 pin 1 (the one layer, 0.000, 0.000 mm) and VCC has U1 pin 8 (the one layer, 10.000, 0.000 mm). \
 Suggestion: GND and VCC meet on the one layer (top.gbr) at 5.000, 0.000 mm; top.gbr command 13 is one piece that could be either's, between top.gbr command 7 and top.gbr command 8.
 board/n.ipc:6: missing-0: no copper of top.gbr lies under </b> (the one layer, -0.500, 9.999 mm), of SIG.
-board: differs, opens 1, shorts 1, missing 1
 """
 READER = """\
 board: differs, opens 1, shorts 1, missing 1 (audit true)
@@ -114,7 +115,7 @@ class Answers(made.Case):
 
     def test_words(self):
         self.board(GOOD)
-        for words in ([], ["--nonsense", "board"], ["board", "board", "--page", "p.html"], ["board", "--at", "short-0"]):
+        for words in ([], ["--nonsense", "board"], ["board", "board", "--svg", "p.svg"], ["board", "board", "--page", "-"], ["board", "--at", "short-0"]):
             status, out, notes = self.show(*words)
             self.assertEqual((status, out, notes.startswith("usage: boardnet show PATH..")), (2, "", True))
         for word in ("--help", "-h"):
@@ -159,12 +160,12 @@ class Answers(made.Case):
     def test_batch(self):
         for folder, files in (("good", GOOD), ("bad", BAD), ("refused", {**GOOD, "top.gbr": "%FSLAX46Y46*%\n"})):
             self.board(files, folder)
-        self.assertEqual(self.show("good", "good")[:2], (0, "good: agrees\ngood: agrees\n"))
+        self.assertEqual(self.show("good", "good")[:2], (0, "good: agrees\ngood: agrees\n2 boards: 2 agree\n"))
         status, out, _ = self.show("bad", "good", "--json", "all.json")
-        self.assertEqual((status, out), (1, "bad: differs, opens 1, shorts 1, missing 1\ngood: agrees\n"))
+        self.assertEqual((status, out), (1, "bad: differs, opens 1, shorts 1, missing 1\ngood: agrees\n2 boards: 1 agrees, 1 differs\n"))
         self.assertEqual([board["status"] for board in json.loads(self.read("all.json"))["boards"]], [1, 0])
         status, out, _ = self.show("good", "bad", "refused", "nowhere")
-        self.assertEqual((status, len(out.splitlines())), (3, 4))
+        self.assertEqual((status, len(out.splitlines()), out.splitlines()[-1]), (3, 5, "4 boards: 1 agrees, 1 differs, 1 is refused, 1 is not judged"))
 
     def test_macros_are_flattened(self):
         lines = [*label("GND"), *flash(10, (0, 0)), MACRO, *flash(13, (10, 0)), *draw(11, (0, 0), (10, 0))]
@@ -185,6 +186,14 @@ class Answers(made.Case):
         self.assertEqual(len(minidom.parseString(self.read("b.lyrdb")).getElementsByTagName("item")), 3)
         self.board({**BAD, "top.gbr": gerber(*[line.replace("1,1,", "1,0,") for line in lines])}, "off")
         self.assertIn("top.gbr could not be flattened: top.gbr: flatten 34 ExposureOff", self.show("off")[1])
+
+    def test_notes_of_many_files(self):
+        """What is said of each of twelve layers is said once."""
+        names = [f"l{k}.gbr" for k in range(12)]
+        told = list(one_board.flattened_notes(names, {name: f"{name}: flatten 34 ExposureOff" for name in names}))
+        self.assertEqual(told, ["l0.gbr, l1.gbr, l2.gbr, l3.gbr, l4.gbr, l5.gbr and 6 more have macros and were flattened: commands are those of the flattened files, which --keep keeps",
+                                "l0.gbr could not be flattened: l0.gbr: flatten 34 ExposureOff; nor could l1.gbr, l2.gbr, l3.gbr, l4.gbr, l5.gbr, l6.gbr and 5 more"])
+        self.assertEqual((list(one_board.flattened_notes([], {})), list(one_board.flattened_notes([], {"a": "why"}))), ([], ["a could not be flattened: why"]))
 
     def test_copper_that_is_not_known(self):
         """Where `flatten` fails, the report alone says what is wrong, with the files' labels."""

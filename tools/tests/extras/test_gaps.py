@@ -71,7 +71,7 @@ class Gaps(made.Case):
         self.board(files)
         status, out, notes = self.show("board", "--gaps", "0.4", "--junit", "j.xml", "--rdb", "r.xml", "--page", "p.html", "--svg", "s.svg", "--at", "gap-1", "-q")
         self.assertEqual((status, notes), (1, ""))
-        self.assertEqual([line.split(" ")[1] for line in out.splitlines()[:2]], ["gap-0:", "gap-1:"])
+        self.assertEqual([line.split(" ")[1] for line in out.splitlines()[1:3]], ["gap-0:", "gap-1:"])
         cases = minidom.parse(self.path("j.xml")).getElementsByTagName("testcase")
         self.assertEqual([(it.getAttribute("name"), len(it.getElementsByTagName("failure"))) for it in cases], [("A", 0), ("B", 0), ("gaps between nets", 1)])
         marked = minidom.parse(self.path("r.xml")).getElementsByTagName("item")
@@ -129,6 +129,9 @@ class Gaps(made.Case):
 
     def test_words_of_the_distance(self):
         for text, u in (("0.1", 1_000_000), ("10", 100_000_000), (".0000001", 1), ("10.0000001", None), ("0", None), ("-1", None), ("1e3", None), ("", None), ("1.12345678", None)):
+            self.assertEqual(asked_distance(text), u, text)
+        for text, u in (("6mil", 1_524_000), ("0.006in", 1_524_000), ("0.15mm", 1_500_000), ("150mil", 38_100_000), ("0.00001mil", None), ("6 mil", None), ("mil", None),
+                        ("6cm", None), ("1in", None)):
             self.assertEqual(asked_distance(text), u, text)
         self.assertEqual(self.show("board", "--gaps", "0,1")[0], 2)
 

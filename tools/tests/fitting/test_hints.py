@@ -198,7 +198,7 @@ class Outside(Case):
         for program in self.over_both():
             status, words, found = self.told(files, program)
             self.assertEqual((status, len(found), found[0].answer.status), (3, 1, 0), words)
-            self.assertEqual(words[0], "with the netlist moved by (-5.000, 0.000) mm, `check` says of both bounds: agrees, between two bounds (lower agrees; upper agrees)")
+            self.assertEqual(words[0], "with the netlist moved by (-5.000, 0.000) mm, `check` says of both bounds: agrees, between two bounds")
 
 
 class Parts(unittest.TestCase):

@@ -152,6 +152,18 @@ class Codes(Case):
                                                    "inner layer; pcb-rnd writes 02 for every bottom), `check` says: agrees"]))
             self.assertEqual(found[0].kind, "access codes")
 
+    def test_a_code_that_is_no_layer(self):
+        """A board of eight layers has none of number 9: the refusal has the hint that a layer of the board has."""
+        program = made.built()
+        if not program:
+            raise unittest.SkipTest("there is no built program")
+        status, words, found = self.told(buried("09"), program)
+        self.assertEqual((status, len(words), found[0].kind), (3, 1, "access codes"))
+        self.assertIn("read as the first layer of the hole at their place", words[0])
+        self.assertTrue(words[0].endswith("`check` says: agrees"), words)
+        elsewhere = {**buried("09"), "b.drl": made.drill((11.0, 0.0))}
+        self.assertEqual(self.told(elsewhere, program)[:2], (3, []))
+
     def test_forms_of_tools(self):
         """Records as KiCad 9 and pcb-rnd write them: the columns of the code alone are changed."""
         drills = [{"file": "b.drl", "from": 2, "to": 3}]

@@ -116,10 +116,10 @@ class Netlists(unittest.TestCase):
         self.assertEqual(ipc356.places(data), [ipc356.Place(it.code == ipc356.THROUGH, it.access, it.x, it.y) for it in rows])
         self.assertEqual(ipc356.masks(data), ("", "2", ""))
         self.assertEqual([it[2:5] for it in ipc356.records(data)], [it[1:4] for it in rows])
-        self.assertEqual((ipc356.names(data), ipc356.aliases(data)), ([b"GND", b"a", b"NNAME1"], {"NNAME1": "a whole name"}))
+        self.assertEqual((ipc356.fields(data).names, ipc356.aliases(data)), ([b"GND", b"a", b"NNAME1"], {"NNAME1": "a whole name"}))
         changed = ipc356.changed(data, lambda line: ipc356.with_name(ipc356.with_access(ipc356.with_place(line, 1, 2), 3), b"B"))
         self.assertEqual({(it.access, it.x, it.y) for it in ipc356.places(changed)}, {(3, 1, 2)})
-        self.assertEqual(ipc356.names(changed), [b"B"])
+        self.assertEqual(ipc356.fields(changed).names, [b"B"])
         self.assertEqual(ipc356.unit_of(ipc356.in_other_unit(data)), 25_400)
 
     def test_what_looks_like_a_netlist(self):

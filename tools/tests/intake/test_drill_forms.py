@@ -5,7 +5,7 @@ import unittest
 from fractions import Fraction
 
 from boardnet_show.base.statuses import Stop
-from boardnet_show.formats.drills import gerber_drills
+from boardnet_show.formats.drills import drill_plating, gerber_drills
 from boardnet_show.formats.units import INCH, MM
 from boardnet_show.geometry.exact import Refused
 from boardnet_show.intake import file_kinds
@@ -40,12 +40,11 @@ Plotfiles:
 
 
 def board(seed=3):
-    """Holes by tool, in steps: many places at random, and a row of equal steps."""
-    chance, found = random.Random(seed), set()
-    while len(found) < 280:
-        found.add((chance.randrange(8, 900), chance.randrange(8, 900)))
-    places = [it for it in sorted(found) if it[1] != 450]
-    row = [(100 + 20 * k, 450) for k in range(300 - len(places))]
+    """Holes by tool, in steps: many places at random, no two of them near, and a row of equal steps."""
+    chance = random.Random(seed)
+    cells = [(i, j) for i in range(1, 46) for j in range(1, 46) if j not in (23, 24)]
+    places = sorted((20 * i + chance.randrange(5), 20 * j + chance.randrange(5)) for i, j in chance.sample(cells, 280))
+    row = [(100 + 20 * k, 470) for k in range(20)]
     return {1: places[:150], 2: places[150:270] + row, 3: places[270:]}
 
 
@@ -319,6 +318,20 @@ class NearMisses(Case):
         self.assertNotIn(b"M48", self.mended(name, drilled.replace("T2C0.040", "T1C0.040"))[0])
         self.assertIn(b"\nT2C0.040C0.041F200S100\n", self.mended(name, drilled.replace("T2C0.040", "T2C0.040C0.041"))[0])
 
+    def test_plating_goes_with_a_tool(self):
+        """What a comment says of a tool that the body defines goes to the header with it; where it says it of what stays, there is no header."""
+        own, of_allegro = "; #@! TA.AperFunction,NonPlated,NPTH", ";T02 Holesize 2. = 1.0 Tolerance = +0.0/-0.0 NON_PLATED MM Quantity = 1"
+        rows = ((("%", "M71", "T1C0.4", "X1.0Y1.0", own, "T2C1.0", "X2.0Y2.0"), 7), (("M48", "METRIC", "%", "T1C0.4", "X1.0Y1.0", own, "T2C1.0", "X2.0Y2.0"), 8),
+                (("%", "M71", "T1C0.4", "X1.0Y1.0", of_allegro, "T2C1.0", "X2.0Y2.0"), 7), ((";TYPE=PLATED", "%", "M71", "T1C0.4", "X1.0Y1.0", ";TYPE=NON_PLATED", "X2.0Y2.0"), 7))
+        for lines, line in rows:
+            self.assertEqual(drill_plating.unplated_hole(text(*lines, "M30").encode()), line, lines)
+        data, _, _ = self.mended("m.drl", text(";TYPE=PLATED", "%", "M71", "T1C0.4", "X1.0Y1.0", ";TYPE=NON_PLATED", "T2C1.0", "X2.0Y2.0", "M30"))
+        self.assertEqual(read(data), [(1000, 1000, 400)])
+        for lines in (("%", "M71", "T1C0.4", own, "X1.0Y1.0", "T2C1.0", "X2.0Y2.0"), ("%", "M71", "T1C0.4", "X1.0Y1.0", own, "T1C0.4", "X2.0Y2.0"),
+                      ("M48", "METRIC", "T1C0.4", "%", "T1", "X1.0Y1.0", own, "T1C0.4", "X2.0Y2.0")):
+            its = text(*lines, "M30").encode()
+            self.assertEqual(drill_mends.mended(its, drill_numbers.settled("m.drl", its, ""))[0].count(b"T1C0.4"), its.count(b"T1C0.4"), lines)
+
     def test_counts(self):
         """Stops between tools, and repeats, are read where as many holes are there as the comments say."""
         for writer in ("allegro stops", "allegro repeats"):
@@ -381,6 +394,76 @@ class GerberDrills(Case):
             with self.subTest(words, new=new), self.assertRaises(Refused) as caught:
                 gerber_drills.written(GERBER.replace(old, new).encode())
             self.assertIn(words, str(caught.exception))
+
+
+def exchanged(text):
+    """A netlist of which the first name that comes twice stands at another record in one place."""
+    lines = text.split("\n")
+    names = [line[3:17] for line in lines]
+    at = next(k for k, name in enumerate(names) if names.count(name) == 2 and lines[k].startswith("317"))
+    other = 1 if at != 1 else 2
+    lines[at], lines[other] = (lines[k][:3] + names[j] + lines[k][17:] for k, j in ((at, other), (other, at)))
+    return "\n".join(lines)
+
+
+class Shown(made.Case):
+    """Whole boards by `show`: in one form of each kind, as it comes and spoilt."""
+
+    @staticmethod
+    def track(k):
+        """Between two holes of the row."""
+        return made.draw(11, *((x * STEP / 1000, 470 * STEP / 1000) for x in (100 + 20 * k, 120 + 20 * k)))
+
+    def files(self, writer, forms):
+        name, drilled, beside = forms[writer]
+        pads = made.flash(10, *((x / 1000, y / 1000) for x, y, _ in sorted(PLATED)))
+        nets = [made.record(f"N{k}", f"J1.{k}", x / 1000, y / 1000, "00") for k, (x, y, _) in enumerate(sorted(PLATED), 1)]
+        first, second = (sorted(PLATED).index((x * STEP, 470 * STEP, SIZES[2])) for x in (100, 120))
+        track = self.track(0)
+        nets[second] = nets[second].replace(f"N{second + 1} ", f"N{first + 1} ")
+        return {"top.gbr": "%TF.FileFunction,Copper,L1,Top*%\n" + made.gerber(*pads, *track), "bot.gbr": "%TF.FileFunction,Copper,L2,Bot*%\n" + made.gerber(*pads),
+                "n.ipc": made.netlist(*nets), name: drilled, **beside}
+
+    def test_asked(self):
+        """What evidence alone says is told with all else that wants a yes; with the yes a spoilt board is one that differs."""
+        files = self.files("proteus", SILENT)
+        name = SILENT["proteus"][0]
+        hit = next(line for line in files[name].splitlines() if line.startswith("X"))
+        short = self.track(3)
+        spoilt = {"whole": {}, "hole": {name: files[name].replace(hit + "\n", "")},
+                  "short": {"top.gbr": files["top.gbr"].replace("M02*", "\n".join([*short, "M02*"]))},
+                  "draw": {"top.gbr": files["top.gbr"].replace("D01*", "D02*")},
+                  "names": {"n.ipc": exchanged(files["n.ipc"])}}
+        for row, changed in spoilt.items():
+            board = self.board({**files, **changed}, row)
+            status, out, _ = self.show(board)
+            self.assertEqual(status, 10)
+            self.assertIn("would be taken: mini - CADCAM Drill.DRL as a drill file of 3.3 millimetres, leading zeros left out: ", out)
+            self.assertIn("would be taken: mini - CADCAM Drill.DRL as plated holes", out)
+            status, out, _ = self.show(board, "--yes")
+            self.assertEqual(status, 0 if row == "whole" else 1, (row, out))
+            self.assertIn("as a drill file of 3.3 millimetres", out)
+
+    def test_said(self):
+        """What is said wants no yes for that; an unplated hole that was plated is an open."""
+        files = self.files("allegro repeats", SAID)
+        for row, (old, new), wanted in (("whole", ("", ""), 0), ("unplated", (" PLATED MILS Quantity = 150", " NON_PLATED MILS Quantity = 150"), 1)):
+            name = SAID["allegro repeats"][0]
+            board = self.board({**files, name: files[name].replace(old, new)}, row)
+            status, out, _ = self.show(board, "--yes")
+            self.assertEqual((status, "nc_param.txt beside it says FORMAT 2.5" in out), (wanted, True), out)
+
+    def test_sorted_into_folders(self):
+        """A folder of folders alone is one board, unless two files have one name."""
+        files = self.files("eagle 9", SAID)
+        sorted_files = {("Gerber/" if name.endswith(".gbr") else "Drill/") + name: text for name, text in files.items()}
+        self.board({f"CAM/{name}": text for name, text in sorted_files.items()}, "nest")
+        told = [self.show(self.board(its, row), "--yes")[:2] for row, its in (("flat", files), ("folders", sorted_files), ("nest", {}))]
+        self.assertEqual([status for status, _ in told], [0, 0, 0])
+        self.assertEqual(told[0][1].replace("flat:", "folders:"), told[1][1])
+        self.board({"CAM/Other/top.gbr": files["top.gbr"]}, "nest")
+        status, out, _ = self.show("nest", "--yes")
+        self.assertEqual((status, "two files of the name top.gbr" in out), (10, True))
 
 
 if __name__ == "__main__":

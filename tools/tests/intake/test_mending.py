@@ -79,7 +79,7 @@ class Answers(made.Case):
         arc = TRACK.replace("D11*", "G75*\nD11*").replace("X10000000Y0D01", "G03X10000000Y0I5000000J0D01")
         self.board({**BOARD, "bot.gbr": arc})
         status, out, _ = self.show("board")
-        self.assertEqual((status, out.splitlines()[0]), (0, "board: agrees, between two bounds (lower agrees; upper agrees), after 1 mend"))
+        self.assertEqual((status, out.splitlines()[0]), (0, "board: agrees, between two bounds, after 1 mend"))
 
     def test_refused(self):
         """What stays refused says the line, and what to export from the tool that wrote the file."""

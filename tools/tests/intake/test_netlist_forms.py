@@ -1,4 +1,5 @@
 """Netlists in the forms of several tools, each with the same points as lines that `check` takes; and lines that stay as they are."""
+import random
 import unittest
 
 from boardnet_show.formats import ipc356
@@ -208,3 +209,129 @@ class Points(made.Case):
             self.assertEqual(points(lines), points(wanted), lines)
         for lines, wanted in SPANS:
             self.assertEqual(points(lines), points([UNITS, *wanted]), lines)
+
+
+def read_strictly(data, layers):
+    """What `check` reads of a netlist, by its table of lines: (layer, name, x, y) of each point, or None where it refuses one."""
+    found, has_end, has_unit = [], False, False
+    for line in data.split(b"\n"):
+        line = line[:-1] if line.endswith(b"\r") else line
+        code, body = line[:3], line[:57].ljust(57)
+        if not body.strip(b" \t"):
+            continue
+        if has_end:
+            return None
+        if code == b"999":
+            has_end = True
+        elif code in (b"317", b"327"):
+            name, access, numbers = body[3:17].strip(b" \t") or b"N/C", body[39:41].lstrip(b" \t"), [body[at:at + 8] for at in (41, 49)]
+            is_name = all(33 <= byte <= 126 for byte in name)
+            is_access = body[38:39] == b"A" and len(access) > 0 and access.isdigit() and int(access) <= layers
+            is_place = all(it[:1] == letter and it[1:2] in b" \t+-" and it[2:].lstrip(b" \t").isdigit() for it, letter in zip(numbers, (b"X", b"Y")))
+            if not (has_unit and is_name and is_access and is_place):
+                return None
+            x, y = (int(it[2:].lstrip(b" \t")) * (-1 if it[1:2] == b"-" else 1) for it in numbers)
+            found += [(layer, name, x, y) for layer in ((1, layers) if int(access) == 0 else (int(access),))]
+        elif line[:1] == b"P" and line[1:57].split()[:1] == [b"UNITS"]:
+            if has_unit or line[1:57].split()[1:] != [b"CUST", b"1"]:
+                return None
+            has_unit = True
+        elif line[:1] not in (b"C", b"P") and code not in ipc356.PASSED_OVER:
+            return None
+    return found if has_end else None
+
+
+class Tool:
+    """Writes a netlist in forms that are chosen at random, and knows its points."""
+
+    NAMES = ("GND", "MY NET", "A  B", "GR\u00d6SSE", "\u7535\u6e90", "NNAME7", "a_name_of_over_14", "N/C", "x" * 14)
+
+    def __init__(self, seed):
+        self.random, self.points, self.lines, self.layers = random.Random(seed), set(), [], 6
+        self.is_bottom_16, self.counts_characters = self.random.random() < 0.3, self.random.random() < 0.5
+        self.alias = {"a_name_of_over_14": ["NNAME1", "NNAME2"], "NNAME7": ["NNAME3"]}
+        self.lines += ["C a tool", "P  NNAME1  a_name_of_over_14", "P  NNAME2  a_name_of_over_14", "P  NNAME3  NNAME7", self.random.choice(["P  UNITS SI", "P  UNITS CUST 1"])]
+        for number in range(self.random.randint(1, 12)):
+            self.pin(number)
+        self.lines += ["999", *(["\x1a"] if self.random.random() < 0.3 else [])]
+
+    def named(self, name):
+        """The columns of a name, of which a tool counts bytes or characters."""
+        field = self.random.choice(self.alias.get(name, [name]))
+        return field + " " * (14 - len(field if self.counts_characters else field.encode()))
+
+    def code_of(self, layer):
+        return f"A{16 if layer == self.layers and self.is_bottom_16 else layer:02d}"
+
+    def place(self):
+        return [self.random.randint(-99, 999_999) for _ in range(2)]
+
+    def pin(self, number):
+        name, (x, y) = self.random.choice(self.NAMES), self.place()
+        field, where = self.named(name), f"X{x:+07d}Y{y:+07d}"
+        part = f"   U{number:<5}-1          "
+        first = self.random.randint(1, self.layers - 1)
+        last = self.random.randint(first + 1, self.layers)
+        kind = self.random.choice(["pad", "via", "span", "nowhere", "other side", "again", "bottom", "other place"])
+        end = self.random.choice(["", "X0600Y0000R000S1", "X0600Y0000R000 S0\r"])
+        layers, spots = {first}, [(x, y)]
+        if kind in ("via", "span", "nowhere"):
+            code = "   " if kind == "nowhere" else f"A{first:02d}"
+            self.lines.append(f"307{field}{part}{code}{where}{end}")
+            layers = set() if kind == "nowhere" else layers
+            if kind == "span":
+                self.lines.append(f"027{'':35}L{first:02d}L{last:02d}")
+                layers = {first, last}
+        else:
+            layer = self.layers if kind == "bottom" else first
+            layers = {layer}
+            self.lines.append(f"327{field}{part}{self.code_of(layer)}{where}{end}")
+        if field.isascii() and kind in ("other side", "again", "other place"):
+            other = self.random.choice([field + part, " " * 35])
+            (across, up), side = self.place(), last if kind == "other side" else first
+            there = f"X{across:+07d}Y{up:+07d}" if kind == "other place" else where
+            self.lines.append(f"027{other}{self.code_of(side)}{there}")
+            layers, spots = layers | {side}, spots + ([(across, up)] if kind == "other place" else [])
+        self.points |= {(layer, name, *spot) for layer in layers for spot in spots}
+
+    def text(self):
+        paper = [self.random.choice(["", "", "", "\x0c"]) + line for line in self.lines[:-2]]
+        return "\n".join([*paper, *self.lines[-2:], ""]).encode()
+
+
+class Random(unittest.TestCase):
+    def points(self, data, layers=6):
+        found, whole = read_strictly(data, layers), ipc356.aliases(data)
+        return None if found is None else {(layer, whole.get(name.decode(), name.decode()), x, y) for layer, name, x, y in found}
+
+    def test_all_points_are_kept(self):
+        """Netlists in forms at random: what is read of the mended copy are the points that the tool meant, and names stay as distinct."""
+        taken = 0
+        for seed in range(600):
+            tool = Tool(seed)
+            data, _ = netlist_mends.mended(tool.text(), tool.layers)
+            found = self.points(data)
+            if tool.is_bottom_16 and found is None:
+                continue            # a bottom of its own code, or of none
+            self.assertEqual(found, tool.points, tool.text().decode())
+            taken += 1
+        self.assertGreater(taken, 500)
+
+    def test_damaged_netlists(self):
+        """A byte that is gone, there twice or another: the netlist is refused, or the points of one line alone are others."""
+        refused = 0
+        for seed in range(2_000):
+            chance, tool = random.Random(seed), Tool(seed)
+            text = tool.text()
+            at = chance.randrange(len(text))
+            text = chance.choice([text[:at] + text[at + 1:], text[:at] + text[at:at + 1] + text[at:], text[:at] + chance.choice([b" ", b"0", b"A", b"X"]) + text[at + 1:]])
+            found = None if netlist_mends.unclear(text, tool.layers) else self.points(netlist_mends.mended(text, tool.layers)[0])
+            refused += found is None
+            if found is not None:
+                # One line is damaged: a pin with another side, or a via with its span, has two points.
+                read, meant = ({(layer, x, y) for layer, _, x, y in points} for points in (found, tool.points))
+                self.assertEqual((len(read - meant) <= 2, len(meant - read) <= 2), (True, True), text)
+                # Where no line of an alias and no name is hit, no two names have become one.
+                names = {name for _, name, *_ in found}
+                self.assertGreaterEqual(len(names), len({name for _, name, *_ in tool.points}) - 1, text)
+        self.assertGreater(refused, 300)

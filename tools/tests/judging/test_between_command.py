@@ -210,8 +210,8 @@ class Asked(made.Case):
 
     def test_said(self):
         """`proved` is said where the program takes the bounds and finds what the reports do, and only then."""
-        plain = "agrees, between two bounds (lower agrees; upper agrees)"
-        self.assertEqual(bare_line(self.told(Recorder(decided("agrees")), HALF, [A, B]).answer), "agrees, between two bounds, proved (lower agrees; upper agrees)")
+        plain = "agrees, between two bounds"
+        self.assertEqual(bare_line(self.told(Recorder(decided("agrees")), HALF, [A, B]).answer), "agrees, between two bounds, proved")
         for status in (2, 4, 6):
             told = self.told(Recorder(Answer(status, b"", "")), HALF, [A, B])
             self.assertEqual((told, bare_line(told.answer)), (self.bounded, plain))
@@ -219,7 +219,7 @@ class Asked(made.Case):
         self.assertEqual((bare_line(told.answer), told.notes), (plain, ("`between` was asked, and stopped: top.gbr: Gerber 39 OffsetsAmiss at command 10, byte 9",)))
         near = [record("A", "J1.1", 0, 1.1), B]
         told = self.told(Recorder(decided("undecided", NONE, "opens 0\nshorts 0\nmissing 1\nbare 1 1 0 11000000 A\n")), HALF, near)
-        self.assertEqual((told.status, bare_line(told.answer)[:70]), (11, "undecided, between two bounds, proved: 1 finding undecided (lower diff"))
+        self.assertEqual((told.status, bare_line(told.answer)), (11, "undecided, between two bounds, proved: 1 finding undecided"))
 
     def test_other_findings(self):
         """What `between` finds has to be what the reports on both boards find: words, counts, names and places."""
@@ -236,9 +236,9 @@ class Asked(made.Case):
         ties, records = Ties([tie("A=C", "--tie")]), [record("C", "J1.1", 1, 0), B]
         joined = "opens 0\nshorts 1\nshort 2\npoint 1 1 10000000 0 C\npoint 2 1 -10000000 0 A\nmissing 0\n"
         told = self.told(Recorder(decided("differs", joined)), HALF, records, ties=ties)
-        self.assertEqual((told.status, bare_line(told.answer)[:59]), (0, "agrees, with 1 declared tie, between two bounds, proved (lo"))
+        self.assertEqual((told.status, bare_line(told.answer)), (0, "agrees, with 1 declared tie, between two bounds, proved"))
         told = self.told(Recorder(decided("differs", joined)), HALF, records, ties=Ties([tie("A=C", "--tie"), tie("A=D", "--tie")]))
-        self.assertEqual((told.status, bare_line(told.answer)[:75]), (1, "differs, with 1 declared tie, between two bounds, proved: 1 finding certain"))
+        self.assertEqual((told.status, bare_line(told.answer)), (1, "differs, with 1 declared tie, between two bounds, proved: 1 finding certain"))
         for answer in (decided("differs"), decided("agrees"), decided("undecided", NONE, joined), decided("differs", joined.replace(" C", " E"))):
             with self.subTest(answer.out), self.assertRaisesRegex(Stop, "NOTHING WAS JUDGED: `between` "):
                 self.told(Recorder(answer), HALF, records, ties=ties)
@@ -365,7 +365,7 @@ class Taken(made.Case):
         text = text.replace("46Y46", "26Y26").replace("MM", "IN").replace("1000000", "39370") if name == "inches" else text
         self.board({"m.json": manifest(drills=[("d.drl", 1, 1)]), "top.gbr": text, "n.ipc": netlist(*records), "d.drl": drill((20.0, 0.0), (21.0, 0.0))}, name)
         status, out, notes = self.show(name, program=program)
-        return status, out.split(" (lower")[0].split(":")[1], notes
+        return status, re.split(", after|\n", out)[0].split(":")[1], notes
 
     def try_rows(self, rows, before=()):
         program = having_between()

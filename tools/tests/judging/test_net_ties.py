@@ -117,7 +117,7 @@ class Ties(made.Case):
         self.tied()
         self.board({"m.json": manifest(), "top.gbr": COPPER, "n.ipc": netlist(*POINTS), "ties.txt": "GND=AGND\n"}, "other")
         self.assertEqual(self.show("board", "other", "--tie", "AGND=GND")[:2], (0, "".join(
-            f"{name}: agrees, with 1 declared tie; the report itself says: differs, opens 0, shorts 1, missing 0\n" for name in ("board", "other"))))
+            f"{name}: agrees, with 1 declared tie; the report itself says: differs, opens 0, shorts 1, missing 0\n" for name in ("board", "other")) + "2 boards: 2 agree\n"))
 
     def test_page(self):
         """A page and a marker database of a board whose shorts are all ties."""

@@ -560,9 +560,9 @@ class Trials(Checkout):
         status, out, notes = self.launch("show", "board", BOARDNET="", TRIAL_ENDS="3", TRIAL_SAYS="t.gbr: Gerber 4 BadWord at command 1, byte 0")
         lines, refused = notes.splitlines(), f"board: {FIRST}t.gbr: Gerber 4 BadWord at command 1, byte 0; line 1 of t.gbr"
         self.assertEqual(lines[0], "boardnet: board: 1 copper files (t.gbr), 0 drill files, netlist n.ipc with 1 test records")
-        self.assertEqual((status, out, lines[1] + "\n", lines[2]), (3, "", MADE, refused))
+        self.assertEqual((status, out, lines[1] + "\n", lines[2][:len(refused)]), (3, "", MADE, refused))
         status, out, notes = self.launch("--trial", "show", "board", BOARDNET="", TRIAL_ENDS="3", TRIAL_SAYS="t.gbr: Gerber 4 BadWord at command 1, byte 0")
-        self.assertEqual((status, out.splitlines()[0], notes), (3, refused, ""))
+        self.assertEqual((status, out[:len(refused)], notes), (3, refused, ""))
         # What could not be judged is no answer, whichever program says it.
         self.assertEqual((self.launch("show", "board", BOARDNET="")[0], self.calls(), self.tries()), (12, [], 0))
         os.makedirs(self.path("empty"))

@@ -106,6 +106,14 @@ class Told(made.Case):
             status, out, _ = self.show("board")
             self.assertEqual((status, "The netlist has" in out, LONG in out), (1, False, False), out)
 
+    def test_names_of_kicad(self):
+        """A netlist of KiCad has capitals, also where no name is cut."""
+        points, top = self.POINTS.replace(SHORT, "CAP".ljust(14)), self.TOP.replace(LONG, "Cap")
+        for head, is_whole in (("P  CODE 00\nP  arrayDim   N\n", True), ("P  CODE 00\n", False)):
+            self.board(self.files(**{"n.ipc": head + points, "top.gbr": top}))
+            status, out, _ = self.show("board")
+            self.assertEqual((status, "The netlist has CAP for Cap." in out), (1, is_whole), out)
+
     def test_the_answer_is_the_same(self):
         """Names change words alone: the report and its status are those of the netlist."""
         self.board(self.files())

@@ -3,6 +3,7 @@ import unittest
 
 from boardnet_show.output import page, svg
 from tests.fixtures import browser, common, pages
+from tests.fixtures.made import netlist, record
 from tests.fixtures.pages import BOARD, IDS
 
 # What is drawn on a part of a canvas, by a copy of it.
@@ -266,6 +267,48 @@ class InABrowser(common.Case):
             self.assertLess(self.ask(f"{READ}('copper').reduce((most, v, i) => Math.max(most, Math.abs(v - moved[i])), 0)"), 40, key)
             self.assertEqual(self.ask("document.getElementById('copper').style.transform"), "")
 
+    # ---- the first look
+
+    def sized(self, width, height):
+        self.browser.call("Emulation.setDeviceMetricsOverride", width=width, height=height, deviceScaleFactor=1, mobile=False)
+        self.addCleanup(self.browser.call, "Emulation.setDeviceMetricsOverride", width=browser.WIDTH, height=browser.HEIGHT, deviceScaleFactor=1, mobile=False)
+
+    def bottom(self, selector):
+        return self.ask(f"document.querySelector({selector!r}).getBoundingClientRect().bottom")
+
+    def noted(self, count):
+        """The board with so many notes, a flood and many findings."""
+        shown = pages.many(self.shown, 400)
+        notes = [f"file {k}.gbr has macros and was flattened: commands are those of the flattened file, which --keep keeps" for k in range(count)]
+        return shown._replace(seen=shown.seen._replace(notes=notes, flood="397 of 400 test points lie beside the copper. " * 20))
+
+    def test_first_look(self):
+        """Verdict, what is to be seen to first and the first finding stand on a small screen, however many notes there are; these are folded."""
+        self.sized(1280, 720)
+        for theme in ("light", "dark"):
+            self.browser.prefer(theme)
+            for count in (0, 1, 60):
+                self.open(page.page_html(self.noted(count)))
+                places = [self.bottom(it) for it in (".verdict", ".told", ".notes summary", "#seek", "#findings li[id]")]
+                self.assertEqual(places, sorted(places))
+                self.assertTrue(0 < places[0] and places[-1] <= 720, places)
+                words = "How it was judged" + {0: "", 1: ", and 1 note", 60: ", and 60 notes"}[count]
+                self.assertEqual((self.text_of(".notes summary"), self.ask("document.querySelector('.notes').open")), (words, False))
+                self.assertEqual((len(self.all(".notes .advice")), "The report was audited" in self.text_of(".notes .facts")), (count, True))
+
+    def test_a_narrow_window(self):
+        """Nothing is wider than the window, and the picture stands above the words."""
+        self.sized(400, 800)
+        self.open(page.page_html(self.noted(3)))
+        self.assertLessEqual(self.ask("document.documentElement.scrollWidth"), 400)
+        self.assertLess(self.bottom("#board"), self.ask("document.querySelector('.verdict').getBoundingClientRect().top") + 1)
+
+    def test_printed_notes(self):
+        """On paper notes are open, and folded again behind it."""
+        self.open(page.page_html(self.noted(3)))
+        told = [self.ask(f"dispatchEvent(new Event('{name}')), document.querySelector('.notes').open") for name in ("beforeprint", "afterprint")]
+        self.assertEqual(told, [True, False])
+
     # ---- search, and many findings
 
     def seek(self, text):
@@ -283,6 +326,16 @@ class InABrowser(common.Case):
             self.browser.key("n")
             self.assertEqual(self.current(), wanted, "the walk goes through what was found")
         self.assertEqual(self.seek("")[1], IDS)
+        self.assertEqual(self.all("#found li"), [])
+        self.seek("no such thing")
+        self.assertEqual(self.all("#found li"), ["Nothing here is called no such thing."])
+
+    def test_search_of_names_that_are_cut(self):
+        """A whole name finds the net that has its front, where the netlist cut it."""
+        long = "ABCDEFGHIJKLMN"
+        self.open(page.page_html(pages.shown_of({**BOARD, "n.ipc": netlist(record(long, "J1.1", 0, 0, "00"), record("VCC", "U1.8", 10, 0, "00"))})))
+        self.assertEqual([self.seek(text)[0] for text in (long.lower(), long.lower() + "opq", "abcdefghijklm", "abcdefghijklmx")], [["#net-0"]] * 3 + [[]])
+
 
     def test_many_findings(self):
         # More than stand open: the further ones are in folds, which a link, the walk and the search open.

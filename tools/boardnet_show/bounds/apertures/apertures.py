@@ -1,6 +1,7 @@
 """Apertures of a copper file as what both sides write for them: passed on, or as pieces within the shape and pieces round it."""
 from fractions import Fraction as Q
 from math import cos, pi, sin
+from typing import Dict, List, Optional, Sequence, Tuple, Union
 
 from boardnet_show.bounds.primitives.insets import eighth_chain, eighth_radius
 from boardnet_show.bounds.primitives.real_polygons import convex_bounds
@@ -9,6 +10,7 @@ from boardnet_show.bounds.primitives.slots import slot_draws
 from boardnet_show.formats.gerber_machine import MOST_WIDE
 from boardnet_show.geometry.arcs import Arc, arc_chain, chain_bounds, draw_bounds, leaves
 from boardnet_show.geometry.exact import Refused, exact
+from boardnet_show.geometry.pieces import Corners, Piece, Spot
 from boardnet_show.geometry.segments import cross
 
 from .macros import figures, rectangle, regular, rows, without
@@ -52,7 +54,10 @@ class Unbounded:
         self.why = why
 
 
-def of(name, values, scale, macros):
+Aperture = Union[Shape, Pen, Unbounded]
+
+
+def of(name: str, values: Sequence[Q], scale: int, macros: Dict[str, List[str]]) -> Optional[Aperture]:
     """The aperture of a definition; None where it is left to `check`."""
     if name == "P":
         return polygon(values, scale)
@@ -69,15 +74,15 @@ def of(name, values, scale, macros):
     return standard(name, lengths[:sizes], lengths[sizes] if len(values) > sizes else Q(0))
 
 
-def even_down(length):
+def even_down(length: Q) -> int:
     return 2 * (length / 2).__floor__()
 
 
-def even_up(length):
+def even_up(length: Q) -> int:
     return 2 * (length / 2).__ceil__()
 
 
-def even_sizes(name, lengths):
+def even_sizes(name: str, lengths: Sequence[Q]) -> Tuple[List[int], List[int], bool]:
     """Sizes of a shape within and round one, and whether `between` takes these: of an obround whose longer side alone is odd the other is
     2 less and more, so that the ends of its middle line are no further off than the radii are. Where that leaves nothing, or is too wide, it
     is as it was."""
@@ -91,7 +96,7 @@ def even_sizes(name, lengths):
     return low, high, is_read
 
 
-def standard(name, lengths, hole):
+def standard(name: str, lengths: Sequence[Q], hole: Q) -> Aperture:
     """A circle, rectangle or obround of lengths in u, fractions, with a round hole or none."""
     if min(lengths) < 0 or hole < 0:
         raise Refused("a size under 0")
@@ -109,7 +114,7 @@ def standard(name, lengths, hole):
     return Pen(name, lengths[0] / 2 if name == CIRCLE else None, (low, high), is_read)
 
 
-def solid(name, sizes):
+def solid(name: str, sizes: Sequence[int]) -> List[Piece]:
     """The whole shape."""
     if min(sizes) <= 0:
         return []
@@ -130,24 +135,24 @@ def obround(w, h):
     return ends + ([("convex", rectangle(*((-x, -r, x, r) if x else (-r, -y, r, y))))] if x or y else []) if r else []
 
 
-def is_ring(d, hole):
+def is_ring(d: Q, hole: Q) -> bool:
     """Whether a circle has a round hole as `between` reads it: a draw once round it has whole places."""
     return d % 2 == hole % 2 == (d + hole) % 4 == 0 < hole < d <= MOST_WIDE
 
 
-def ring_shape(d, hole):
+def ring_shape(d: int, hole: int) -> Shape:
     """A circle with a round hole by a draw once round it."""
     spot = ((d + hole) // 4, 0)
     both = draw_bounds((0, 0), spot, spot, Q(d - hole, 4))[1]
     return Shape(*both, None if both[0] else "a shape with a hole", rows=[tuple(map(len, both))])
 
 
-def is_frame(w, h, hole):
+def is_frame(w: Q, h: Q, hole: Q) -> bool:
     """Whether a rectangle has a round hole as `between` reads it."""
     return w % 2 == h % 2 == hole % 2 == 0 < hole < min(w, h) and hole <= MOST_WIDE
 
 
-def frame_shape(w, h, hole):
+def frame_shape(w: int, h: int, hole: int) -> Shape:
     """A rectangle with a round hole: above a region with a cut-in, below an area with a cut; the smaller one keeps off its border."""
     x, y, r = w // 2, h // 2, hole // 2
     around = rounded_contour(((r, 0), ((0, 0), (r, 0), False), (x, 0), (x, y), (-x, y), (-x, -y), (x, -y), (x, 0), (r, 0)), False, True)
@@ -174,7 +179,7 @@ def clear_frame(x, y, r):
     return [(x - 1, 1), (x - 1, y - 1), (1 - x, y - 1), (1 - x, 1 - y), (x - 1, 1 - y), (x - 1, -1), (edge, -1), *around[::-1], (edge, 1)]
 
 
-def is_pierced(lengths, hole):
+def is_pierced(lengths: Sequence[Q], hole: Q) -> bool:
     """Whether a shape has a round hole as `between` reads it where that is no draw and no region: all sizes are whole."""
     return all(v.denominator == 1 for v in (*lengths, hole)) and 0 < hole < min(lengths) and hole <= MOST_WIDE
 
@@ -220,7 +225,7 @@ def holed(name, sizes, hole):
     return [("area", [(-x, -y), (x, -y), (x, 0)] + arc.outer[::-1] + [(x, 0), (x, y), (-x, y)])]
 
 
-def polygon(values, scale):
+def polygon(values: Sequence[Q], scale: int) -> Aperture:
     """A regular polygon: diameter, corners, rotation, hole."""
     if not 2 <= len(values) <= 4 or values[1] not in range(3, 13) or min(values[:1] + values[3:]) < 0:
         raise Refused("polygon" if len(values) < 5 else "hole that is not round")
@@ -233,7 +238,7 @@ def polygon(values, scale):
     return Shape(lower, upper, None if lower else "a polygon", len(lower) < 2 > len(upper))
 
 
-def macro(name, body, values, scale):
+def macro(name: str, body: Sequence[str], values: Sequence[Q], scale: int) -> Aperture:
     found = list(figures(body, values, scale))
     lower, upper, lost = without(found)
     return Shape(lower, upper, f"{lost} of the primitives of macro {name}" if lost else None, rows=rows(found))
@@ -241,7 +246,7 @@ def macro(name, body, values, scale):
 
 # ---- draws with pens
 
-def swept(piece, a, b):
+def swept(piece: Piece, a: Spot, b: Spot) -> List[Piece]:
     """What a convex piece covers along a line: the hull of the piece at both ends, or for a round one the hull of its middle line
     with draws round it."""
     moved = lambda spots: [(x + p, y + q) for p, q in (a, b) for x, y in spots]
@@ -253,7 +258,7 @@ def swept(piece, a, b):
     return [("area", spots)] + [("capsule", p, q, radius) for p, q in zip(spots, spots[1:] + spots[:1])]
 
 
-def hull(spots):
+def hull(spots: Corners) -> List[Spot]:
     """The corners of the least convex area round some places, counterclockwise; of places in one line its ends."""
     spots, halves = sorted(set(spots)), []
     for order in (spots, spots[::-1]):

@@ -1,13 +1,15 @@
 """Apertures that are mirrored, then turned, then sized about their origin: pieces within and pieces round the changed shape."""
 from fractions import Fraction as Q
 from functools import lru_cache
-from typing import NamedTuple
+from typing import Any, List, NamedTuple, Optional, Sequence
 
+from boardnet_show.bounds.polarity.dark_and_clear import Object
 from boardnet_show.bounds.primitives.real_polygons import polygon_bounds
 from boardnet_show.geometry.exact import cos_sin, exact, minus, times, turned, whole_near
+from boardnet_show.geometry.pieces import Piece
 from boardnet_show.geometry.segments import cross, edges
 
-from .apertures import Pen, Shape
+from .apertures import Block, Pen, Shape
 
 MIRRORS = {"N": (False, False), "X": (True, False), "Y": (False, True), "XY": (True, True)}
 
@@ -19,7 +21,7 @@ class Change(NamedTuple):
     turn: Q = Q(0)
     size: Q = Q(1)
 
-    def changed_by(self, word, value):
+    def changed_by(self, word: str, value: Any) -> "Optional[Change]":
         """With what one word says, None where it says nothing that is known."""
         if word == "LM":
             return self._replace(mirror=MIRRORS[value]) if value in MIRRORS else None
@@ -27,28 +29,28 @@ class Change(NamedTuple):
             return None
         return self._replace(turn=value % 360) if word == "LR" else self._replace(size=value)
 
-    def alters(self, made):
+    def alters(self, made: Any) -> bool:
         """Whether a flash of it looks otherwise. A circle is the same, however it is turned."""
         return self.size != 1 if isinstance(made, Pen) and made.radius is not None else self != Change()
 
-    def is_square(self):
+    def is_square(self) -> bool:
         """Whether whole places stay whole."""
         return self.size == 1 and self.turn % 90 == 0
 
-    def shape(self, made):
+    def shape(self, made: Any) -> Shape:
         """The changed shape. What is cut into parts loses what joins them, and maybe some of them."""
         lower, upper = ([it for piece in pieces for it in changed(self, frozen(piece), side)] for side, pieces in enumerate(made.both))
         lost = self.lost(made.both[0], len(lower))
         told = [*([made.lost] if made.lost else []), *([f"{lost} a changed shape"] if lost else [])]
         return Shape(lower, upper, " and ".join(told) or None, made.is_pen)
 
-    def lost(self, before, left):
+    def lost(self, before: Sequence[Piece], left: int) -> Optional[str]:
         """What is lost of pieces of which so many are left; None for nothing. Areas that abut where they are cut do so no more."""
         if left < len(before):
             return f"{len(before) - left} of the {len(before)} parts of" if left else "all of"
         return f"the join of the {left} parts of" if not self.is_square() and abut(before) else None
 
-    def objects(self, block):
+    def objects(self, block: Block) -> List[Object]:
         """The objects of a block, changed."""
         if self == Change():
             return block.objects
@@ -56,7 +58,7 @@ class Change(NamedTuple):
         return [it._replace(both=tuple(changed_by(pieces, side) for side, pieces in enumerate(it.both)), areas=None) for it in block.objects]
 
 
-def abut(pieces):
+def abut(pieces: Sequence[Piece]) -> bool:
     """Whether a level or upright edge of an area lies along one of another that is on its other side."""
     lines = {}
     for k, piece in enumerate(pieces):
@@ -76,12 +78,12 @@ def abut(pieces):
     return False
 
 
-def frozen(piece):
+def frozen(piece: Piece) -> Any:
     return ("area", tuple(piece[1])) if piece[0] == "area" else piece
 
 
 @lru_cache(4096)
-def changed(change, piece, side):
+def changed(change: Change, piece: Any, side: int) -> List[Piece]:
     """Pieces within a changed piece, or round it."""
     turn = cos_sin(change.turn)
 

@@ -1,6 +1,7 @@
 """Aperture macros: expressions over fractions, primitives as real shapes, and their bounds."""
 import re
 from fractions import Fraction as Q
+from typing import Any, List, Optional, Sequence, Tuple
 
 from boardnet_show.bounds.polarity.dark_and_clear import Object, whole
 from boardnet_show.bounds.primitives.real_polygons import convex_bounds, disc_bounds, polygon_bounds, whole_corners
@@ -10,13 +11,14 @@ from boardnet_show.bounds.primitives.turned_figures import placed, placed_disc, 
 from boardnet_show.bounds.primitives.turned_outlines import outline_bounds, placed_outline
 from boardnet_show.formats.macro_expressions import Expression, compact
 from boardnet_show.geometry.exact import Refused, cos_sin, exact, minus, plus, root, times, turned
+from boardnet_show.geometry.pieces import Both, Figure, Point
 
 
-def rectangle(left, low, right, high):
+def rectangle(left: Q, low: Q, right: Q, high: Q) -> List[Point]:
     return [(exact(x), exact(y)) for x, y in ((left, low), (right, low), (right, high), (left, high))]
 
 
-def vector_line(w, x1, y1, x2, y2):
+def vector_line(w: Q, x1: Q, y1: Q, x2: Q, y2: Q) -> List[Point]:
     """Flat ends; the half width to each side along the normal, which is an interval where the length is no fraction."""
     dx, dy = x2 - x1, y2 - y1
     low, high = root(dx * dx + dy * dy)
@@ -28,7 +30,7 @@ def vector_line(w, x1, y1, x2, y2):
     return [at(x1, y1, -1), at(x2, y2, -1), at(x2, y2, 1), at(x1, y1, 1)]
 
 
-def line(w, x1, y1, x2, y2, degrees):
+def line(w: Q, x1: Q, y1: Q, x2: Q, y2: Q, degrees: Q) -> Figure:
     """Along an axis a rectangle from its lower left corner on, where the width is even or it is turned; else by its ends, where these are whole, and
     so is the width."""
     if (x1 == x2 or y1 == y2) and (w % 2 != 1 or degrees % 90):
@@ -42,7 +44,7 @@ def line(w, x1, y1, x2, y2, degrees):
     return "convex", [turned(p, turn) for p in vector_line(w, x1, y1, x2, y2)]
 
 
-def regular(n, x, y, d, first=0):
+def regular(n: int, x: Q, y: Q, d: Q, first: Q = 0) -> List[Point]:
     """Corners on the circle of diameter d about (x, y), the first one at the angle `first`."""
     out = []
     for k in range(n):
@@ -54,7 +56,7 @@ def regular(n, x, y, d, first=0):
 COUNTS = {1: (5, 6), 2: (8,), 20: (8,), 21: (7,), 22: (7,), 5: (7,)}
 
 
-def figures(body, parameters, scale):
+def figures(body: Sequence[str], parameters: Sequence[Q], scale: int) -> List[Figure]:
     """The real shapes of a macro's body, turned, in u: ("disc", centre, radius), ("line", start, end, width), ("turned", corners, angle)
     ("turned disc", centre, radius, angle), ("turned outline", corners, angle) and ("regular", corners, diameter in parts, angle, centre, turn) of whole numbers,
     ("convex", corners) or ("outline", corners)."""
@@ -111,7 +113,7 @@ def primitive(values, scale):
     return corners and exposed(values[1], begun(placed("convex", corners, degrees)))
 
 
-def begun(figure):
+def begun(figure: Figure) -> Figure:
     """A rectangle of an odd size as `between` takes it, from its lower left corner on; any other figure as it is."""
     if figure[0] != "convex" or not is_fine(figure[1]):
         return figure
@@ -119,7 +121,7 @@ def begun(figure):
     return "convex", figure[1][first:] + figure[1][:first]
 
 
-def exposed(on, figure):
+def exposed(on: Q, figure: Figure) -> Figure:
     return figure if on else ("off", figure)
 
 
@@ -138,13 +140,13 @@ def thermal(values, scale):
     return ("cut", [("disc", at, outer / 2)] + [("off", figure) for figure in off])
 
 
-def sized(length):
+def sized(length: Q) -> bool:
     if length < 0:
         raise Refused("macro: a size under 0")
     return length > 0
 
 
-def outline(values, u):
+def outline(values: Sequence[Q], u: Sequence[Q]) -> Optional[List[Point]]:
     n = values[2] if len(values) > 2 else 0
     if n != int(n) or not 3 <= n <= 5000 or len(values) != 2 * n + 6:
         raise Refused("macro: outline with another count of corners")
@@ -154,7 +156,7 @@ def outline(values, u):
     return [(exact(x), exact(y)) for x, y in spots[:-1]] if sum(p != q for p, q in zip(spots, spots[1:])) > 2 else None
 
 
-def bounds_of(figure):
+def bounds_of(figure: Figure) -> Both:
     if figure[0] == "cut":
         return without(figure[1])[:2]
     return BOUNDS[figure[0]](*figure[1:])
@@ -179,7 +181,7 @@ def rows(figures_in_order):
     return None if None in told else told
 
 
-def row(kind, *parts):
+def row(kind: str, *parts: Any) -> Optional[Tuple[int, int]]:
     if kind == "turned outline":
         return tuple(map(len, outline_bounds(*parts)))
     is_read = kind in ("line", "turned", "turned disc", "regular") or kind == "convex" and is_fine(parts[0]) \
@@ -189,7 +191,7 @@ def row(kind, *parts):
     return (1, 1) if kind in ("convex", "outline") and whole_corners(parts[0])[1] else None
 
 
-def is_fine(corners):
+def is_fine(corners: Sequence[Point]) -> bool:
     """Whether they are those of a rectangle along the axes with a whole middle and whole sizes, one of them odd."""
     sides = [sorted({end for corner in corners for end in corner[k]}) for k in range(2)]
     if len(corners) != 4 or any(len(ends) != 2 for ends in sides):

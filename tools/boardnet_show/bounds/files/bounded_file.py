@@ -1,12 +1,16 @@
 """A copper file outside the profile between two files within it: LOWER lies in the real copper, UPPER holds it.
 
-What is not replaced is passed on as it stands, in millimetres of seven decimals, so that `check` judges it as before. A file with
-clear polarity, or with contours that are too long, is walked twice: once for its objects, and once to write those that stay.
+What is not replaced is passed on as it stands, in millimetres of seven decimals, so that `check` judges it as before.
+A file with clear polarity, or with contours that are too long, is walked twice: once for its objects, and once to
+write those that stay.
 """
+from typing import Any, Callable, Collection, List, Optional, Sequence, Tuple
+
 from boardnet_show.bounds.polarity import dark_and_clear, negative
 from boardnet_show.formats.gerber_lexer import Run, Word
 from boardnet_show.formats.gerber_machine import MOST_OBJECTS, MOVE, STRAIGHT, Code, Machine, Unread
 from boardnet_show.geometry.exact import Refused
+from boardnet_show.geometry.pieces import Both, Piece, Spot
 
 from .bound_writer import Side
 from .definitions import Definitions
@@ -14,10 +18,14 @@ from .operations import Operations
 from .regions import Regions
 from .settings import Settings
 
+# Contours that an object is of, where they are known; and the pieces that stand for taken objects on both sides, each
+# with its command.
+Areas = Optional[List[List[Spot]]]
+Written = Sequence[Sequence[Tuple[Piece, int]]]
 IN_REGIONS = ("TF", "TA", "TO", "TD", "AD", "AM", "LPD")      # what may stand there and says nothing of the contours
 
 
-def of_text(text, outline=None, is_coarse=False):
+def of_text(text: str, outline: Optional[Callable[[], Any]] = None, is_coarse: bool = False) -> "Copper":
     """Both sides of a copper file; `outline` gives the board's outline where it is asked for."""
     copper = Copper(text, is_coarse=is_coarse)
     if (copper.long or copper.clears or copper.negative) and not copper.cuts:
@@ -41,15 +49,17 @@ def of_text(text, outline=None, is_coarse=False):
 class Copper(Settings, Definitions, Operations, Regions, Machine):
     """Walks a copper file and writes both sides.
 
-    `lost` says what LOWER leaves out, `replaced` counts what is written otherwise. `objects` is all that the file makes, in order,
-    where it is asked for; `negative` is the command that says that they are none. Dark objects of commands of `taken` are not written, but at the end what is `written`.
-    `unlike` are the commands that make other copper on both sides, but for pens off the grid. `is_bent` says that `between` reads regions
-    with arcs, if areas within them are as it wants: they are where `is_coarse` asks for that.
+    `lost` says what LOWER leaves out, `replaced` counts what is written otherwise. `objects` is all that the file
+    makes, in order, where it is asked for; `negative` is the command that says that they are none. Dark objects of
+    commands of `taken` are not written, but at the end what is `written`. `unlike` are the commands that make other
+    copper on both sides, but for pens off the grid. `is_bent` says that `between` reads regions with arcs, if areas
+    within them are as it wants: they are where `is_coarse` asks for that.
     """
 
     RUNS = True
 
-    def __init__(self, text, taken=(), written=((), ()), cuts=False, is_coarse=False):
+    def __init__(self, text: str, taken: Collection[int] = (), written: Written = ((), ()), cuts: bool = False,
+                 is_coarse: bool = False) -> None:
         Machine.__init__(self)
         for part in (Settings, Definitions, Operations, Regions):
             part.__init__(self)
@@ -72,31 +82,31 @@ class Copper(Settings, Definitions, Operations, Regions, Machine):
 
     # ---- objects in their order
 
-    def is_noted(self):
+    def is_noted(self) -> bool:
         """Whether the file's objects are asked for: where some are cut, and in blocks."""
         return self.cuts or bool(self.blocks)
 
-    def stays(self, lower, upper, areas=None, joins=True):
+    def stays(self, lower: List[Piece], upper: List[Piece], areas: Areas = None, joins: bool = True) -> bool:
         """Notes what a command makes. Whether it is written as it comes."""
         self.stays_as(self.is_dark, (lower, upper), areas, joins)
         return self.is_dark and self.number not in self.taken
 
-    def stays_as(self, dark, both, areas=None, joins=True):
+    def stays_as(self, dark: bool, both: Both, areas: Areas = None, joins: bool = True) -> None:
         if self.is_noted():
             self.objects.append(dark_and_clear.Object(dark, both, self.number, areas, joins))
             if len(self.objects) > MOST_OBJECTS:
                 raise Refused("too many objects")
 
-    def passes(self):
+    def passes(self) -> bool:
         """Whether an object is known already and is not written: by a second walk."""
         return any(self.written) and not self.blocks and (not self.is_dark or self.number in self.taken)
 
-    def lose(self, what):
+    def lose(self, what: str) -> None:
         """What LOWER leaves out, or what a clear object does not take away from UPPER."""
         what = what if self.is_dark else f"what {what} takes away, which the upper bound has,"
         self.lost.append(f"{what} at command {self.number}")
 
-    def polarity(self, is_dark):
+    def polarity(self, is_dark: bool) -> None:
         if self.contours is not None and not (self.is_dark and is_dark):
             raise Refused("a word in a region")
         self.is_dark = is_dark
@@ -104,12 +114,12 @@ class Copper(Settings, Definitions, Operations, Regions, Machine):
         if is_dark:
             self.both("%LPD*%")
 
-    def steps(self, text):
+    def steps(self, text: str) -> None:
         """Ends a block, whose objects give way to their copies, and may open one."""
         self.repeat(text)
         (self.both if self.copies or text == "SR" else self.pass_on)(f"%{self.step_word(text)}*%")
 
-    def repeat(self, text):
+    def repeat(self, text: str) -> None:
         if self.copies:
             first, columns, rows, x, y = self.copies
             # Copies of nothing are none, however many: `check` takes them.
@@ -120,7 +130,7 @@ class Copper(Settings, Definitions, Operations, Regions, Machine):
         step = self.step(text)
         self.copies = (len(self.objects), *step) if step else None
 
-    def finish(self):
+    def finish(self) -> None:
         """What is written instead of the taken objects, after all blocks and labels."""
         is_open = self.copies
         self.repeat("SR")
@@ -134,34 +144,34 @@ class Copper(Settings, Definitions, Operations, Regions, Machine):
 
     # ---- words in pairs of percent signs
 
-    def setting(self, text):
+    def setting(self, text: str) -> None:
         if "\n" in text or "\r" in text:
             raise Refused("a line break in a word")
         if self.contours is not None and not text.startswith(IN_REGIONS):
             raise Refused("a word in a region")
         super().setting(text)
 
-    def attribute(self, text):
+    def attribute(self, text: str) -> None:
         self.other_setting(text)
 
-    def other_setting(self, text):
+    def other_setting(self, text: str) -> None:
         if negative.is_negative(text) and not self.blocks:
             self.set_negative()
         else:
             self.pass_on(f"%{text}*%")
 
-    def set_negative(self):
+    def set_negative(self) -> None:
         if self.negative:
             raise Refused("a file that is negative twice")
         self.negative = self.number
 
     # ---- other words
 
-    def comment(self, text):
+    def comment(self, text: bytes) -> None:
         if negative.is_negative(text.decode("latin-1")):
             self.set_negative()
 
-    def run(self, run: Run):
+    def run(self, run: Run) -> None:
         """The words of a region by their numbers."""
         if self.mode is not STRAIGHT or not isinstance(self.unit, int):
             super().run(run)
@@ -178,12 +188,12 @@ class Copper(Settings, Definitions, Operations, Regions, Machine):
         self.contours += [spots[a:b] for a, b in zip(moves, [*moves[1:], len(spots)])]
         self.spot, self.code, self.number = spots[-1], Code(run.codes[-1]), self.number + len(spots) - 1
 
-    def plain(self, word: Word):
+    def plain(self, word: Word) -> None:
         if b"\n" in word.text or b"\r" in word.text:
             raise Refused("a line break in a word")
         super().plain(word)
 
-    def end(self):
+    def end(self) -> None:
         if self.contours is not None:
             raise Refused("a region without an end")
         if self.blocks:
@@ -191,7 +201,7 @@ class Copper(Settings, Definitions, Operations, Regions, Machine):
         self.finish()
         self.other(self.word.text)
 
-    def other(self, text):
+    def other(self, text: bytes) -> None:
         if text:
             if self.contours is not None:
                 raise Refused("a word in a region")

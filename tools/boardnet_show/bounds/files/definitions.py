@@ -1,5 +1,6 @@
 """What a copper file defines: macros, apertures, blocks; and how apertures are mirrored, turned and sized."""
 import re
+from typing import Union
 
 from boardnet_show.bounds.apertures import apertures
 from boardnet_show.bounds.apertures.changes import Change
@@ -9,25 +10,28 @@ from boardnet_show.geometry.exact import Refused, decimal
 
 from .bound_writer import OWN, Side
 
+# What an aperture is kept as; None where it is left to `check`.
+Made = Union[apertures.Pen, apertures.Shape, apertures.Block, apertures.Unbounded, None]
+
 
 class Definitions:
-    """An aperture that has no bounds is refused where it is used. `files` are the sides that are written, `sides` those that take
-    what is drawn: within a block others, which nobody reads."""
+    """An aperture that has no bounds is refused where it is used. `files` are the sides that are written, `sides`
+    those that take what is drawn: within a block others, which nobody reads."""
 
-    def __init__(self):
+    def __init__(self) -> None:
         self.macros, self.apertures = {}, {}
         self.change, self.blocks, self.used, self.at = Change(), [], set(), {}
 
-    def begin_macro(self, name):
+    def begin_macro(self, name: str) -> None:
         if self.macros.setdefault(name, []):
             raise Refused("a macro defined twice")
 
-    def macro_word(self, text):
+    def macro_word(self, text: str) -> None:
         self.macros[self.macro].append(text)
 
     # ---- apertures
 
-    def define(self, word):
+    def define(self, word: str) -> None:
         its = definition_of(word)
         if not its:
             self.pass_on(f"%{word}*%")
@@ -45,7 +49,7 @@ class Definitions:
             made = apertures.Unbounded(str(why))
         self.keep(number, made, name, word)
 
-    def renew(self, number):
+    def renew(self, number: int) -> None:
         """An aperture may be defined again where nothing used it: then the first definition is none."""
         if number in self.apertures:
             if number in self.used:
@@ -54,7 +58,7 @@ class Definitions:
             for side, at in zip(self.files, self.at.pop(number, ())):
                 side.lines[at] = "G04*"
 
-    def keep(self, number, made, name, word):
+    def keep(self, number: int, made: Made, name: str, word: str) -> None:
         self.apertures[number] = made
         if made is None or isinstance(made, apertures.Pen):
             sizes = made.sizes if made else (None, None)
@@ -64,12 +68,12 @@ class Definitions:
             for side, even in zip(self.files, sizes):
                 side.word(f"%ADD{number}{name},{'X'.join(decimal_millimetres(v) for v in even)}*%" if made else f"%{word}*%", self.number)
 
-    def select(self, number, text):
+    def select(self, number: int, text: bytes) -> None:
         self.chosen = number
         if self.apertures.get(number) is None:
             self.pass_on(f"{text.decode()}*")
 
-    def aperture(self):
+    def aperture(self) -> Made:
         """The chosen one; None where it is left to `check`."""
         made = self.apertures.get(self.chosen)
         if isinstance(made, apertures.Unbounded):
@@ -79,12 +83,12 @@ class Definitions:
         self.used.add(self.chosen)
         return made
 
-    def changed(self, made):
+    def changed(self, made: apertures.Pen) -> apertures.Shape:
         return self.change.shape(made) if self.change.alters(made) else made
 
     # ---- how they are changed
 
-    def transform(self, word):
+    def transform(self, word: str) -> None:
         """LM, LR and LS; another form is left to `check`."""
         value = word[2:] if word.startswith("LM") else decimal(word[2:])
         change = self.change.changed_by(word[:2], value)
@@ -96,7 +100,7 @@ class Definitions:
 
     # ---- blocks
 
-    def block(self, word):
+    def block(self, word: str) -> None:
         match = re.fullmatch(r"ABD(\d{1,9})", word)
         if match and LEAST_APERTURE <= int(match[1]) < OWN:
             self.blocks.append((int(match[1]), self.objects, self.sides, self.lost, self.copies))

@@ -1,5 +1,7 @@
 """Operations of a copper file: draws, arcs, flashes."""
+from fractions import Fraction as Q
 from functools import lru_cache
+from typing import List, Optional, Tuple
 
 from boardnet_show.bounds.apertures import apertures
 from boardnet_show.bounds.polarity.dark_and_clear import moved
@@ -7,47 +9,49 @@ from boardnet_show.formats.gerber_machine import ANTICLOCKWISE, DRAW, FLASH, MOV
 from boardnet_show.geometry.arcs import chain_bounds, draw_bounds
 from boardnet_show.geometry.capsule_polygons import ring
 from boardnet_show.geometry.exact import Refused
+from boardnet_show.geometry.pieces import Both, Spot
 from boardnet_show.geometry.segments import cross, dot
 
 
 @lru_cache(1000)
-def arc_beside(centre, end, radius):
+def arc_beside(centre: Optional[Spot], end: Spot, radius: Q) -> Tuple[Optional[List[Spot]], Both]:
     """The chain and the draws below and above of a draw from the origin: many arcs of a board are alike."""
     ends = ((0, 0), end)
     return draw_bounds(centre, *ends, radius) if centre is not None else (None, chain_bounds(ends, 0, radius))
 
 
 class Operations:
-    """`rows` are the commands whose copper is outside the profile and that `between` reads: for each of their own pieces how many those
-    of both sides are."""
+    """`rows` are the commands whose copper is outside the profile and that `between` reads: for each of their own
+    pieces how many those of both sides are."""
 
-    def __init__(self):
+    def __init__(self) -> None:
         self.rows, self.frames = {}, 0
 
-    def stands(self, pieces):
+    def stands(self, pieces: Optional[List[Tuple[int, int]]]) -> None:
         """Notes these pieces, each as those that stand for it on both sides, of a command that is written otherwise."""
         self.replaced += 1
         if pieces is not None:
             self.rows[self.number] = pieces
 
-    def implied(self):
+    def implied(self) -> None:
         if self.code is None or self.code is MOVE:
             raise Refused("coordinates without an operation")
         self.replaced += self.code is FLASH
 
-    def mismatched(self, is_arc):
+    def mismatched(self, is_arc: bool) -> None:
         raise Refused("an arc without I and J" if is_arc else "I or J without an arc")
 
-    def move(self):
+    def move(self) -> None:
         for side in self.sides:
             side.operate(self.spot, MOVE, self.number)
 
     # ---- arcs
 
-    def centre(self, start, offset):
-        """The centre of an arc; None where a single quadrant has both ends at one place, so no arc. Where rounding makes a quarter
-        circle more than a right angle, as much as a unit of the file at both ends is allowed. Of several centres the ends of the one
-        that is meant are the least unlike; of those as unlike it is the one at most a right angle."""
+    def centre(self, start: Spot, offset: Spot) -> Optional[Spot]:
+        """The centre of an arc; None where a single quadrant has both ends at one place, so no arc. Where rounding
+        makes a quarter circle more than a right angle, as much as a unit of the file at both ends is allowed. Of
+        several centres the ends of the one that is meant are the least unlike; of those as unlike it is the one at
+        most a right angle."""
         if not self.quadrants:
             raise Refused("an arc before G74 or G75")
         if self.quadrants == "G75":
@@ -66,10 +70,10 @@ class Operations:
             raise Refused("an arc without one centre")
         return found[0][2]
 
-    def arc(self, start, centre):
+    def arc(self, start: Spot, centre: bytes) -> None:
         self.arc_about(start, self.centre(start, self.offset(centre)))
 
-    def arc_about(self, start, centre):
+    def arc_about(self, start: Spot, centre: Optional[Spot]) -> None:
         anticlockwise = self.mode == ANTICLOCKWISE
         radius = self.pen_radius()
         if self.passes():
@@ -83,7 +87,7 @@ class Operations:
         areas = ring(centre, [(x + first[0], y + first[1]) for x, y in chain], radius.__ceil__()) if self.cuts and chain else None
         self.write_pieces(both, areas, first)
 
-    def pen_radius(self):
+    def pen_radius(self) -> Q:
         made = self.aperture()
         if made is None:
             raise Refused("no aperture")
@@ -94,17 +98,17 @@ class Operations:
 
     # ---- draws and flashes
 
-    def write_pieces(self, both, areas=None, by=(0, 0)):
+    def write_pieces(self, both: Both, areas: Optional[List[List[Spot]]] = None, by: Spot = (0, 0)) -> None:
         """Pieces about a place."""
         if self.stays(*([moved(piece, *by) for piece in pieces] for pieces in both) if self.is_noted() else ((), ()), areas):
             self.write_both(both, by)
 
-    def write_both(self, both, by):
+    def write_both(self, both: Both, by: Spot) -> None:
         self.unlike.add(self.number)
         for side, pieces in zip(self.sides, both):
             side.pieces(pieces, by, self.number)
 
-    def draw(self, start):
+    def draw(self, start: Spot) -> None:
         made = self.aperture()
         if made is not None and (not isinstance(made, apertures.Pen) or made.radius is None or self.change.alters(made)):
             self.replaced += 1
@@ -122,7 +126,7 @@ class Operations:
                 side.move(start, self.number)
                 side.operate(self.spot, DRAW, self.number)
 
-    def flash(self):
+    def flash(self) -> None:
         made = self.aperture()
         if isinstance(made, apertures.Block):
             self.flash_block(made)
@@ -143,8 +147,9 @@ class Operations:
                 side.select(self.chosen, self.number)
             side.operate(self.spot, FLASH, self.number)
 
-    def framed(self, shape):
-        """The shape; of a rectangle with a hole the one that `between` takes, where it is asked, and of further ones the plain one."""
+    def framed(self, shape: apertures.Shape) -> apertures.Shape:
+        """The shape; of a rectangle with a hole the one that `between` takes, where it is asked, and of further ones
+        the plain one."""
         if not shape.smaller:
             return shape
         self.frames += 1
@@ -153,7 +158,7 @@ class Operations:
         self.is_bent = True
         return shape.smaller if self.is_coarse else shape
 
-    def flash_block(self, block):
+    def flash_block(self, block: apertures.Block) -> None:
         """Its objects, each changed and moved; a clear flash turns dark into clear and clear into dark."""
         self.replaced += 1
         self.lost += [f"{what} of the block at command {self.number}" for what in block.lost]

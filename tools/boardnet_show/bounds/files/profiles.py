@@ -1,8 +1,8 @@
-"""Where the board is, for negative files: within the centre lines and contours of the files beside it that say by their own `TF.FileFunction`
-that they are its profile. Its inside is by even and odd of what closes.
+"""Where the board is, for negative files: within the centre lines and contours of the files beside it that say by
+their own `TF.FileFunction` that they are its profile. Its inside is by even and odd of what closes.
 """
 from collections import defaultdict
-from typing import NamedTuple
+from typing import Dict, Iterable, Iterator, List, NamedTuple, Optional, Sequence, Tuple, Union
 
 from boardnet_show.base.wording import millimetres
 from boardnet_show.bounds.polarity.dark_and_clear import Object, box
@@ -10,21 +10,28 @@ from boardnet_show.bounds.polarity.negative import around
 from boardnet_show.bounds.primitives.rounded_contours import Walked, rounded_contour
 from boardnet_show.formats.gerber_machine import ANTICLOCKWISE
 from boardnet_show.geometry.exact import Refused
+from boardnet_show.geometry.pieces import Box, Piece, Spot
 from boardnet_show.geometry.segments import Segments, edges, odd_inside, segments_within
 
 from .bounded_file import Copper
 
+# A part of an outline: start, end, centre or None, whether anticlockwise; and a contour of such parts.
+Line = Tuple[Spot, Spot, Optional[Spot], bool]
+Contour = Sequence[Union[Spot, Tuple[Optional[Spot], Spot, bool]]]
+
 
 class Outline(NamedTuple):
-    """Dark and clear objects that are the board's inside, the outermost first; why they are not known, and the box of all that is."""
+    """Dark and clear objects that are the board's inside, the outermost first; why they are not known, and the box of
+    all that is."""
 
-    objects: list
+    objects: List[Object]
     why: str
-    box: tuple
+    box: Box
 
 
-def outline_of(profiles, texts):
-    """The outline by the texts of profile files; where it is not known, the box of these and of all copper files' objects."""
+def outline_of(profiles: Sequence[str], texts: Sequence[str]) -> Outline:
+    """The outline by the texts of profile files; where it is not known, the box of these and of all copper files'
+    objects."""
     lines, why = [], "" if profiles else "no file of the folder is its profile"
     try:
         for text in profiles:
@@ -45,32 +52,33 @@ def outline_of(profiles, texts):
 
 
 class Profile(Copper):
-    """Walks a profile file: `lines` are the parts of its centre lines and contours, each (start, end, centre or None, anticlockwise)."""
+    """Walks a profile file: `lines` are the parts of its centre lines and contours, each (start, end, centre or None,
+    anticlockwise)."""
 
-    def __init__(self, text):
+    def __init__(self, text: str) -> None:
         self.lines = []
         super().__init__(text, cuts=True)
         if self.clears or self.negative:
             raise Refused("clear polarity")
 
-    def draw(self, start):
+    def draw(self, start: Spot) -> None:
         self.lines.append((start, self.spot, None, True))
 
-    def arc_about(self, start, centre):
+    def arc_about(self, start: Spot, centre: Optional[Spot]) -> None:
         if centre is not None:
             self.lines.append((start, self.spot, centre, self.mode == ANTICLOCKWISE))
 
-    def flash(self):
+    def flash(self) -> None:
         raise Refused("a flash")
 
-    def repeat(self, text):
+    def repeat(self, text: str) -> None:
         if text != "SR":
             raise Refused("step and repeat")
 
-    def block(self, word):
+    def block(self, word: str) -> None:
         raise Refused("a block")
 
-    def end_region(self, contours):
+    def end_region(self, contours: List[Contour]) -> None:
         for spot, *parts in contours:
             for part in parts:
                 centre, end, anticlockwise = part if len(part) == 3 else (None, part, True)
@@ -78,8 +86,9 @@ class Profile(Copper):
                 spot = end
 
 
-def loops_of(lines):
-    """Closed contours of lines and arcs that meet end to end, each line once; refused where one does not close, or more than two meet."""
+def loops_of(lines: Iterable[Line]) -> List[Contour]:
+    """Closed contours of lines and arcs that meet end to end, each line once; refused where one does not close, or
+    more than two meet."""
     once, ends = {}, defaultdict(list)
     for start, end, centre, anticlockwise in lines:
         if centre is None:
@@ -98,7 +107,7 @@ def loops_of(lines):
     return [(start, (centre, end, True)) for start, end, centre in once if start == end] + [*rings(once, ends)]
 
 
-def rings(once, ends):
+def rings(once: Iterable[Line], ends: Dict[Spot, List[Line]]) -> Iterator[Contour]:
     """The contours of lines of which two meet at each end."""
     left = {line for line in once if line[0] != line[1]}
     for line in once:
@@ -117,7 +126,7 @@ def rings(once, ends):
 class Loop:
     """A closed contour: areas within it and round it, its corners by chords, and how far these are off at most."""
 
-    def __init__(self, contour):
+    def __init__(self, contour: Contour) -> None:
         walked, made = Walked(contour), rounded_contour(contour, True, False)
         if not walked.is_told or len(walked.spots) < 4:
             raise Refused("an arc or a loop of nearly no length")
@@ -125,11 +134,11 @@ class Loop:
         self.both = [("area", [*corners]) for corners in made.inner], [("area", [*made.outer]), *made.wide]
         self.box = around(map(box, self.both[1]))
 
-    def size(self):
+    def size(self) -> int:
         return (self.box[2] - self.box[0]) * (self.box[3] - self.box[1])
 
 
-def need_apart(loops):
+def need_apart(loops: Sequence[Loop]) -> None:
     """Refused where two contours come as near as their chords are off."""
     its = [(k, edge) for k, loop in enumerate(loops) for edge in edges(loop.corners)]
     grid, most = Segments([edge for _, edge in its]), 2 * max((loop.off for loop in loops), default=0) + 1
@@ -140,18 +149,20 @@ def need_apart(loops):
                 raise Refused(f"two of its contours meet near {', '.join(map(millimetres, a))} mm")
 
 
-def need_no_copper(inside, texts):
-    """Refused where copper that files draw lies wholly in what would be cut out: so would be read what has both sides of an outline's line, or
-    the outline of a panel round that of the board, and no plane would be left on the board."""
+def need_no_copper(inside: Sequence[Tuple[Loop, Object]], texts: Sequence[str]) -> None:
+    """Refused where copper that files draw lies wholly in what would be cut out: so would be read what has both sides
+    of an outline's line, or the outline of a panel round that of the board, and no plane would be left on the board."""
     is_cut = not all(it.dark for _, it in inside)
     for copper in [Copper(text, cuts=True) for text in texts] if is_cut else ():
         for it in copper.objects if not copper.negative else ():
             if it.dark and it.both[1] and not innermost(inside, it.both[1]):
-                raise Refused(f"copper lies in what it cuts out, near {', '.join(map(millimetres, box(it.both[1][0])[:2]))} mm")
+                raise Refused(f"copper lies in what it cuts out, near "
+                              f"{', '.join(map(millimetres, box(it.both[1][0])[:2]))} mm")
 
 
-def innermost(inside, pieces):
-    """Whether the smallest contour that has pieces in its box and the first place of one within is dark; they may lie in none."""
+def innermost(inside: Sequence[Tuple[Loop, Object]], pieces: Sequence[Piece]) -> bool:
+    """Whether the smallest contour that has pieces in its box and the first place of one within is dark; they may lie
+    in none."""
     left, low, right, high = around(map(box, pieces))
     first = pieces[0][1][0] if pieces[0][0] == "area" else pieces[0][1]
     for loop, it in reversed(inside):
@@ -160,12 +171,13 @@ def innermost(inside, pieces):
     return True
 
 
-def sorted_by_size(loops):
+def sorted_by_size(loops: Iterable[Loop]) -> List[Loop]:
     return sorted(loops, key=Loop.size, reverse=True)
 
 
-def nested(loops):
-    """The contours in order of their size, which is dark within an even number of others, and clear within an odd one."""
+def nested(loops: Sequence[Loop]) -> Iterator[Object]:
+    """The contours in order of their size, which is dark within an even number of others, and clear within an odd
+    one."""
     for loop in sorted_by_size(loops):
         outer = sum(odd_inside(other.corners, loop.corners[0]) for other in loops if other is not loop)
         yield Object(outer % 2 == 0, loop.both, 0)

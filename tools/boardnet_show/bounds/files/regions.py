@@ -1,49 +1,55 @@
 """Regions of a copper file: each contour with arcs as what stands for it on both sides."""
-from typing import NamedTuple
+from typing import List, NamedTuple, Optional, Sequence, Tuple, Union
 
 from boardnet_show.bounds.primitives.rounded_contours import rounded_contour
 from boardnet_show.formats.gerber_machine import ANTICLOCKWISE, MOST_EDGES
 from boardnet_show.geometry.exact import Refused
+from boardnet_show.geometry.pieces import Spot
 
 from .bound_writer import edges_of
 
+# A contour as it is walked: its first spot, then spots and arcs.
+Arc = Tuple[Optional[Spot], Spot, bool]
+Walked = List[Union[Spot, Arc]]
+
 
 class Regions:
-    """A contour is its first spot, then spots and arcs (centre, end, counterclockwise); the centre of an arc of no length is None."""
+    """A contour is its first spot, then spots and arcs (centre, end, counterclockwise); the centre of an arc of no
+    length is None."""
 
-    def __init__(self):
+    def __init__(self) -> None:
         self.contours, self.long = None, set()
 
-    def region_begins(self):
+    def region_begins(self) -> None:
         if self.contours is not None:
             self.other(self.word.text)
         self.in_region, self.contours = True, []
 
-    def flash_in_region(self, start):
+    def flash_in_region(self, start: Spot) -> None:
         raise Refused("a flash in a region")
 
-    def contour(self, start):
+    def contour(self, start: Spot) -> None:
         self.contours.append([self.spot])
 
-    def edge(self, start):
+    def edge(self, start: Spot) -> None:
         if not self.contours:
             self.contours.append([start])
         self.contours[-1].append(self.spot)
 
-    def arc_edge(self, start, centre):
+    def arc_edge(self, start: Spot, centre: bytes) -> None:
         centre = self.centre(start, self.offset(centre))
         if not self.contours:
             self.contours.append([start])
         self.contours[-1].append((centre, self.spot, self.mode == ANTICLOCKWISE))
 
-    def region_ends(self):
+    def region_ends(self) -> None:
         if self.contours is None:
             self.other(self.word.text)
             return
         contours, self.contours, self.in_region = self.contours, None, False
         self.end_region(contours)
 
-    def end_region(self, contours):
+    def end_region(self, contours: List[Walked]) -> None:
         if self.passes():
             return
         made = [self.bounded(contour) for contour in contours if len(contour) > 1]
@@ -63,7 +69,7 @@ class Regions:
         for side in self.sides:
             side.at = None
 
-    def write_region(self, made):
+    def write_region(self, made: Sequence["Contour"]) -> None:
         """Contours, and behind them the draws that widen the upper ones."""
         runs, grown = [[run for it in made for run in it.runs[k]] for k in (0, 1)], [piece for it in made for piece in it.grown]
         edges = {key: edges_of(run) for key, run in {id(run): run for its in runs for run in its}.items()}      # most are of both sides
@@ -78,7 +84,7 @@ class Regions:
             side.at = None
         self.sides[1].pieces(grown, (0, 0), self.number)
 
-    def bounded(self, contour):
+    def bounded(self, contour: Walked) -> "Contour":
         """What stands for a contour on both sides."""
         if all(len(part) == 2 for part in contour):
             return Contour(([contour], [contour]), [], False, (1, 1))
@@ -99,8 +105,8 @@ class Regions:
 
 
 class Contour(NamedTuple):
-    """What stands for a contour: runs of places on both sides, draws that widen the upper ones, whether it has arcs, and where `between`
-    reads it how many pieces both sides have."""
+    """What stands for a contour: runs of places on both sides, draws that widen the upper ones, whether it has arcs,
+    and where `between` reads it how many pieces both sides have."""
 
     runs: tuple
     grown: list

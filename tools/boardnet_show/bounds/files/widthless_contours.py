@@ -1,10 +1,10 @@
-"""Copper without width: contours that enclose nothing, or run along a line twice with no copper on its sides. It joins what it touches, by our
-own rule; here is only told where it is, with straight contours of some thousand edges."""
+"""Copper without width: contours that enclose nothing, or run along a line twice with no copper on its sides. It
+joins what it touches, by our own rule; here is only told where it is, with straight contours of some thousand edges."""
 from collections import Counter
 
 from boardnet_show.base.wording import millimetres
-from boardnet_show.formats.gerber_lexer import line_numbers
-from boardnet_show.formats.gerber_machine import MOVE, STRAIGHT, Machine
+from boardnet_show.formats.gerber_lexer import Run, line_numbers
+from boardnet_show.formats.gerber_machine import MOVE, STRAIGHT, Machine, Spot
 from boardnet_show.geometry.exact import Refused
 from boardnet_show.geometry.segments import Bands, dot, edges, place_beside, point_within
 
@@ -15,50 +15,50 @@ FEW_EDGES = 200         # of one whose edges are parted where corners lie on the
 
 
 class Contours(Machine):
-    """Goes through the words of a copper file; `found` are the straight contours of its regions, with the numbers of the words that close them.
-    What is drawn along arcs has a None among its corners."""
+    """Goes through the words of a copper file; `found` are the straight contours of its regions, with the numbers of
+    the words that close them. What is drawn along arcs has a None among its corners."""
 
     RUNS = True
 
-    def __init__(self, data):
+    def __init__(self, data: bytes) -> None:
         super().__init__()
         self.found, self.corners = [], []
         self.scale = self.decimals = None
         self.read(data)
 
-    def format_word(self, text):
+    def format_word(self, text: str) -> None:
         if text[-1:].isdigit():
             self.decimals = 10 ** int(text[-1])
 
-    def unit_word(self, scale, text):
+    def unit_word(self, scale: int, text: str) -> None:
         self.scale = scale
 
-    def region_begins(self):
+    def region_begins(self) -> None:
         super().region_begins()
         self.close()
 
-    def region_ends(self):
+    def region_ends(self) -> None:
         super().region_ends()
         self.close()
 
-    def run(self, run):
+    def run(self, run: Run) -> None:
         for self.number, (x, y, code) in enumerate(zip(run.xs, run.ys, run.codes), self.number):
             start, self.spot = self.spot, (x, y)
             (self.contour if code == MOVE else self.edge)(start)
 
-    def contour(self, start):
+    def contour(self, start: Spot) -> None:
         self.close()
 
-    def edge(self, start):
+    def edge(self, start: Spot) -> None:
         self.corners += [] if self.corners else [start]
         self.corners += [self.spot] if self.mode is STRAIGHT else [self.spot, None]
 
-    def close(self):
+    def close(self) -> None:
         if self.corners and None not in self.corners and len(self.corners) <= MOST_CORNERS:
             self.found.append((self.number, self.corners))
         self.corners = []
 
-    def spot_in_u(self, spot):
+    def spot_in_u(self, spot: Spot) -> Spot:
         """In u."""
         return tuple(round(v * self.scale / self.decimals) for v in spot)
 
@@ -82,14 +82,15 @@ def hair(corners):
     return None
 
 
-def told_of(data):
+def told_of(data: bytes) -> str:
     """What is told of copper without width in a copper file's bytes, or nothing."""
     walk = Contours(data)
     return widthless(walk, data) if walk.scale and walk.decimals else ""
 
 
 def place_of(data, found):
-    """Where the first of some contours is told, by the number of the word that closes it and a spot in u, and how many more there are."""
+    """Where the first of some contours is told, by the number of the word that closes it and a spot in u, and how
+    many more there are."""
     number, spot = found[0]
     more = f", and of {len(found) - 1} more contours" if len(found) > 1 else ""
     return f"{', '.join(map(millimetres, spot))} mm, command {number}, line {line_numbers(data, [number])[number]}{more}"

@@ -6,10 +6,11 @@ either is allowed; where pieces of one object abut is no border. Dark objects th
 """
 from collections import Counter
 from math import gcd
-from typing import NamedTuple
+from typing import Any, Collection, List, NamedTuple, Sequence, Set, Tuple
 
 from boardnet_show.geometry.box_grid import meet
 from boardnet_show.geometry.capsule_polygons import polygon
+from boardnet_show.geometry.pieces import Both, Box, Piece, Spot
 from boardnet_show.geometry.segments import box_of_line, edges
 
 from .sweep import Sweep
@@ -27,19 +28,19 @@ class Object(NamedTuple):
     areas: tuple = None
     joins: bool = True
 
-    def moved(self, x, y):
+    def moved(self, x: int, y: int) -> Any:
         both = tuple([moved(piece, x, y) for piece in pieces] for pieces in self.both)
         return self._replace(both=both, areas=self.areas and tuple([[(p + x, q + y) for p, q in it] for it in its] for its in self.areas))
 
 
-def moved(piece, x, y):
+def moved(piece: Piece, x: int, y: int) -> Any:
     if piece[0] == "area":
         return "area", [(p + x, q + y) for p, q in piece[1]]
     kind, a, b, radius = piece
     return kind, (a[0] + x, a[1] + y), (b[0] + x, b[1] + y), radius
 
 
-def box(piece):
+def box(piece: Piece) -> Box:
     if piece[0] == "area":
         xs, ys = zip(*piece[1])
         return min(xs), min(ys), max(xs), max(ys)
@@ -60,18 +61,18 @@ class Boxes:
             for cell in self.around(entry[0]):
                 self.cells.setdefault(cell, []).append(entry)
 
-    def around(self, b):
+    def around(self, b: Box) -> List[Spot]:
         cut = lambda v: max(0, min(CELLS, (v - self.low) // self.step))
         return [(i, j) for i in range(cut(b[0]), cut(b[2]) + 1) for j in range(cut(b[1]), cut(b[3]) + 1)]
 
-    def after(self, n, b):
+    def after(self, n: int, b: Box) -> Set[int]:
         """The clear objects after the n-th object whose pieces may meet a box."""
         if not self.boxes:
             return set()
         return {m for cell in self.around(b) for c, m in self.cells.get(cell, ()) if m > n and meet(b, c)}
 
 
-def chosen(objects, also):
+def chosen(objects: Sequence[Object], also: Collection[int]) -> Tuple[Set[int], Set[int]]:
     """The tags of dark objects that are cut, and the places in the order of all that the sweep is over."""
     boxes, tags, swept = Boxes(objects), set(also), set()
     for n, it in enumerate(objects):
@@ -99,7 +100,7 @@ def cut(objects, also=()):
     return (tags, *out)
 
 
-def whole(objects):
+def whole(objects: Sequence[Object]) -> Both:
     """All that is left, on both sides: pieces."""
     tags, *both = cut(objects)
     return tuple([piece for it in objects if it.dark and it.tag not in tags for piece in it.both[side]] + [piece for piece, _ in both[side]] for side in (0, 1))

@@ -2,8 +2,11 @@
 
 Where the outline is not known (`profiles`), LOWER has nothing of such a file, and UPPER all that may be.
 """
+from typing import Iterable, List, Sequence
+
 from boardnet_show.formats import gerber_attributes
 from boardnet_show.geometry.exact import Refused
+from boardnet_show.geometry.pieces import Box, Spot
 
 from .dark_and_clear import Object, box, whole
 
@@ -11,13 +14,13 @@ FRAME = 10 ** 7     # how far beyond the outline and all objects what lies outsi
 MOST_WIDE = 9 * 10 ** 9     # u that what may be is wide
 
 
-def is_negative(word):
+def is_negative(word: str) -> bool:
     """Whether a word says that a file is one, also in a comment, or with blanks and small letters."""
     said = gerber_attributes.said_by(word.encode("latin-1")).decode("latin-1") if word.startswith("G04") else word
     return word == "IPNEG" or said.startswith("TF.FilePolarity,") and said.split(",")[1].strip().lower() == "negative"
 
 
-def around(boxes):
+def around(boxes: Iterable[Box]) -> Box:
     boxes = list(boxes)
     if not boxes:
         raise Refused("a negative file of a board without an outline")
@@ -25,7 +28,7 @@ def around(boxes):
     return (*map(min, zip(*lows)), *map(max, zip(*highs)))
 
 
-def rectangle(b, by):
+def rectangle(b: Box, by: int) -> List[Spot]:
     """The corners of a box, moved outwards."""
     left, low, right, high = b[0] - by, b[1] - by, b[2] + by, b[3] + by
     return [(left, low), (right, low), (right, high), (left, high)]
@@ -41,13 +44,13 @@ def exchanged(objects, outline, tag):
     return inside + turned + (outside(inside, seen, tag) if any(it.dark for it in turned) else [])
 
 
-def beyond(seen):
+def beyond(seen: Box) -> List[Spot]:
     """A rectangle round all that is seen, as much wider as a board may be."""
     wide = max(seen[2] - seen[0], seen[3] - seen[1])
     return rectangle(seen, max(min(wide, (MOST_WIDE - wide) // 2), FRAME))
 
 
-def outside(inside, seen, tag):
+def outside(inside: Sequence[Object], seen: Box, tag: int) -> List[Object]:
     """What is clear beyond the board's inside."""
     all_but = [Object(True, ([("area", rectangle(seen, FRAME))],) * 2, tag)] + [it._replace(dark=not it.dark) for it in inside]
     return [Object(False, whole(all_but), tag)]

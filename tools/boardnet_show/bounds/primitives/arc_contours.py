@@ -1,9 +1,12 @@
 """A contour with arcs, and contours of whole corners that lie in it or hold it."""
+from typing import Any, List, Optional, Sequence
+
 from boardnet_show.geometry.arcs import Arc
+from boardnet_show.geometry.pieces import Corners, Spot
 from boardnet_show.geometry.segments import Bands, Segments, edges, place_beside, segments_within
 
 
-def contour_bound(parts, upper):
+def contour_bound(parts: Sequence[Any], upper: bool) -> Optional[List[Spot]]:
     """parts: spots (the next corner of a straight edge) and Arcs, in order, closed. Corners of an area within the real one, or
     round it, or None. Between a chain and its arc lies a sliver; what the two areas do not share lies in slivers. Where no other
     edge enters a sliver and one place of it is outside the new area, or for UPPER in it, all of it is."""
@@ -25,7 +28,7 @@ def contour_bound(parts, upper):
     return corners
 
 
-def meets_sliver(arc, chain, span, segments, grid):
+def meets_sliver(arc: Arc, chain: Corners, span: Any, segments: Sequence[Any], grid: Segments) -> bool:
     """Does an edge that is not of the chain come into a sliver? Edges from an end of the arc are tried by direction."""
     most, (first, count), n = arc.leaves(chain), span, len(segments)
     own = {(first + i) % n for i in range(count)}
@@ -42,7 +45,7 @@ def meets_sliver(arc, chain, span, segments, grid):
     return False
 
 
-def enters(arc, chain, far, at_first):
+def enters(arc: Arc, chain: Corners, far: Spot, at_first: bool) -> bool:
     """Does the neighbour's edge, from the shared end to far, go into the cone that holds the first sliver? Inside the disc that
     is the one between chord and tangent, outside the one between the chain and a chord as long as two tangents."""
     at_start = at_first == arc.ccw

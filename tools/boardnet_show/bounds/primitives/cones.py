@@ -2,6 +2,9 @@
 
 An angle is a whole number of parts of a degree, below a right angle. A turn is told by a whole way: it is by twice its angle.
 """
+from typing import Sequence, Tuple
+
+from boardnet_show.geometry.pieces import Spot
 
 DEGREE = 10 ** 7        # in parts
 RIGHT_ANGLE = 90 * DEGREE
@@ -11,7 +14,7 @@ RADIUS = 10 ** 8 - 1    # of ways, about
 COSINE, SINE = (2, 12, 30, 56, 90, 132), (6, 20, 42, 72, 110, 156)
 
 
-def series(square, parts):
+def series(square: int, parts: Sequence[int]) -> int:
     """1 - t / k (1 - t / l (1 - ..)) for the parts k, l, .., by the square t of half the angle."""
     total = ONE
     for part in reversed(parts):
@@ -19,14 +22,14 @@ def series(square, parts):
     return total
 
 
-def way_of(angle):
+def way_of(angle: int) -> Tuple[int, ...]:
     """Less than 1 off RADIUS times the cosine and the sine of half the angle."""
     half = angle * PI // (360 * DEGREE)
     square = half * half // ONE
     return tuple((part * RADIUS + ONE // 2) // ONE for part in (series(square, COSINE), half * series(square, SINE) // ONE))
 
 
-def cone_of(angle):
+def cone_of(angle: int) -> Tuple[Spot, Spot]:
     """The ways of two turns, one by less than the angle and one by more."""
     x, y = way_of(angle)
     return (x + 1, y - 1), (x - 1, y + 1)

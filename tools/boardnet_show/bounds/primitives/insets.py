@@ -5,15 +5,17 @@ How the corners were found does not matter: they are tested.
 """
 from itertools import groupby
 from math import isqrt
+from typing import Any, List, Optional, Sequence
 
 from boardnet_show.geometry.arcs import rounded
+from boardnet_show.geometry.pieces import Corners, Spot
 from boardnet_show.geometry.segments import Segments, cross, dot, edges, odd_inside, segments_within
 
 FURTHER = (2, 4, 16)    # u that edges are moved more than they have to be
 ROUNDS = 16             # of leaving edges out
 
 
-def eighth_turns(centre, first):
+def eighth_turns(centre: Spot, first: Spot) -> List[Spot]:
     """A place turned by one eighth turn to seven, counterclockwise, to the nearest u."""
     (x, y), (u, v) = centre, (first[0] - centre[0], first[1] - centre[1])
     a, b = tuple((70 * part + 49) // 99 for part in (u - v, u + v)), (-v, u)
@@ -22,7 +24,7 @@ def eighth_turns(centre, first):
         a, b = b, (-a[1], a[0])
 
 
-def eighth_chain(centre, first, last):
+def eighth_chain(centre: Spot, first: Spot, last: Spot) -> List[Spot]:
     """A chain of eighth turns from one place to another, counterclockwise, and of what is left; equal places are a whole turn apart."""
     chain = [first]
     for spot in eighth_turns(centre, first):
@@ -32,12 +34,12 @@ def eighth_chain(centre, first, last):
     return [*chain, last]
 
 
-def eighth_radius(centre, start):
+def eighth_radius(centre: Spot, start: Spot) -> int:
     """More than an eighth turn leaves its chord by."""
     return (abs(start[0] - centre[0]) + abs(start[1] - centre[1])) // 12 + 8
 
 
-def inset(corners, keeps):
+def inset(corners: Corners, keeps: Sequence[int]) -> Optional[List[Spot]]:
     """Corners of an area within an outline, over `keeps` from each edge; None where none is found."""
     order = 1 if sum(cross((0, 0), a, b) for a, b in edges(corners)) > 0 else -1
     grid = Segments(edges(corners), max(keeps) // 2 + 1)
@@ -64,7 +66,7 @@ def moved(corners, keeps, k, order, more):
     return [*before, line(keep, (length >> 20) - sum(steps)), *behind]
 
 
-def met(lines):
+def met(lines: List[Any]) -> Optional[List[Spot]]:
     """The corners where neighbours of a ring of lines meet. Of lines in a row that would run the other way then the shortest is left out."""
     for _ in range(ROUNDS):
         tips = [tip(lines[k - 1], lines[k]) for k in range(len(lines))]
@@ -79,7 +81,7 @@ def met(lines):
     return None
 
 
-def tip(one, two):
+def tip(one: Any, two: Any) -> Optional[Spot]:
     """Where two lines meet."""
     (a, v, left, _), (b, w, right, _) = one, two
     turn, left = v[0] * w[1] - v[1] * w[0], left + (((b[0] - a[0]) * v[1] - (b[1] - a[1]) * v[0]) << 20)
@@ -90,7 +92,7 @@ def tip(one, two):
     return tuple([v + rounded(part if turn > 0 else -part, abs(turn) << 20) for v, part in zip(b, to)])
 
 
-def is_clear(found, grid, keeps):
+def is_clear(found: Corners, grid: Segments, keeps: Sequence[int]) -> bool:
     """Whether all edges are further from each segment than it is kept off."""
     most = max(keeps) + 1
     return not any(segments_within(a, b, *grid.segments[k], keeps[k]) for a, b in edges(found) for k in grid.near(a, b, most))

@@ -5,12 +5,14 @@ corners), all whole; an area is filled by even-odd. Corners are places of interv
 """
 from fractions import Fraction as Q
 from math import isqrt
+from typing import List, Sequence
 
 from boardnet_show.geometry.exact import cross_least, pointed, whole_near
+from boardnet_show.geometry.pieces import Both, Corners, Piece, Point, Spot
 from boardnet_show.geometry.segments import Segments, cross, dot, edges, odd_inside, segments_within
 
 
-def disc_bounds(centre, radius):
+def disc_bounds(centre: Point, radius: Q) -> Both:
     spot, off = whole_near(centre)
     low, high = (radius - off).__floor__(), (radius + off).__ceil__()
     return [("capsule", spot, spot, low)] if low > 0 else [], [("capsule", spot, spot, high)] if radius > 0 else []
@@ -21,7 +23,7 @@ def whole_corners(points):
     return [spot for spot, _ in near], all(off == 0 for _, off in near)
 
 
-def mitred(spots, by):
+def mitred(spots: Corners, by: Q) -> List[Spot]:
     """Corners moved to the left of their edges by about `by` (to the inside where they run counterclockwise). A guess."""
     return [(round(x), round(y)) for x, y in mitres(spots, by)]
 
@@ -42,7 +44,7 @@ def unit_normal(a, b):
     return Q(-dy << 20, length), Q(dx << 20, length)
 
 
-def convex_bounds(points):
+def convex_bounds(points: Sequence[Point]) -> Both:
     """For a convex polygon of points of intervals, counterclockwise. LOWER: all corners lie left of all real edges. UPPER:
     its corners lie in convex order, and all real corners lie left of all its edges."""
     spots, whole = whole_corners(points)
@@ -68,12 +70,12 @@ def convex_upper(points, spots):
     return polygon_upper(spots)
 
 
-def polygon_upper(spots):
+def polygon_upper(spots: Corners) -> List[Piece]:
     """Each real corner lies within 1 u of its spot, so what lies in one area alone is within 1 u of an edge of the spots."""
     return [("area", spots)] + [("capsule", a, b, 1) for a, b in edges(spots)]
 
 
-def polygon_bounds(points):
+def polygon_bounds(points: Sequence[Point]) -> Both:
     """For any outline. LOWER wants a simple outline: a closed chain that meets no real edge, with one corner inside."""
     spots, whole = whole_corners(points)
     if whole:
@@ -85,7 +87,7 @@ def polygon_bounds(points):
     return polygon_lower(spots), polygon_upper(spots)
 
 
-def once_round(spots):
+def once_round(spots: Corners) -> List[Spot]:
     """Each corner lies left of each edge, by more than the real corners can be off."""
     return all(w in (a, b) or cross(a, b, w) > 4 * (abs(b[0] - a[0]) + abs(b[1] - a[1]) + abs(w[0] - a[0]) + abs(w[1] - a[1]) + 4)
                for a, b in edges(spots) for w in spots)
@@ -103,7 +105,7 @@ def polygon_lower(spots):
     return []
 
 
-def simple(spots, grid, apart=2):
+def simple(spots: Corners, grid: Segments, apart: int = 2) -> bool:
     """No two edges that are not neighbours come within 2 u or another distance, and no edge folds back on its neighbour."""
     n = len(spots)
     for i, (a, b) in enumerate(grid.segments):

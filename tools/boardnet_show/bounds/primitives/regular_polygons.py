@@ -4,7 +4,9 @@ How the corners were found does not matter: they are tested, at each turn of the
 """
 from fractions import Fraction as Q
 from functools import lru_cache, partial
+from typing import List, Optional, Tuple
 
+from boardnet_show.geometry.pieces import Both, Corners, Figure, Point, Spot
 from boardnet_show.geometry.segments import edges
 
 from .cones import DEGREE, RADIUS, RIGHT_ANGLE, cone_of, way_of
@@ -16,7 +18,7 @@ PARTS = 10_000                      # of a u, in which diameters are counted
 ORIGIN = (0, 0)
 
 
-def figure_of(n, centre, diameter, degrees):
+def figure_of(n: int, centre: Point, diameter: Q, degrees: Q) -> Optional[Figure]:
     """("regular", n, diameter in parts, angle, whole centre after the quarter turns, by what it is turned still) where `between` may read the polygon
     and takes bounds of it, else None."""
     angle, parts = degrees % 360 * DEGREE, diameter * PARTS
@@ -29,7 +31,7 @@ def figure_of(n, centre, diameter, degrees):
     return ("regular", *found) if regular_bounds(*found) else None
 
 
-def direction(n, angle, steps, spot):
+def direction(n: int, angle: int, steps: int, spot: Spot) -> Tuple[Spot, int]:
     """A spot about the middle after the right angles to a direction, half steps from corner to corner on; and what is left of that, rounded down."""
     quarters, rest = divmod(angle + steps * 2 * RIGHT_ANGLE // n, RIGHT_ANGLE)
     for _ in range(quarters % 4):
@@ -39,14 +41,14 @@ def direction(n, angle, steps, spot):
 
 # ---- the check
 
-def lies_round(n, diameter, angle, found):
+def lies_round(n: int, diameter: int, angle: int, found: Corners) -> bool:
     """All corners of the polygon are on the left of each edge, at each turn of their cones."""
     corners = [direction(n, angle, 2 * k, (-(-diameter // (2 * PARTS)), 0)) for k in range(n)]
     return goes_once(found) and all(w + u * p + v * q >= 0 for (p, q), rest in corners for heading in headings(*cone_of(rest))
                                     for b, c in edges(found) for w, u, v in (lean(b, c, heading),))
 
 
-def lies_within(n, diameter, angle, found):
+def lies_within(n: int, diameter: int, angle: int, found: Corners) -> bool:
     """What was found, turned back, is on the left of each edge of the polygon, at each turn of their cones."""
     inner = diameter * (way_of(4 * RIGHT_ANGLE // n)[0] - 1) // (2 * PARTS * RADIUS)
     for k in range(n):
@@ -57,7 +59,7 @@ def lies_within(n, diameter, angle, found):
     return True
 
 
-def shifted(spots, by):
+def shifted(spots: Corners, by: Spot) -> List[Spot]:
     return [(p - by[0], q - by[1]) for p, q in spots]
 
 
@@ -69,7 +71,7 @@ def at_corners(check, far, *parts):
 
 # ---- the contours
 
-def near(n, diameter, angle, by):
+def near(n: int, diameter: int, angle: int, by: int) -> List[Spot]:
     """Whole corners near those of the polygon, so much further out."""
     for k in range(n):
         (p, q), rest = direction(n, angle, 2 * k, (Q(diameter, 2 * PARTS) + by, 0))
@@ -77,7 +79,7 @@ def near(n, diameter, angle, by):
         yield round((p * x - q * y) / whole), round((p * y + q * x) / whole)
 
 
-def regular_bounds(n, diameter, angle, centre=ORIGIN, turn=0):
+def regular_bounds(n: int, diameter: int, angle: int, centre: Spot = ORIGIN, turn: int = 0) -> Optional[Both]:
     """The pieces within and round the polygon about the centre, which is turned about the origin; None where there is none round it."""
     spot, far = (turned_spots([centre], turn)[0], radius_of([centre])) if turn else (centre, 0)
     found = bounds_about_0(n, diameter, angle, far) if not turn or stays_near(centre, *cone_of(turn), spot, far) else None
@@ -85,7 +87,7 @@ def regular_bounds(n, diameter, angle, centre=ORIGIN, turn=0):
 
 
 @lru_cache(4096)
-def bounds_about_0(n, diameter, angle, far):
+def bounds_about_0(n: int, diameter: int, angle: int, far: int) -> Optional[Both]:
     """So about each spot of a square round the origin."""
     further = lambda by: near(n, diameter, angle, by + (3 * far if by > 0 else -3 * far))
     return first_of(further, partial(at_corners, lies_within, far, n, diameter, angle), partial(at_corners, lies_round, far, n, diameter, angle))

@@ -5,13 +5,14 @@ chords' area and the real one do not share lies in them: so the area with these 
 them lies in it. Where all arcs are exact, contours within or round it that need no draws are tried first.
 """
 from functools import lru_cache
-from typing import NamedTuple
+from typing import Any, List, NamedTuple, Optional, Sequence
 
 from boardnet_show.bounds.polarity.sweep import Sweep
 from boardnet_show.formats.gerber_machine import MOST_WIDE
 from boardnet_show.geometry.arcs import Arc, arc_chain, distances, goes_once, is_loop, leaves, need_meant
 from boardnet_show.geometry.capsule_polygons import polygon
 from boardnet_show.geometry.exact import Refused
+from boardnet_show.geometry.pieces import Spot
 from boardnet_show.geometry.segments import cross, dot
 
 from .arc_contours import contour_bound
@@ -44,7 +45,7 @@ class Walked:
             else:
                 self.turn(*part)
 
-    def go(self, end):
+    def go(self, end: Spot) -> None:
         self.outline.append(end)
         if end != self.spots[-1]:
             self.parts.append(end)
@@ -52,7 +53,7 @@ class Walked:
             self.coarse.append(end)
             self.keeps.append(0)
 
-    def turn(self, centre, end, anticlockwise):
+    def turn(self, centre: Optional[Spot], end: Spot, anticlockwise: bool) -> None:
         start = self.spots[-1]
         first, last = (start, end) if anticlockwise else (end, start)
         need_meant(centre, first, last)
@@ -68,13 +69,13 @@ class Walked:
         self.is_kept = self.is_kept and self.is_told and leaves(centre, turns, *distances(centre, first, last)) <= self.keeps[-1]
         self.parts.append((centre, start, end, anticlockwise))
 
-    def bound(self, upper):
+    def bound(self, upper: bool) -> Optional[List[Spot]]:
         """The corners of an area within the contour, or round it, where its arcs are exact; None where none is found."""
         return contour_bound([Arc(*part) if len(part) == 4 else part for part in self.parts], upper) if self.is_exact else None
 
 
 @lru_cache(1000)
-def rounded_contour(contour, cuts, is_coarse):
+def rounded_contour(contour: Sequence[Any], cuts: bool, is_coarse: bool) -> Rounded:
     """What lies within and round a contour with arcs. `between` reads one of at least three parts whose arcs are told; it wants one area
     within that is clear of its edges, or none."""
     it = Walked(contour)

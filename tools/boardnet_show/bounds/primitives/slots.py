@@ -1,14 +1,16 @@
 """Draws within an obround that keep off a round hole in its middle."""
 from fractions import Fraction as Q
 from math import isqrt
+from typing import List
 
 from boardnet_show.geometry.arcs import draw_bounds
 from boardnet_show.geometry.exact import ceil_root
+from boardnet_show.geometry.pieces import Capsule
 
 STRIPS = 64     # at most, above the middle of the hole, and below
 
 
-def slot_draws(width, height, hole):
+def slot_draws(width: int, height: int, hole: Q) -> List[Capsule]:
     """Draws with round pens, of even sizes; none where the hole leaves no room. They go round the hole, along the border, and between both."""
     far, round_, clear = abs(width - height) // 2, min(width, height) // 2, -(-hole // 2) + 1
     pen = (round_ - clear) // 2
@@ -22,7 +24,7 @@ def slot_draws(width, height, hole):
     return found if width >= height else [("capsule", (-a[1], a[0]), (-b[1], b[0]), r) for _, a, b, r in found]
 
 
-def strips(far, round_, clear, pen):
+def strips(far: int, round_: int, clear: int, pen: int) -> List[Capsule]:
     """Level draws with one pen on both sides of a hole, as long as they fit."""
     found, most = [], min(STRIPS, -(-round_ // pen))
     for k in range(-most, most + 1):

@@ -4,9 +4,12 @@
 The corners are turned and rounded as that crate does. At each turn of the cone of the angle all are at most the draws' radius from where they come
 to, and so is each edge. What is kept off the draws is tested.
 """
+from fractions import Fraction as Q
 from functools import lru_cache
+from typing import List, Optional, Sequence, Tuple
 
 from boardnet_show.geometry.arcs import rounded
+from boardnet_show.geometry.pieces import Both, Corners, Figure, Point, Spot
 from boardnet_show.geometry.segments import Segments, edges
 
 from .cones import DEGREE, ONE, PI
@@ -20,19 +23,19 @@ DOUBLINGS = 20          # of a low way, till it is at half the angle
 SCALE = 3 * ONE * ONE // 10 ** 10       # squares of ways are divided by so much
 
 
-def placed_outline(corners, degrees):
+def placed_outline(corners: Sequence[Point], degrees: Q) -> Figure:
     """An outline about the origin of a macro, turned: as `placed` has it without corners that stand twice; where `slants` does not take it and
     it does not meet itself ("turned outline", whole corners, angle)."""
     found = placed("outline", once(corners), degrees)
     return found[0] == "outline" and outline_of(corners, degrees) or found
 
 
-def once(corners):
+def once(corners: Corners) -> List[Spot]:
     """Without those before their like."""
     return [p for p, q in edges(corners) if p != q]
 
 
-def outline_of(corners, degrees):
+def outline_of(corners: Sequence[Point], degrees: Q) -> Optional[Figure]:
     """Its corners after the whole quarter turns, and what is left; None where nothing is, or it meets itself."""
     found = turns_left(corners, degrees)
     around = found and once(found[0])
@@ -40,7 +43,7 @@ def outline_of(corners, degrees):
 
 
 @lru_cache(4096)
-def direction(angle):
+def direction(angle: int) -> Tuple[int, int, int]:
     """The cosine and the sine of the angle, about, times n, and n."""
     x, y = ONE, angle * PI // (360 * DEGREE << DOUBLINGS)
     for _ in range(DOUBLINGS):
@@ -48,19 +51,19 @@ def direction(angle):
     return max(0, x * x - y * y) // SCALE, 2 * x * y // SCALE, (x * x + y * y) // SCALE + 1
 
 
-def turned_spots(corners, angle):
+def turned_spots(corners: Corners, angle: int) -> List[Spot]:
     """The nearest whole spots to the turned corners."""
     x, y, n = direction(angle)
     return [(rounded(p * x - q * y, n), rounded(p * y + q * x, n)) for p, q in corners]
 
 
-def radius_of(corners):
+def radius_of(corners: Corners) -> int:
     """Spots and turned corners are at most so far apart."""
     return LEAST + max(abs(v) for p in corners for v in p) // STEP
 
 
 @lru_cache(4096)
-def outline_bounds(corners, angle):
+def outline_bounds(corners: Corners, angle: int) -> Both:
     """The pieces within and round an outline that is turned about the origin by less than a right angle."""
     spots, far = turned_spots(corners, angle), radius_of(corners)
     around = once(spots)

@@ -7,7 +7,7 @@ their order.
 import re
 from decimal import Decimal
 from fractions import Fraction
-from typing import Dict, List, NamedTuple, Optional, Tuple
+from typing import Dict, Iterator, List, NamedTuple, Optional, Set, Tuple
 
 from boardnet_show.formats.units import INCH, MM, decimal_millimetres
 
@@ -25,6 +25,9 @@ LENGTHS = ((b"MIL", INCH // 1000), (b"MICRON", MM // 1000), (b"MM", MM), (b"MILL
 DECIMAL = re.compile(rb"\+?(?:[0-9]+\.[0-9]*|\.[0-9]+)")
 STOP = b"M00"
 NAMES = {MM: b"METRIC", INCH: b"INCH"}
+# Words on plating, and the comment that holds on, which who asks for plating finds where it stands.
+PLATED = re.compile(rb"PLATED|PTH", re.I)
+TYPE = re.compile(rb";[ \t]*TYPE[ \t]*=", re.I)
 
 
 class Headed(NamedTuple):
@@ -101,33 +104,69 @@ def is_defined(record: Record) -> bool:
     return isinstance(record, Tool) and len(record.sizes()) == 1 and bool(DECIMAL.fullmatch(record.sizes()[0]))
 
 
+def before_each(its: List[Line]) -> Iterator[Tuple[Line, Record, List[Line]]]:
+    """Each line that is no comment, with the comments right before it."""
+    comments: List[Line] = []
+    for line in its:
+        if line.text.startswith(b";"):
+            comments.append(line)
+        elif line.text:
+            yield line, line.record(), comments
+            comments = []
+
+
+class Moved:
+    """Definitions of tools that go to the header, each with the comments right before it, which may say whether it is plated."""
+
+    def __init__(self, sizes: Dict[int, bytes]) -> None:
+        self.header: List[bytes] = []
+        self.sizes = sizes
+        self.comments: Set[int] = set()
+        self.is_twice = False
+
+    def define(self, number: int, size: bytes, comments: List[Line]) -> None:
+        """What comes again has the same size, and no comment says otherwise of it whether it is plated."""
+        if number in self.sizes:
+            self.is_twice |= self.sizes[number] != size
+            return
+        self.comments |= {line.number for line in comments}
+        self.header += [*(line.text for line in comments), b"T%dC%s" % (number, size)]
+        self.sizes[number] = size
+
+    def leaves(self, its: List[Line]) -> bool:
+        """Whether a tool has two sizes, or a comment that stays says of something whether it is plated, but for what
+        holds on."""
+        return self.is_twice or any(PLATED.search(line.text) and not TYPE.match(line.text)
+                                    for line in its if line.text.startswith(b";") and line.number not in self.comments)
+
+
 class Frame:
     """Writes the header of a file without `M48`."""
 
     def __init__(self, its: List[Line], unit: Optional[int]) -> None:
         self.its, self.unit = its, unit
         self.front = next((k for k, line in enumerate(its) if line.text and not line.text.startswith(b";")), len(its))
-        self.tools: List[Tuple[int, bytes]] = []
-        self.sized = commented(its)
+        self.moved = Moved({})
+        self.sized = commented(its[:self.front])
         self.changed: Dict[int, bytes] = {}
         self.first_pick = b""
         self.read()
 
     def read(self) -> None:
         ends = [line.number for line in self.its if line.text in HEADER_ENDS]
-        for line in self.its:
-            record = line.record()
+        for line, record, comments in before_each(self.its):
             if isinstance(record, Tool) and is_defined(record):
-                self.define(record.number, self.size(record.sizes()[0]))
+                size, its = self.size(record.sizes()[0]), [it for it in comments if it.number > self.front]
+                self.moved.define(record.number, size, its)
                 # Before the header's end a definition selects nothing.
                 is_picked = not any(end > line.number and not self.has_place(line.number, end) for end in ends)
                 self.changed[line.number] = b"T%d" % record.number if is_picked else b""
             elif line.text in HEADER_ENDS or isinstance(record, (Unit, Mode)) and record.unit == self.unit:
                 self.changed[line.number] = b""
-        if not self.tools:
+        if not self.moved.header:
             for it in self.sized:
-                self.define(it.number, it.size)
-            if self.tools and not any(isinstance(line.record(), Pick) for line in self.its):
+                self.moved.define(it.number, it.size, [])
+            if self.sized and not any(isinstance(line.record(), Pick) for line in self.its):
                 self.pick_by_stops()
 
     def has_place(self, first: int, last: int) -> bool:
@@ -135,10 +174,6 @@ class Frame:
 
     def size(self, text: bytes) -> bytes:
         return scaled(text, self.unit or MM)
-
-    def define(self, number: int, size: bytes) -> None:
-        if (number, size) not in self.tools:
-            self.tools.append((number, size))
 
     def pick_by_stops(self) -> None:
         """Each `M00` goes on to the next tool, where there are as many as tools and each makes as many holes as it
@@ -149,16 +184,16 @@ class Frame:
         if counts[-1] == 0 and len(counts) > 1:
             counts.pop()
         if counts != [it.quantity for it in self.sized]:
-            self.tools = []
+            self.moved = Moved({})
             return
         self.first_pick = b"T%d" % self.sized[0].number
         for stop, it in zip(stops, [*self.sized[1:], None]):
             self.changed[stop] = b"T%d" % it.number if it else b""
 
     def headed(self, raw: List[bytes]) -> Optional[Headed]:
-        if not self.tools or len(dict(self.tools)) < len(self.tools):
+        if not self.moved.header or self.moved.leaves(self.its[self.front:]):
             return None
-        header = [START, *([NAMES[MM]] if self.unit else []), *(b"T%dC%s" % it for it in self.tools), b"%"]
+        header = [START, *([NAMES[MM]] if self.unit else []), *self.moved.header, b"%"]
         header += [self.first_pick] if self.first_pick else []
         body = [self.changed.get(number, text) for number, text in enumerate(raw, 1)]
         return Headed(b"\n".join([*body[:self.front], *header, *body[self.front:]]), self.front, len(header),
@@ -171,17 +206,16 @@ def hoisted(data: bytes, its: List[Line], unit: Optional[int]) -> Headed:
     end = next((line.number for line in its if line.part == HEADER and line.text in HEADER_ENDS), 0)
     raw = data.split(b"\n")
     records = [(line, line.record()) for line in its if line.part in (HEADER, BODY) and line.text[:1] in b"TMI"]
-    known = {record.number: record.sizes() for line, record in records
-             if line.part == HEADER and isinstance(record, Tool)}
-    added: List[bytes] = []
-    for line, record in records if end else []:
-        if line.part == BODY and isinstance(record, Tool) and is_defined(record):
-            if record.number not in known:
-                known[record.number] = record.sizes()
-                added.append(record.name + b"C" + record.sizes()[0])
-            if known[record.number] != record.sizes():
-                return Headed(data)
-            raw[line.number - 1] = b"T%d" % record.number
+    moved = Moved({record.number: b"".join(record.sizes()) for line, record in records
+                   if line.part == HEADER and isinstance(record, Tool)})
+    if any(line.part == BODY and isinstance(record, Tool) for line, record in records):
+        for line, record, comments in before_each([line for line in its if line.part == BODY]):
+            if isinstance(record, Tool) and is_defined(record):
+                moved.define(record.number, record.sizes()[0], comments)
+                raw[line.number - 1] = b"T%d" % record.number
+        if moved.leaves([line for line in its if line.part == BODY]):
+            return Headed(data)
+    added = moved.header if end else []
     first = next((record for _, record in records if isinstance(record, (Tool, Unit, Mode))), None)
     if added:
         return Headed(b"\n".join([*raw[:end - 1], *added, *raw[end - 1:]]), end - 1, len(added))

@@ -3,7 +3,8 @@
 Nothing is judged. A record has numbers as they are written: what they mean is a matter of unit and digits.
 """
 import re
-from typing import Callable, Dict, Iterator, List, NamedTuple, Optional, Sequence, Tuple, Union
+from functools import lru_cache
+from typing import Callable, Dict, List, NamedTuple, Optional, Sequence, Tuple, Union
 
 from boardnet_show.formats.units import INCH, MM
 
@@ -11,7 +12,8 @@ BLANKS = b" \t\r"
 # Parts of a file: before `M48`, up to `%` or `M95`, up to `M30`, and behind. Without `M48` there is no header.
 FRONT, HEADER, BODY, BEHIND = "front", "header", "body", "behind"
 START, HEADER_ENDS, END = b"M48", (b"%", b"M95"), b"M30"
-NUMBER = rb"[+-]?[0-9.]+"
+# What `check` takes for a decimal, and more digits.
+NUMBER = rb"[+-]?(?:[0-9]{1,30}\.?[0-9]{0,30}|\.[0-9]{1,30})"
 XY = rb"(?:X(" + NUMBER + rb"))?(?:Y(" + NUMBER + rb"))?"
 PLACES = re.compile(rb"(G0?[01](?=[XY]))?" + XY + rb"(?:(G85)" + XY + rb")?")
 TOOL = re.compile(rb"T([0-9]{1,4})((?:[A-Z]" + NUMBER + rb")+)")
@@ -190,19 +192,28 @@ class Line(NamedTuple):
         return record_of(self.text)
 
 
-def lines(data: bytes) -> Iterator[Line]:
-    """The lines of a drill file."""
+def lines(data: bytes) -> Sequence[Line]:
+    """The lines of a drill file. Who listens to one file asks in turn, so the last few are kept."""
+    return cut(data)
+
+
+@lru_cache(maxsize=4)
+def cut(data: bytes) -> Sequence[Line]:
+    found: List[Line] = []
     part, start, has_header = FRONT, 0, re.search(rb"^[ \t]*M48[ \t\r]*$", data, re.M)
     for number, raw in enumerate(data.split(b"\n"), 1):
         text = raw.strip(BLANKS)
-        yield Line(number, start, text, part)
+        found.append(Line(number, start, text, part))
         start += len(raw) + 1
+        if text[:1] not in b"M%":
+            continue
         if part == FRONT and text == START:
             part = HEADER
         elif text in HEADER_ENDS and (part == HEADER or part == FRONT and not has_header):
             part = BODY
         elif part == BODY and text == END:
             part = BEHIND
+    return tuple(found)
 
 
 def first_unit(data: bytes) -> Optional[int]:

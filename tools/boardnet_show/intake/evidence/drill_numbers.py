@@ -115,8 +115,12 @@ class Settling:
             self.doubts.append((name, taken[1], taken[2]))
         return taken[0] if taken else found
 
+    def taken(self) -> List[Tuple[str, str]]:
+        """The files that evidence alone settles, each with how it is read and why."""
+        return [(name, f"a drill file of {how}: {why}") for name, how, why in self.doubts]
+
     def sentences(self) -> List[str]:
-        return [f"{name} as a drill file of {how}: {why}" for name, how, why in self.doubts]
+        return [f"{name} as {how}" for name, how in self.taken()]
 
 
 def settled(name: str, data: bytes, home: str) -> Optional[Settled]:

@@ -4,7 +4,7 @@ of pads.
 What is found so is evidence and no certainty: it is told, and taken only where the user says so.
 """
 from fractions import Fraction
-from typing import Callable, Dict, FrozenSet, Iterable, Iterator, List, NamedTuple, Optional, Set, Tuple
+from typing import Callable, Dict, Iterable, Iterator, List, NamedTuple, Optional, Set, Tuple
 
 from boardnet_show.formats.drills.drill_lines import BEHIND, Hit, Place, lines, places_of
 from boardnet_show.formats.drills.drill_plating import Plating
@@ -96,10 +96,16 @@ def holes_of(data: bytes) -> List[Texts]:
     return sorted(found)
 
 
-def lengths(holes: List[Texts], reading: Reading) -> Dict[bytes, int]:
-    """Each number in u, to the nearest."""
-    texts = {text for hole in holes for text in hole}
-    return {text: round(Fraction(reading.form.pointed(text).decode()) * reading.unit) for text in texts}
+def length(number: bytes, reading: Reading) -> int:
+    """A number in u, to the nearest."""
+    form, behind = reading.form, 0
+    if b"." in number:
+        return round(Fraction(number.decode()) * reading.unit)
+    if form.zeros == TRAILING:
+        behind = max(form.width() - len(number.lstrip(b"+-")), 0)
+    over: int = 10 ** form.decimals
+    shifted: int = int(number) * 10 ** behind
+    return (2 * shifted * reading.unit + over) // (2 * over)
 
 
 def around(pads: Middles) -> Set[Cell]:
@@ -109,14 +115,14 @@ def around(pads: Middles) -> Set[Cell]:
 
 def fits(holes: List[Texts], its: Iterable[Reading], cells: Set[Cell]) -> List[Fit]:
     """How many holes lie on pads by each reading; of readings that give all holes the same places the first."""
-    texts = [(0, text) for text in {text for hole in holes for text in hole}]
-    found: Dict[FrozenSet[Tuple[bytes, int]], Fit] = {}
+    texts = list({text for hole in holes for text in hole})
+    found: Dict[Tuple[int, ...], Fit] = {}
     for reading in its:
-        u = lengths(holes, reading)
-        key = frozenset(u.items())
+        key = tuple(length(text, reading) for text in texts)
         if key not in found:
-            on = sum((u[x] // NEAR, u[y] // NEAR) in cells for x, y in holes)
-            found[key] = Fit(reading, on, len(holes), not reading.form.wrong_number(texts))
+            cell = {text: u // NEAR for text, u in zip(texts, key)}
+            on = sum((cell[x], cell[y]) in cells for x, y in holes)
+            found[key] = Fit(reading, on, len(holes), not reading.form.wrong_number([(0, text) for text in texts]))
     return list(found.values())
 
 
@@ -163,8 +169,8 @@ class Evidence:
         mine = fits(holes, [Reading(its.unit, its.form)], self.cells())
         if len(holes) < FEWEST or not mine or 2 * mine[0].on > len(holes):
             return ""
-        found = self.best(data, Said())
-        if not found:
+        bare = [number for _, number in bare_numbers(data)]
+        other = max(fits(holes, readings(Said(), bare), self.cells()), key=lambda fit: fit.on)
+        if not other.is_enough():
             return ""
-        other = found[0]
         return f"by it {mine[0].on} of {len(holes)} holes lie on middles of pads, by {other.reading.words()} {other.on}"

@@ -7,9 +7,10 @@ from boardnet_show.formats.gerber_machine import MOST_EDGES
 
 from . import coordinate_forms, definitions, identities
 from .edits import Edits
+from .mend import Mend
 
 
-def seldom(edits, macros, names):
+def seldom(edits: Edits, macros: List[Tuple[definitions.Macro, List[definitions.Aperture]]], names: Set[bytes]) -> None:
     """What few files have: macros that are turned, and long contours."""
     if macros:
         from . import quarter_turns
@@ -19,7 +20,7 @@ def seldom(edits, macros, names):
         long_contours.rewrite(edits)
 
 
-def mended(data):
+def mended(data: bytes) -> Tuple[bytes, List[Mend]]:
     """A copper file as it is mended, and its mends; the same bytes where there are none."""
     forms = Edits(data)
     try:

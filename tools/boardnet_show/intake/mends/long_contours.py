@@ -1,55 +1,62 @@
 """Contours of a copper file that have more edges than `check` takes, cut into several."""
 import re
 from itertools import accumulate
-from typing import NamedTuple
+from typing import Iterator, List, NamedTuple, Optional, Sequence, Tuple
 
 from boardnet_show.formats import gerber_attributes
 from boardnet_show.formats.gerber_lexer import BLANKS, FILE_ENDS, Broken, Word, holding, is_at_word, run_of, tokens
 from boardnet_show.formats.gerber_machine import MODES, MOST_EDGES, MOVE, STRAIGHT
 
+from .edits import Edits
 from .table import CONTOUR
+
+# Numbers of words, the places they lead to, and which of these are moves.
+Operations = Tuple[Sequence[int], List[Tuple[int, int]], List[int]]
 
 OPERATED = re.compile(rb"(?:G0?[0-3])?[XYIJ]|(?:G0?[0-3])?D0?[0-3]\Z|G0?[023]\Z")
 OF_OPERATIONS = b"GXYD+-0123456789"
 BETWEEN = b"%\t\n\r "
-# What takes copper away, repeats it or bends an edge: then a part at the file's end could be another than in its place. Each sign
-# that the words have, with their form.
+# What takes copper away, repeats it or bends an edge: then a part at the file's end could be another than in its
+# place. Each sign that the words have, with their form.
 ORDERED = ((b"LPC", rb"LPC"), (b"SR", rb"SR."), (b"AB", rb"AB"), (b"G02", rb"G02"), (b"G2", rb"G2(?![0-9])"), (b"G03", rb"G03"),
            (b"G3", rb"G3(?![0-9])"))
 
 
 class Contour(NamedTuple):
-    """A contour's corners, and the numbers of the words by which they are reached, the last one by that which closes it."""
+    """A contour's corners, and the numbers of the words by which they are reached, the last one by that which closes
+    it."""
 
     corners: list
     words: list
 
-    def is_closed(self):
+    def is_closed(self) -> bool:
         return self.corners[0] == self.corners[-1]
 
 
 class Region:
     """A region's words with their places."""
 
-    def __init__(self, data, start, end):
+    def __init__(self, data: bytes, start: int, end: int) -> None:
         self.start, self.end, self.body = start, end, data[start:end]
         self.texts, self.stops = self.body.split(b"*"), None
 
-    def contours(self):
+    def contours(self) -> Iterator[Contour]:
         """The long contours, where the region begins at a whole place and has straight edges alone."""
         words, spots, moves = self.plain() or self.operations() or ((), (), ())
         for first, past in zip(moves, [*moves[1:], len(spots)]):
             if past - first - 1 > MOST_EDGES:
                 yield Contour(spots[first:past], words[first + 1:past])
 
-    def plain(self):
-        """The numbers of the operations' words, their places, and which of them move; nothing where a word does not say all."""
+    def plain(self) -> Optional[Operations]:
+        """The numbers of the operations' words, their places, and which of them move; nothing where a word does not
+        say all."""
         run = run_of(self.body, 0, len(self.body))
         moves = [k for k, code in enumerate(run.codes) if code == MOVE] if run else []
         return (range(len(run.codes)), [*zip(run.xs, run.ys)], moves) if moves[:1] == [0] else None
 
-    def operations(self):
-        """The same, where words leave out what they share with the one before; nothing where one is no straight edge."""
+    def operations(self) -> Optional[Operations]:
+        """The same, where words leave out what they share with the one before; nothing where one is no straight
+        edge."""
         words, spots, moves, x, y = [], [], [], None, None
         try:
             for number, word in enumerate(tokens(self.body)):
@@ -69,7 +76,7 @@ class Region:
             return None
         return words, spots, moves
 
-    def word_place(self, number):
+    def word_place(self, number: int) -> Tuple[int, int]:
         """A word's first byte and its star, in the file."""
         if self.stops is None:
             self.stops = [*accumulate(len(text) + 1 for text in self.texts)]
@@ -82,7 +89,7 @@ def is_bent(word: Word) -> bool:
     return not word.parts and not word.inside and bool(OPERATED.match(word.text))
 
 
-def regions(data):
+def regions(data: bytes) -> Iterator[Region]:
     """The regions of more words than a contour may have edges: from behind `G36` to before `G37`."""
     signs = sorted(it for sign in (b"G36", b"G37") for it in holding(data, sign) if not it.inside and it.text == sign)
     for one, other in zip(signs, signs[1:]):
@@ -93,8 +100,8 @@ def regions(data):
 
 
 def in_place(contour, part):
-    """The words of corners that go leave empty ones, or say a place on an edge at which a chord ends; the next one says both coordinates.
-    Nothing where there are fewer words than such places."""
+    """The words of corners that go leave empty ones, or say a place on an edge at which a chord ends; the next one
+    says both coordinates. Nothing where there are fewer words than such places."""
     known, fresh, written = 0, [], {}
     for spot, number in [*part[1:], (part[0][0], len(contour.words))]:
         if number is None:
@@ -126,7 +133,7 @@ def write(edits, region, written):
             edits.edits[start] = end, b"X%dY%dD01" % spot
 
 
-def name_before(data, at):
+def name_before(data: bytes, at: int) -> bytes:
     """The word that gives the net name in force."""
     named = b""
     said = (it for sign in (b"TO.N", b"TD") for it in gerber_attributes.of_file(data, sign))
@@ -138,19 +145,19 @@ def name_before(data, at):
     return b"%TD*%\n" + (b"%TO.N," + named + b"*%\n" if named else b"")
 
 
-def is_ordered(data):
+def is_ordered(data: bytes) -> bool:
     """Whether a word takes copper away, repeats it or bends an edge."""
     return any(re.match(form, it.text) for sign, form in ORDERED for it in holding(data, sign))
 
 
-def ending_of(data):
+def ending_of(data: bytes) -> Optional[int]:
     """Where the word is that ends the file, or None where that is not its last one."""
     whole = data.rstrip(BLANKS)
     found = (len(whole) - len(end) for end in FILE_ENDS if whole.endswith(end))
     return next((at for at in found if is_at_word(whole, at)), None)
 
 
-def rewrite(edits):
+def rewrite(edits: Edits) -> None:
     """Cuts long contours; how many words each needs more is at the file's end."""
     data = edits.data
     ending = ending_of(data)

@@ -3,6 +3,7 @@
 What stays as it is `check` refuses by its line.
 """
 import re
+from functools import lru_cache
 from typing import Dict, Iterator, List, NamedTuple, Optional, Tuple
 
 from boardnet_show.formats import ipc356
@@ -17,9 +18,7 @@ RECORDS = (*ipc356.TEST_RECORDS, ipc356.VIA)
 SPAN = re.compile(rb"(?<![A-Z0-9])L ?(\d\d?)[ -]*L ?(\d\d?)(?!\d)")
 HOLE = re.compile(rb" *(M? *D[ \d]{4}[PU]?)? *")
 SIZES = re.compile(rb" *(X[ \d]{4})?(Y[ \d]{4})?(R[ \d]{3})? *(S ?\d)?[ \r]*")
-# Where any of these forms may be, so that most netlists are not read line by line.
-FORMS = re.compile(rb"[\x0c\x1a\x80-\xff]|^(?:307|017|027|390|088|099)|^P[ \t]*UNITS[ \t]+SI", re.M)
-CODES = re.compile(rb"^3[12]7.{35}A([ \d]\d)", re.M)
+SI_UNITS = re.compile(rb"^P[ \t]*UNITS[ \t]+SI", re.M)
 SI = re.compile(rb"^(P[ \t]*UNITS[ \t]+)SI([ \t\r]*)$")
 BEHIND_PIN = slice(ipc356.PIN.stop, None)
 FORM_FEED, END_OF_TEXT, BLANKS = b"\x0c", b"\x1a", b" \t\r"
@@ -141,11 +140,20 @@ class Aliases:
 
 # ---- a netlist
 
+@lru_cache(maxsize=2)
+def may_have_forms(data: bytes) -> bool:
+    """Whether any of these forms may be in a netlist, so that most are not read line by line."""
+    codes = (ipc356.VIA, *ipc356.CONTINUED, *ipc356.NO_POINTS)
+    is_plain = data.isascii() and FORM_FEED not in data and END_OF_TEXT not in data
+    has_code = any(b"\n" + code in data or data.startswith(code) for code in codes)
+    return not is_plain or has_code or b"SI" in data and SI_UNITS.search(data) is not None
+
+
 def codes_over(data: bytes, layers: int) -> Tuple[int, ...]:
     """The access codes over the layers of a board; none where records have the code of its last layer, too."""
-    its = (*RECORDS, *ipc356.CONTINUED) if FORMS.search(data) else ()
+    its = (*RECORDS, *ipc356.CONTINUED) if may_have_forms(data) else ()
     lines = (line for line in data.split(b"\n") if line[ipc356.CODE] in its and ipc356.has_access(line))
-    codes = {int(line[ipc356.ACCESS]) for line in lines} if its else set(map(int, CODES.findall(data)))
+    codes = {int(line[ipc356.ACCESS]) for line in lines} if its else ipc356.fields(data).codes
     return () if layers in codes else tuple(sorted(code for code in codes if code > layers))
 
 
@@ -253,7 +261,7 @@ class Netlist:
 def mended(data: bytes, layers: int, last: int = 0) -> Tuple[bytes, List[Mend]]:
     """A netlist with its lines as `check` takes them, and the mends; the same bytes where there are none. `last` is a
     code that is read as the last layer."""
-    if not (FORMS.search(data) or any(b" " in name for name in ipc356.names(data)) or codes_over(data, layers)):
+    if not (may_have_forms(data) or any(b" " in name for name in ipc356.fields(data).names) or codes_over(data, layers)):
         return data, []
     netlist = Netlist(data, layers, last)
     found = list(netlist.mends())

@@ -23,7 +23,7 @@ class Names:
         first = {it.alias: it.name for it in reversed(found)}
         self.full = {it.name for it in found if it.is_full}
         self.whole = {alias: name for alias, name in first.items() if name and name != alias}
-        self.names = ipc356.names(data) if self.whole else []
+        self.names = ipc356.fields(data).names if self.whole else []
         twice = {it.alias for it in found if it.name != first[it.alias]}
         for name in self.names:
             if name in twice:
@@ -66,7 +66,7 @@ def cut(data: bytes) -> str:
     """Why names that run on behind their columns may be of two nets, or nothing: the columns have what both begin
     with."""
     whole: Dict[bytes, bytes] = {}
-    for name in dict.fromkeys(ipc356.LONG_NAME.findall(data)):
+    for name in ipc356.fields(data).long_names:
         other = whole.setdefault(name[:ipc356.NAME_WIDTH], name)
         if other != name:
             return f"{short(other)} and {short(name)} run on behind their columns, and are one name within them"
@@ -84,7 +84,12 @@ def mended(data: bytes, layers: int = MOST_LAYERS, last: int = 0) -> Tuple[bytes
     the last layer."""
     text, found = netlist_forms.mended(data, layers, last)
     text, aliases = with_one_name(text)
-    return text, sorted(found + aliases, key=lambda mend: mend.line)
+    return text, sorted(found + aliases, key=line_of)
+
+
+def line_of(mend: Mend) -> int:
+    line: int = mend.line
+    return line
 
 
 def may_be_open(data: bytes, layers: int) -> bool:

@@ -2,19 +2,24 @@
 import re
 from decimal import Decimal
 from fractions import Fraction
+from typing import Dict, Iterator, List, Optional, Set, Tuple
 
 from boardnet_show.formats.gerber_lexer import DECIMAL
 
+from .definitions import Aperture, Macro
+from .edits import Edits
 from .table import TURN
 
 PARAMETER = re.compile(rb"\$([1-9][0-9]{0,2})")
-# Primitives that `flatten` takes with a rotation as their last part, and how many parts they have; an outline has as many as it says.
+# Primitives that `flatten` takes with a rotation as their last part, and how many parts they have; an outline has as
+# many as it says.
 ROTATED = {b"1": 7, b"4": None, b"20": 8, b"21": 7}
 QUARTERS = (0, 90, 180, 270)
 
 
-def parameters(macro):
-    """The parameters that stand in a rotation's place in some of its words, or nothing where a word gives one a value."""
+def parameters(macro: Macro) -> Set[int]:
+    """The parameters that stand in a rotation's place in some of its words, or nothing where a word gives one a
+    value."""
     found = set()
     for _, _, word in macro.words[1:]:
         if word.startswith(b"$"):
@@ -26,7 +31,7 @@ def parameters(macro):
     return found
 
 
-def quarter(aperture, parameter):
+def quarter(aperture: Aperture, parameter: int) -> Optional[int]:
     """What an aperture says for a parameter as a quarter turn of 0 to 270, or None."""
     parts = aperture.parts.split(b"X") if aperture.parts else []
     text = parts[parameter - 1] if parameter <= len(parts) else b"0"
@@ -37,7 +42,7 @@ def quarter(aperture, parameter):
     return int(value) if value in QUARTERS else None
 
 
-def body(macro, values):
+def body(macro: Macro, values: Dict[int, int]) -> Iterator[bytes]:
     """The macro's words behind its name, with the values in the rotations' place."""
     for _, _, word in macro.words[1:]:
         *parts, last = word.split(b",")
@@ -46,8 +51,9 @@ def body(macro, values):
         yield b",".join([*parts, b"%d" % values[int(match[1])]]) if is_rotation else word
 
 
-def rewrite(edits, left, names):
-    """Each macro that is left with its apertures: the first value in its place, a macro of its own for each other one."""
+def rewrite(edits: Edits, left: List[Tuple[Macro, List[Aperture]]], names: Set[bytes]) -> None:
+    """Each macro that is left with its apertures: the first value in its place, a macro of its own for each other
+    one."""
     for macro, having in left:
         turned = parameters(macro)
         told = [{parameter: quarter(it, parameter) for parameter in turned} for it in having]
@@ -65,7 +71,7 @@ def rewrite(edits, left, names):
         edits.note(start, macro.words[0][1], TURN, more and f"has a rotation by its apertures' parameters: written by their values, {more} more commands stand before the next" or "")
 
 
-def write(edits, macro, values, name):
+def write(edits: Edits, macro: Macro, values: Dict[int, int], name: bytes) -> None:
     written = list(body(macro, values))
     if name == macro.name:
         for (start, end, _), word in zip(macro.words[1:], written):
@@ -75,7 +81,7 @@ def write(edits, macro, values, name):
     edits.insert(edits.data.rfind(b"%", 0, macro.words[0][0]), text)
 
 
-def fresh(name, names):
+def fresh(name: bytes, names: Set[bytes]) -> bytes:
     """A name that no macro has."""
     number = 1
     while b"%s_%d" % (name, number) in names:

@@ -86,7 +86,9 @@ function measureScreen() {                        // whether it changed
 }
 let before = null;                                // what to come back to after printing
 addEventListener("beforeprint", () => {
-  before = {theme: root.dataset.theme, view: {...view}};
+  const notes = document.querySelector("details.notes");
+  before = {theme: root.dataset.theme, view: {...view}, open: notes.open};
+  notes.open = true;
   root.dataset.theme = "light";
   readInk();
   measure(1000, 625, 2);                          // the shape that the style gives the picture on paper
@@ -101,6 +103,7 @@ addEventListener("beforeprint", () => {
 addEventListener("afterprint", () => {
   Object.assign(view, before.view);
   const theme = before.theme;
+  document.querySelector("details.notes").open = before.open;
   before = null;
   measureScreen();
   setTheme(theme);

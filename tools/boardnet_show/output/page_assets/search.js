@@ -1,6 +1,7 @@
 // ---------------------------------------------------------------- search
 
 const MOST_FOUND = 12, MOST_NETS = 6, MOST_ROWS = 300;
+const CUT = 14;                                   // so long a name of a netlist may be the front of a longer one
 let heard = null;                                 // in small letters, made at the first search: the words of each finding, names, how pins begin
 function listen() {
   const words = new Map(), of = new Map(folds.map(fold => [fold, []]));
@@ -27,7 +28,7 @@ function linkTo(id, words) {
   return item;
 }
 function netsFound(text) {                        // by their names
-  const isHit = heard.names.map(name => name.includes(text)), number = /^net (\d+)$/.exec(text)?.[1];
+  const isHit = heard.names.map(name => name.includes(text) || name.length === CUT && text.startsWith(name)), number = /^net (\d+)$/.exec(text)?.[1];
   const found = new Set(number < board.netCount ? [Number(number)] : []);
   for (let p = 0; p < pointCount && found.size < MOST_NETS; p++) if (isHit[pointNames[p]] && pointNets[p] >= 0) found.add(pointNets[p]);
   return [...found];
@@ -53,6 +54,11 @@ function seek(text) {
   }
   const rows = text ? netsFound(text).map(net => linkTo("net-" + net, netWords(net))) : [];
   if (text) rows.push(...pointsFound(text, MOST_FOUND - rows.length).map(p => linkTo("point-" + p, pointWords(p))));
+  if (text && !rows.length && !sought.size) {
+    const none = document.createElement("li");
+    none.textContent = `Nothing here is called ${text}.`;
+    rows.push(none);
+  }
   $("found").replaceChildren(...rows);
 }
 $("seek").addEventListener("input", () => seek($("seek").value.trim().toLowerCase()));

@@ -19,10 +19,15 @@ def counts_words(counts: Counts, has_ties: bool) -> str:
 
 
 def found_words(both: Both) -> str:
-    """How many findings are certain and how many not, and the answers on both boards."""
+    """How many findings are certain and how many not."""
     rows = ((both.certain, "certain"), (both.undecided, "undecided"))
     found = ", ".join(f"{counted(count, 'finding')} {word}" for count, word in rows if count)
-    return (f": {found}" if found else "") + f" (lower {both.lower}; upper {both.upper})"
+    return f": {found}" if found else ""
+
+
+def bounds_words(both: Both) -> str:
+    """The answers on both boards, for who asks for all."""
+    return f"bounds: lower {both.lower}; upper {both.upper}"
 
 
 def conditions(answer: Answer) -> str:

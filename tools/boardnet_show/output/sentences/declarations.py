@@ -15,7 +15,7 @@ from . import changes
 def what_words(declared: Declaration) -> str:
     what = declared.what
     if isinstance(what, Taken):
-        return f"{what.file} as {what.what}"
+        return f"{what.file} {what.what}" if what.what.startswith(("as ", "with ")) else f"{what.file} as {what.what}"
     if isinstance(what, Drilled):
         return f"{what.file} as plated holes from layer {what.first} to {what.last}"
     if isinstance(what, CodesRead) and not what.records:
