@@ -13,3 +13,4 @@ mod Steps
 mod Told
 mod Outlined
 mod Turning
+pub mod HaveCopper

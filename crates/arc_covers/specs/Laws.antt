@@ -1,5 +1,5 @@
 -- Laws over real boards between two that the program can read, and over files of counts.
-use Rattle.std.specs.Prelude.{ℕ, ◌≡◌, ◌≢◌, ◌⊎◌, List, [], All}
+use Rattle.std.specs.Prelude.{ℕ, ◌≡◌, ◌≢◌, ◌⊎◌, true, List, [], All, map, slice_get}
 use Rattle.planar.specs.Plane.{Point}
 use Rattle.board_shapes.specs.LawfulBoard.{IsLawfulBoard}
 use Rattle.board_shapes.specs.Pieces.{PlainPiece}
@@ -15,8 +15,9 @@ use Rattle.covers.specs.Plain.{InPiece, layout_of}
 use Rattle.arc_covers.specs.Bounds.{AreBounds}
 use Rattle.arc_covers.specs.Counts.{AreCounts, IsFirstOther}
 use Rattle.arc_covers.specs.Findings.{HasOpen, HasShort, IsWithoutCopper}
-use Rattle.arc_covers.specs.RealBoards.{IsReal}
+use Rattle.arc_covers.specs.RealBoards.{IsCopperOf, IsReal, least_at, least_copper, real_span}
 use Rattle.arc_covers.specs.Taken.{AreTaken}
+use Rattle.real_shapes.specs.Settled.{is_settled}
 use Rattle.real_shapes.specs.declared.RealShape.{RealShape}
 use Rattle.arc_covers.specs.declared.side.Side.{Side}
 use Rattle.arc_covers.specs.declared.side.Side.TheVariants.{Below, Above}
@@ -24,6 +25,14 @@ use Rattle.arc_covers.specs.declared.side.Side.TheVariants.{Below, Above}
 -- Pieces that are taken stand for the real ones
 abbrev pub TakenAreBounds : Type 0
 TakenAreBounds = (side : Side) (real : List (Placed RealShape)) (counts : List ℕ) (pieces : List PlainPiece) → AreTaken side real counts pieces → AreBounds side real counts pieces
+
+-- Each shape whose turn is less than a right angle, and which has from 3 to 12 corners where it is a polygon, has a copper: what is surely in it
+abbrev pub ShapesHaveCopper : Type 0
+ShapesHaveCopper = (s : RealShape) → is_settled s ≡ true → IsCopperOf s (least_copper s)
+
+-- So there is one of each board of such shapes
+abbrev pub RealBoardsHaveCopper : Type 0
+RealBoardsHaveCopper = (pieces : List (Placed RealShape)) (b : Layout) → All (λ piece. is_settled piece.shape ≡ true) pieces → b.spans ≡ map real_span pieces → IsReal pieces (λ i p. least_at (slice_get pieces i) p) b
 
 -- the board is covered by the real one, and this by the board above
 pub record LiesBetween (lower : PlainBoard) (holds : ℕ → Point → Type 0) (real : Layout) (upper : PlainBoard) : Type 0 where

@@ -1,14 +1,14 @@
 //! Laws over real boards between two others, and over files of counts. Their calls do nothing.
-ghost use Rattle.arc_covers.specs.Laws.{BoundsLieBetween, CountsAreOne, CountsHaveNoOther, FindingsAreCertain, FirstOtherIsOne, RealBoardAgrees, RealBoardIsDecided, TakenAreBounds};
+ghost use Rattle.arc_covers.specs.Laws.{BoundsLieBetween, CountsAreOne, CountsHaveNoOther, FindingsAreCertain, FirstOtherIsOne, RealBoardAgrees, RealBoardIsDecided, RealBoardsHaveCopper, ShapesHaveCopper, TakenAreBounds};
 
 use arc_regions::laws::{taken_holds, taken_lies};
 use board_shapes::laws::tables_are_unique;
 use covers::Copper;
 use covers::laws::verdicts_decide;
 use fine_figures::laws::{fine_is_between, holed_is_between};
-use slants::laws::{discs_are_between, turned_is_between};
+use slants::laws::{discs_are_between, discs_have_copper, turned_is_between};
 use turned_outlines::laws::{outline_holds, outline_lies};
-use turned_polygons::laws::turned_polygon_is_between;
+use turned_polygons::laws::{turned_polygon_is_between, turned_polygons_have_copper};
 
 /// Pieces that are taken for those of a real board stand for them.
 pub fn taken_are_bounds()
@@ -25,6 +25,19 @@ pub fn taken_are_bounds()
     taken_lies();
     outline_holds();
     outline_lies();
+}
+
+/// Each shape that is turned by less than a right angle, and has from 3 to 12 corners where it is a polygon, has a copper, and so has a
+/// board of such shapes: no premise that speaks of all coppers of a real board that is read is empty.
+pub fn real_boards_have_copper()
+    ensures shapes { ShapesHaveCopper }
+    ensures boards { RealBoardsHaveCopper }
+{
+    arcs::laws::surely_is_possibly();
+    arc_regions::laws::surely_is_possibly();
+    slants::laws::surely_is_possibly();
+    discs_have_copper();
+    turned_polygons_have_copper();
 }
 
 /// A board of figures, arc draws, slanted lines, regions with arcs, turned figures and discs, regular polygons and fine figures lies

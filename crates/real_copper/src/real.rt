@@ -3,10 +3,11 @@ ghost use Rattle.file_reading.specs.declared.fault.FileFault.{FileFault};
 ghost use Rattle.real_copper.specs.Draws.{IsNearBend};
 ghost use Rattle.real_copper.specs.Figures.{RealFigure, real_handling};
 ghost use Rattle.real_copper.specs.RealReader.{plain};
-ghost use Rattle.real_copper.specs.Shapes.{plain_reals};
+ghost use Rattle.real_copper.specs.Shapes.{plain_real, plain_reals};
 ghost use Rattle.real_copper.specs.Table.{IsRealCopper, IsRealFault, fits, real};
-ghost use Rattle.step_repeat.specs.Copies.{pieces_by};
-ghost use Rattle.std.specs.Prelude.{All, IfErr, IfOk, length, ◌≡◌, ◌≤◌};
+ghost use Rattle.real_shapes.specs.Settled.{is_settled};
+ghost use Rattle.step_repeat.specs.Copies.{piece_by, pieces_by};
+ghost use Rattle.std.specs.Prelude.{All, IfErr, IfOk, length, true, ◌≡◌, ◌≤◌};
 
 use crate::anchored::Anchored;
 use crate::aperture::RealAperture;
@@ -61,23 +62,30 @@ impl Dialect for RealCopper {
     }
 }
 
-// The shapes of the pieces, which need not be kept near any more.
+// The shape of a piece, which need not be kept near any more.
+fn shape_of(piece: Placed<Anchored>) -> RealPiece
+    ensures piece { plain_real result ≡ piece_by plain piece.entry }
+    ensures settled { is_settled result.shape ≡ true }
+{
+    let Anchored { shape } = piece.shape;
+    Placed {
+        shape,
+        top: piece.top,
+        bottom: piece.bottom,
+        origin: piece.origin,
+    }
+}
+
 fn shapes_of(alloc: Global, pieces: Vec<Placed<Anchored>>) -> Result<Vec<RealPiece>, RealFault>
     ensures are { IfOk result (λ reals. plain_reals reals.items ≡ pieces_by plain pieces.items) }
+    ensures settled { IfOk result (λ reals. All (λ piece. is_settled piece.shape ≡ true) reals.items) }
     ensures fault { IfErr result (λ why. why ≡ FileFault.NoMemory) }
 {
     let Ok(mut reals) = Vec::with_capacity(alloc, pieces.len()) else {
         return Err(RealFault::NoMemory);
     };
     for piece in pieces {
-        let Anchored { shape } = piece.shape;
-        let real = Placed {
-            shape,
-            top: piece.top,
-            bottom: piece.bottom,
-            origin: piece.origin,
-        };
-        if let Err(_) = reals.push(real) {
+        if let Err(_) = reals.push(shape_of(piece)) {
             return Err(RealFault::NoMemory);
         }
     }
@@ -95,6 +103,7 @@ pub fn read_real(alloc: Global, file: &[u8], place: Place) -> Result<Vec<RealPie
     ensures ok { IfOk result (λ pieces. IsRealCopper file.now place (plain_reals pieces.items)) }
     ensures few { IfOk result (λ pieces. length pieces.items ≤ place.room.pieces) }
     ensures layers { IfOk result (λ pieces. All (λ piece. (piece.top ≡ place.layer) × (piece.bottom ≡ place.layer)) pieces.items) }
+    ensures settled { IfOk result (λ pieces. All (λ piece. is_settled piece.shape ≡ true) pieces.items) }
     ensures fault { IfErr result (IsRealFault file.now place) }
 {
     let pieces = read_by::<RealCopper>(alloc, file, place)?;
