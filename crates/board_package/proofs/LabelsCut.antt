@@ -131,7 +131,7 @@ ends_well : (k : Known) (stop : Stop) → IsOk (effect k (stop_command stop)) �
 unfolding effect row
 ends_well k ended ok = by k.settings.ended refl ok
   where
-    by : (b : Bool) → k.settings.ended ≡ b → IsOk (cond b (Ok stays) (Err kind.NotEnded)) → EndsWell k ended
+    by : (b : Bool) → k.settings.ended ≡ b → IsOk {T = Effect} (cond b (Ok stays) (Err kind.NotEnded)) → EndsWell k ended
     by true e fine = record { is = refl; behind = e }
     by false e fine = absurd (not_ok Effect kind.NotEnded fine)
 ends_well k (broken fault at) ok = absurd (by k.settings.ended ok)

@@ -12,7 +12,7 @@ mod layers;
 #[cfg(test)]
 mod macro_words;
 #[cfg(test)]
-mod real_copper;
+mod real_files;
 #[cfg(test)]
 mod repeats;
 #[cfg(test)]

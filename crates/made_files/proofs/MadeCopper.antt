@@ -21,10 +21,13 @@ use Rattle.board_shapes.specs.Pieces.{PlainPiece}
 use Rattle.board_shapes.specs.Rectangles.{halved}
 use Rattle.file_reading.specs.Reading.{Clean, Item, said}
 use Rattle.gerber_reading.specs.Command.{no_bending, Command, formats, counts_in, defines, selects, operates, ends, finishes}
-use Rattle.gerber_layer.specs.CommandEffects.{Known, stays, performs, concludes, coordinate, define, draw, edges_for, edges_of, effect, ended_block, exceed, flash, flash_by, flash_with, operate, perform, room_for, row as row_of, selected, target}
+use Rattle.gerber_layer.specs.CommandEffects.{Known, stays, performs, concludes, define, draw, edges_of, effect, exceed, flash, flash_by, flash_with, operate, perform, row as row_of, selected}
 use Rattle.gerber_reading.specs.declared.place.Place.{Place}
-use Rattle.gerber_layer.specs.Image.{effect_before, image_by, known_before, made, pieces_of}
-use Rattle.gerber_reading.specs.Settings.{block_open, defined_before, format_before, has_ended, point_before, region_open, unit_before, x_before, y_before}
+use Rattle.gerber_reading.specs.CommandEffects.{coordinate, edges_for, ended_block_by, room_for, target}
+use Rattle.gerber_reading.specs.Image.{image_by}
+use Rattle.macro_flatten.proofs.Exact.{defined_before}
+use Rattle.gerber_layer.specs.Image.{effect_before, known_before, made, pieces_of}
+use Rattle.gerber_reading.specs.Settings.{block_open, format_before, has_ended, point_before, region_open, unit_before, x_before, y_before}
 use Rattle.gerber_layer.specs.Tools.{Tool, standard}
 use Rattle.gerber_layer.specs.WordCommands.{code_in, coded, command_of, extended as extended_row, format_of, format_word, from_i, is_number, is_numeric, operation_of, plain}
 use Rattle.gerber_reading.specs.declared.command.Code.{Code}
@@ -176,7 +179,7 @@ unfolding effect row_of
 selects_one k n a s d = rw (s.ended, d) refl
 
 ends_all : (k : Known) → IsSet k → effect k ends ≡ Ok (concludes k.pieces)
-unfolding effect row_of ended_block
+unfolding effect row_of ended_block_by
 ends_all k s = rw (s.ended, s.outside, s.block) refl
 
 -- corners of the square pad lie within 1 m

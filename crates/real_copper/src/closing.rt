@@ -10,7 +10,7 @@ ghost use Rattle.real_copper.specs.Rows as spec;
 ghost use Rattle.regions.specs.Contours.{outline_of};
 ghost use Rattle.std.specs.Prelude.{IfErr, None, OnOk, Some, ◌≡◌, ◌+◌, ◌<◌, ◌^◌};
 
-use crate::arcs::bend_of;
+use crate::bends::bend_of;
 use crate::contours::area_of;
 use crate::draw::Bend;
 use crate::drawing::{RealReader, halted, without_offsets};

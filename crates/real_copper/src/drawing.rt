@@ -16,7 +16,7 @@ ghost use Rattle.std.specs.Prelude.{IfErr, IfOk, IfSome, None, Ok, OnOk, Some, l
 
 use crate::anchored::Anchored;
 use crate::aperture::RealAperture;
-use crate::arcs::{bend_of, no_arc};
+use crate::bends::{bend_of, no_arc};
 use crate::draw::Bend;
 use crate::flashes::flash;
 use crate::kind::{RealKind, gerber};

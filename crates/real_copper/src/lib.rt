@@ -4,7 +4,7 @@
 
 mod anchored;
 mod aperture;
-mod arcs;
+mod bends;
 mod centres;
 mod closing;
 mod contours;

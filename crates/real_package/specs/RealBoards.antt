@@ -3,7 +3,6 @@ use Rattle.std.specs.Prelude.{◌≡◌, ℕ, ◌-◌, ◌^◌, nat_lt, if◌the
 use Rattle.real_copper.specs.Figures.{exact, real_edges}
 use Rattle.real_copper.specs.Shapes.{PlainReal, plain_reals}
 use Rattle.real_shapes.specs.declared.RealShape.{RealShape}
-use Rattle.board_shapes.specs.Figures.{figure_edges}
 use Rattle.board_shapes.specs.Pieces.{PlainPiece}
 use Rattle.board_shapes.specs.Plain.{PlainBoard}
 use Rattle.board_shapes.specs.declared.placed.Room.{Room}

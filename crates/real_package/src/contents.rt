@@ -10,12 +10,12 @@ ghost use Rattle.real_package.specs.declared.fault.RealBuildFault.TheVariants as
 
 use crate::board::{RealBoard, as_real_pieces, room_left};
 use crate::fault::RealBuildFault;
-use real_copper::{RealFault, RealKind, read_real};
 use board_package::{BuildFault, Entry, Refusal, Role, refused};
 use gerber_layer::FlattenKind;
 use gerber_reading::Place;
 use ipc356_records::{RecordFault, read_netlist};
 use lengths::text::Text;
+use real_copper::{RealFault, RealKind, read_real};
 use std::alloc::Global;
 use texts::MOST_BYTES;
 use xnc::{DrillFault, Span, read_drill};

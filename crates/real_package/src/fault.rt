@@ -2,9 +2,9 @@
 ghost use Rattle.std.specs.Prelude.{◌≡◌};
 ghost use Rattle.real_package.specs.declared.fault.RealBuildFault.TheVariants as fault;
 
-use real_copper::RealKind;
 use board_package::BuildFault;
 use lengths::text::Text;
+use real_copper::RealKind;
 
 /// Why a package gives no real board: the first that stops it, in the order of its files, or a fault of reading, or want
 /// of memory.

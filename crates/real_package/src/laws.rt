@@ -3,8 +3,8 @@ ghost use Rattle.std.specs.Prelude.{ℕ, List};
 ghost use Rattle.board_io.specs.Package.{Files};
 ghost use Rattle.real_package.specs.Laws.{HandedIsHeld, HasOneRealOutcome};
 
-use real_copper::laws::one_real_answer;
 use board_package::laws as packages;
+use real_copper::laws::one_real_answer;
 
 /// A package has at most one real board or one first stop of it, and not both.
 pub fn one_real_outcome()

@@ -1,11 +1,12 @@
 // Files in which draws may be arcs, and their copper. The rows without a comment are what the script of
 // bounds, tools/show_board, makes of them.
-use real_copper::{Arc, RealFault, RealPiece, RealShape, read_real};
 use arc_regions::Part;
+use arcs::Arc;
 use board_shapes::{Room, Shape};
 use fine_figures::FineFigure;
 use gerber_reading::Place;
 use planar::Spot;
+use real_copper::{RealFault, RealPiece, RealShape, read_real};
 use std::alloc::{AllocError, Global};
 use std::fmt::Write;
 use std::test::Fail;

@@ -1,5 +1,0 @@
-use Rattle.arc_layer.proofs.Numbers.{apart, one_number}
-use Rattle.arc_layer.proofs.laws.real_kinds_have_own_numbers.Goals as goal
-
-pub returns : goal.returns
-returns c = (one_number c.kinds_have_own_numbers.ensures, apart c.kinds_have_own_numbers.ensures)
