@@ -64,7 +64,7 @@ impl Dialect for RealCopper {
 
 // The shape of a piece, which need not be kept near any more.
 fn shape_of(piece: Placed<Anchored>) -> RealPiece
-    ensures piece { plain_real result ≡ piece_by plain piece.entry }
+    ensures piece { plain_real result ≡ piece_by plain piece }
     ensures settled { is_settled result.shape ≡ true }
 {
     let Anchored { shape } = piece.shape;
