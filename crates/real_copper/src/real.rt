@@ -3,10 +3,10 @@ ghost use Rattle.file_reading.specs.declared.fault.FileFault.{FileFault};
 ghost use Rattle.real_copper.specs.Draws.{IsNearBend};
 ghost use Rattle.real_copper.specs.Figures.{RealFigure, real_handling};
 ghost use Rattle.real_copper.specs.RealReader.{plain};
-ghost use Rattle.real_copper.specs.Shapes.{plain_real, plain_reals};
+ghost use Rattle.real_copper.specs.Shapes.{plain_reals};
 ghost use Rattle.real_copper.specs.Table.{IsRealCopper, IsRealFault, fits, real};
 ghost use Rattle.real_shapes.specs.Settled.{is_settled};
-ghost use Rattle.step_repeat.specs.Copies.{piece_by, pieces_by};
+ghost use Rattle.step_repeat.specs.Copies.{pieces_by};
 ghost use Rattle.std.specs.Prelude.{All, IfErr, IfOk, length, true, ◌≡◌, ◌≤◌};
 
 use crate::anchored::Anchored;
@@ -62,30 +62,23 @@ impl Dialect for RealCopper {
     }
 }
 
-// The shape of a piece, which need not be kept near any more.
-fn shape_of(piece: Placed<Anchored>) -> RealPiece
-    ensures piece { plain_real result ≡ piece_by plain piece }
-    ensures settled { is_settled result.shape ≡ true }
-{
-    let Anchored { shape } = piece.shape;
-    Placed {
-        shape,
-        top: piece.top,
-        bottom: piece.bottom,
-        origin: piece.origin,
-    }
-}
-
+// The shapes of the pieces, which need not be kept near any more.
 fn shapes_of(alloc: Global, pieces: Vec<Placed<Anchored>>) -> Result<Vec<RealPiece>, RealFault>
     ensures are { IfOk result (λ reals. plain_reals reals.items ≡ pieces_by plain pieces.items) }
-    ensures settled { IfOk result (λ reals. All (λ piece. is_settled piece.shape ≡ true) reals.items) }
     ensures fault { IfErr result (λ why. why ≡ FileFault.NoMemory) }
 {
     let Ok(mut reals) = Vec::with_capacity(alloc, pieces.len()) else {
         return Err(RealFault::NoMemory);
     };
     for piece in pieces {
-        if let Err(_) = reals.push(shape_of(piece)) {
+        let Anchored { shape } = piece.shape;
+        let real = Placed {
+            shape,
+            top: piece.top,
+            bottom: piece.bottom,
+            origin: piece.origin,
+        };
+        if let Err(_) = reals.push(real) {
             return Err(RealFault::NoMemory);
         }
     }
