@@ -1,7 +1,7 @@
 //! Primitives.
 ghost use Rattle.std.specs.Prelude.{◌≡◌, ◌≤◌, ◌+◌, ◌*◌};
 ghost use Rattle.aperture_macros.specs.BodyWord.{row};
-ghost use Rattle.aperture_macros.specs.Sized.{IsSized, outline_edges};
+ghost use Rattle.aperture_macros.specs.Sized.{IsSized, corners_of, outline_edges};
 ghost use Rattle.aperture_macros.specs.declared.TheConstants.{MOST_OUTLINE_EDGES};
 
 /// What a primitive is, by its code: 1, 4, 20, 21 or 5. An outline has so many edges, from 3 to `MOST_OUTLINE_EDGES`, a polygon so many
@@ -90,4 +90,6 @@ pub struct Primitive<'a> {
     pub lengths: &'a [u8],
     ghost enough: { 3 ≤ outline_edges form },
     ghost few: { outline_edges form ≤ MOST_OUTLINE_EDGES },
+    ghost three: { 3 ≤ corners_of form },
+    ghost twelve: { corners_of form ≤ 12 },
 }
