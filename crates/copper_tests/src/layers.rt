@@ -1,8 +1,6 @@
 // Files, and what they are read as.
-mod loose;
 mod macros;
 mod refusals;
-mod straight;
 
 use board_shapes::{MOST_LAYERS, Piece, Room, Shape};
 use file_reading::RefusalKind;

@@ -12,6 +12,8 @@ mod layers;
 #[cfg(test)]
 mod macro_words;
 #[cfg(test)]
+mod real_apertures;
+#[cfg(test)]
 mod real_files;
 #[cfg(test)]
 mod repeats;

@@ -13,7 +13,7 @@ use Rattle.board_shapes.specs.Figures.{Figure, figure_edges}
 use Rattle.aperture_macros.specs.BodyWord.{PlainPrimitive}
 use Rattle.aperture_macros.specs.Flashes.{figure_at, judged}
 use Rattle.aperture_macros.specs.Seen.{Makes, plain}
-use Rattle.aperture_macros.specs.declared.primitive.Copper.{Copper}
+use Rattle.aperture_macros.specs.declared.primitive.Copper.TheVariants.{Exact}
 use Rattle.aperture_macros.specs.declared.primitive.Primitive.{Primitive}
 use Rattle.aperture_macros.specs.declared.fault.FigureFault.{FigureFault}
 use Rattle.aperture_macros.specs.declared.fault.FigureFault.TheVariants as figure
@@ -76,16 +76,16 @@ made_more p n done more old new a b = b ∙ ap (λ (xs : List PlainPiece). xs ++
 
 -- ---- Judging along a body
 
-pub next_judged : (copper : Copper) (body : List Primitive) (i : ℕ) (d : Primitive) (parameters : List Fraction) (unit : Measure) → i < length body → Ok tt ≡ judged copper (plain (get_or body i d)) parameters unit → all_judged copper (body_of (drop i body)) parameters unit ≡ all_judged copper (body_of (drop (i + 1) body)) parameters unit
+pub next_judged : (body : List Primitive) (i : ℕ) (d : Primitive) (parameters : List Fraction) (unit : Measure) → i < length body → Ok tt ≡ judged Exact (plain (get_or body i d)) parameters unit → all_judged (body_of (drop i body)) parameters unit ≡ all_judged (body_of (drop (i + 1) body)) parameters unit
 unfolding all_judged
-next_judged copper body i d parameters unit h is =
-    ap (λ (xs : List Primitive). all_judged copper (body_of xs) parameters unit) (rest_is body i d h) ∙ ap (λ (r : Result (Unit {0}) MacroFault). r >>= λ done. all_judged copper (body_of (drop (i + 1) body)) parameters unit) (sym is)
+next_judged body i d parameters unit h is =
+    ap (λ (xs : List Primitive). all_judged (body_of xs) parameters unit) (rest_is body i d h) ∙ ap (λ (r : Result (Unit {0}) MacroFault). r >>= λ done. all_judged (body_of (drop (i + 1) body)) parameters unit) (sym is)
 
-pub first_fault : (copper : Copper) (body : List Primitive) (i : ℕ) (d : Primitive) (parameters : List Fraction) (unit : Measure) (fault : MacroFault) → i < length body → Err fault ≡ judged copper (plain (get_or body i d)) parameters unit → all_judged copper (body_of (drop i body)) parameters unit ≡ Err fault
+pub first_fault : (body : List Primitive) (i : ℕ) (d : Primitive) (parameters : List Fraction) (unit : Measure) (fault : MacroFault) → i < length body → Err fault ≡ judged Exact (plain (get_or body i d)) parameters unit → all_judged (body_of (drop i body)) parameters unit ≡ Err fault
 unfolding all_judged
-first_fault copper body i d parameters unit fault h is =
-    ap (λ (xs : List Primitive). all_judged copper (body_of xs) parameters unit) (rest_is body i d h) ∙ ap (λ (r : Result (Unit {0}) MacroFault). r >>= λ done. all_judged copper (body_of (drop (i + 1) body)) parameters unit) (sym is)
+first_fault body i d parameters unit fault h is =
+    ap (λ (xs : List Primitive). all_judged (body_of xs) parameters unit) (rest_is body i d h) ∙ ap (λ (r : Result (Unit {0}) MacroFault). r >>= λ done. all_judged (body_of (drop (i + 1) body)) parameters unit) (sym is)
 
-pub none_faulty : (copper : Copper) (body : List Primitive) (i : ℕ) (parameters : List Fraction) (unit : Measure) → length body ≤ i → all_judged copper (body_of (drop i body)) parameters unit ≡ Ok tt
+pub none_faulty : (body : List Primitive) (i : ℕ) (parameters : List Fraction) (unit : Measure) → length body ≤ i → all_judged (body_of (drop i body)) parameters unit ≡ Ok tt
 unfolding all_judged
-none_faulty copper body i parameters unit h = ap (λ (xs : List Primitive). all_judged copper (body_of xs) parameters unit) (none_left body i h)
+none_faulty body i parameters unit h = ap (λ (xs : List Primitive). all_judged (body_of xs) parameters unit) (none_left body i h)

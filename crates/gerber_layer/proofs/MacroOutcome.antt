@@ -9,12 +9,9 @@ use Rattle.apertures.specs.declared.aperture.Aperture.{Aperture}
 use Rattle.apertures.specs.declared.fault.ApertureFault.{ApertureFault}
 use Rattle.apertures.specs.declared.fault.ApertureFault.TheVariants as aperture
 use Rattle.apertures.specs.Definition.{aperture_at, name_of}
-use Rattle.apertures.specs.Fine.{fine_at}
-use Rattle.apertures.specs.Real.{any_holed_at, or_real, real_aperture_at}
 use Rattle.aperture_macros.specs.BodyWord.{PlainPrimitive, primitive_at}
 use Rattle.aperture_macros.specs.declared.fault.MacroFault.{MacroFault}
-use Rattle.aperture_macros.specs.declared.primitive.Copper.{Copper}
-use Rattle.aperture_macros.specs.declared.primitive.Copper.TheVariants.{Exact, Real}
+use Rattle.aperture_macros.specs.declared.primitive.Copper.TheVariants.{Exact}
 use Rattle.gerber_reading.specs.Command.{Command, defines, functions, names_macro, body_word}
 use Rattle.gerber_reading.specs.declared.TheConstants.{MOST_APERTURES}
 use Rattle.gerber_reading.specs.declared.kind.GerberKind.{GerberKind}
@@ -22,11 +19,10 @@ use Rattle.gerber_reading.specs.declared.kind.GerberKind.TheVariants as kind
 use Rattle.gerber_layer.specs.declared.macro_kind.FlattenKind.{FlattenKind}
 use Rattle.gerber_layer.specs.declared.macro_kind.FlattenKind.TheVariants.{Gerber, BadMacro, MacroTwice, NoMacro, TooManyRadii}
 use Rattle.gerber_layer.specs.Tools.{Tool, composed, composed_in, has_room, macro_named, name_text, number_digits, parameters_in, tool_by}
-use Rattle.gerber_layer.specs.CommandEffects.{Known, Effect, stays, makes, begins_macro, fills_macro, concludes, ◌>>=◌, unless, needed, is_finish, row}
-use Rattle.gerber_layer.specs.MacroTable.{gerber, as_macro, all_judged, is_reserved, name_macro, fill_by, fill_macro, compose, compose_as, is_of_macro, is_of_macros, define_any, define_in, define_real, few_radii, macro_row, row_with_macros, effect_loosely, effect_with_macros}
-use Rattle.gerber_layer.proofs.Outcome.{Defined, IsFilled, Outcome, bind_ok, past_test, got, ok_stays, define_did, reads_did, row_outcome, end_outcome}
+use Rattle.gerber_layer.specs.CommandEffects.{Known, Effect, stays, makes, begins_macro, fills_macro, concludes, ◌>>=◌, unless, needed, define, is_finish, row}
+use Rattle.gerber_layer.specs.MacroTable.{gerber, as_macro, all_judged, is_reserved, name_macro, fill_by, fill_macro, compose, compose_as, is_of_macro, define_any, few_radii, macro_row, row_with_macros, effect_with_macros}
+use Rattle.gerber_layer.proofs.Outcome.{Defined, IsFilled, Outcome, bind_ok, past_test, got, ok_stays, define_did, row_outcome, end_outcome}
 use Rattle.gerber_layer.specs.CommandEffects.{exact_meaning}
-use Rattle.gerber_layer.specs.MacroTable.{loose_meaning, meaning_of}
 
 pub gerber_ok : {A : Type 0} (r : Result A GerberKind) (x : A) → gerber r ≡ Ok x → r ≡ Ok x
 gerber_ok (Ok y) x h = let e : y ≡ x = cc in ap Ok e
@@ -49,22 +45,14 @@ filled false (Ok (Some p)) e h = cc
 filled true (Err fault) e h = cc
 filled false (Err fault) e h = cc
 
-filled_is : (k : Known) (copper : Copper) (text : List ℕ) (e : Effect) → fill_macro k copper text ≡ Ok e → IsFilled (primitive_at copper text) e
+filled_is : (k : Known) (text : List ℕ) (e : Effect) → fill_macro k text ≡ Ok e → IsFilled (primitive_at Exact text) e
 unfolding fill_macro
-filled_is k copper text e h = filled (has_room k.macros.latest) (primitive_at copper text) e h
+filled_is k text e h = filled (has_room k.macros.latest) (primitive_at Exact text) e h
 
 -- a definition of an aperture by a macro
 exactly_of_macro : (r : Result (ℕ × Aperture) ApertureFault) (other : Option (ℕ × Tool)) → is_of_macro r ≡ true → tool_by r other ≡ other
 exactly_of_macro (Err aperture.Macro) other h = refl
 exactly_of_macro any other h = cc
-
-really_of_macro : (r holed fine : Result (ℕ × Aperture) ApertureFault) (other : Option (ℕ × Tool)) → is_of_macro r ≡ true → tool_by (or_real r holed fine) other ≡ other
-really_of_macro (Err aperture.Macro) holed fine other h = refl
-really_of_macro any holed fine other h = cc
-
-of_macro : (copper : Copper) (text : List ℕ) (unit : Measure) (other : Option (ℕ × Tool)) → is_of_macro (aperture_at text unit) ≡ true → tool_by ((meaning_of copper).aperture text unit) other ≡ other
-of_macro Exact text unit other h = exactly_of_macro (aperture_at text unit) other h
-of_macro Real text unit other h = really_of_macro (aperture_at text unit) (any_holed_at text unit) (fine_at text unit) other h
 
 -- what it makes
 record Composed (text : List ℕ) (unit : Measure) (e : Effect) : Type 0 where
@@ -72,82 +60,65 @@ record Composed (text : List ℕ) (unit : Measure) (e : Effect) : Type 0 where
   read : parameters_in (name_text text) ≡ Some parameters
   is : e ≡ makes (digits_value 10 (number_digits text)) (composed (name_of (name_text text)) parameters unit)
 
-composes : (copper : Copper) (k : Known) (n : ℕ) (name : List ℕ) (body : List PlainPrimitive) (parameters : List Fraction) (unit : Measure) (e : Effect) → compose_as copper k n name body parameters unit ≡ Ok e → e ≡ makes n (composed name parameters unit)
+composes : (k : Known) (n : ℕ) (name : List ℕ) (body : List PlainPrimitive) (parameters : List Fraction) (unit : Measure) (e : Effect) → compose_as k n name body parameters unit ≡ Ok e → e ≡ makes n (composed name parameters unit)
 unfolding compose_as
-composes copper k n name body parameters unit e h =
-    let last : Result Effect FlattenKind = as_macro (all_judged copper body parameters unit) >>= λ done. Ok (makes n (composed name parameters unit)) in
+composes k n name body parameters unit e h =
+    let last : Result Effect FlattenKind = as_macro (all_judged body parameters unit) >>= λ done. Ok (makes n (composed name parameters unit)) in
     let one = past_test (is_some (k.defined n)) (Gerber kind.ApertureTwice) (unless (nat_le MOST_APERTURES k.definitions) (Gerber kind.TooManyApertures) last) e h in
     let two = past_test (nat_le MOST_APERTURES k.definitions) (Gerber kind.TooManyApertures) last e one in
-    let d = bind_ok (as_macro (all_judged copper body parameters unit)) (λ done. Ok (makes n (composed name parameters unit))) e two in
+    let d = bind_ok (as_macro (all_judged body parameters unit)) (λ done. Ok (makes n (composed name parameters unit))) e two in
     let done : ◌≡◌ {A = Result Effect FlattenKind} (Ok (makes n (composed name parameters unit))) (Ok e) = d.2 in
     let same : makes n (composed name parameters unit) ≡ e = cc in
     sym same
 
-compose_did : (copper : Copper) (k : Known) (text : List ℕ) (unit : Measure) (e : Effect) → compose copper k text unit ≡ Ok e → Composed text unit e
+compose_did : (k : Known) (text : List ℕ) (unit : Measure) (e : Effect) → compose k text unit ≡ Ok e → Composed text unit e
 unfolding compose
-compose_did copper k text unit e h =
+compose_did k text unit e h =
     let n : ℕ = digits_value 10 (number_digits text) in
     let name : List ℕ = name_of (name_text text) in
-    let b = bind_ok (needed NoMacro (macro_named k.macros (name_of (name_text text)))) (λ body. needed BadMacro (parameters_in (name_text text)) >>= λ parameters. compose_as copper k (digits_value 10 (number_digits text)) (name_of (name_text text)) body parameters unit) e h in
-    let p = bind_ok (needed BadMacro (parameters_in (name_text text))) (λ parameters. compose_as copper k (digits_value 10 (number_digits text)) (name_of (name_text text)) b.0 parameters unit) e b.2 in
-    record { parameters = p.0; read = got BadMacro (parameters_in (name_text text)) p.0 p.1; is = composes copper k n name b.0 p.0 unit e p.2 }
+    let b = bind_ok (needed NoMacro (macro_named k.macros (name_of (name_text text)))) (λ body. needed BadMacro (parameters_in (name_text text)) >>= λ parameters. compose_as k (digits_value 10 (number_digits text)) (name_of (name_text text)) body parameters unit) e h in
+    let p = bind_ok (needed BadMacro (parameters_in (name_text text))) (λ parameters. compose_as k (digits_value 10 (number_digits text)) (name_of (name_text text)) b.0 parameters unit) e b.2 in
+    record { parameters = p.0; read = got BadMacro (parameters_in (name_text text)) p.0 p.1; is = composes k n name b.0 p.0 unit e p.2 }
 
 -- what it comes to where the macro and the parameters are there
-pub compose_is : (copper : Copper) (k : Known) (text word name : List ℕ) (unit : Measure) (body : List PlainPrimitive) (parameters : List Fraction) (n : ℕ) → word ≡ name_text text → name ≡ name_of word → Some body ≡ macro_named k.macros name → Some parameters ≡ parameters_in word → n ≡ digits_value 10 (number_digits text) → compose copper k text unit ≡ compose_as copper k n name body parameters unit
+pub compose_is : (k : Known) (text word name : List ℕ) (unit : Measure) (body : List PlainPrimitive) (parameters : List Fraction) (n : ℕ) → word ≡ name_text text → name ≡ name_of word → Some body ≡ macro_named k.macros name → Some parameters ≡ parameters_in word → n ≡ digits_value 10 (number_digits text) → compose k text unit ≡ compose_as k n name body parameters unit
 unfolding compose
-compose_is copper k text word name unit body parameters n a b h p e =
+compose_is k text word name unit body parameters n a b h p e =
     let there : name ≡ name_of (name_text text) = b ∙ ap name_of a in
     let named : macro_named k.macros (name_of (name_text text)) ≡ Some body = sym (h ∙ ap (macro_named k.macros) there) in
     let read : parameters_in (name_text text) ≡ Some parameters = sym (p ∙ ap parameters_in a) in
-    rw (named, read) (ap (λ (m : ℕ). compose_as copper k m (name_of (name_text text)) body parameters unit) (sym e) ∙ ap (λ (xs : List ℕ). compose_as copper k n xs body parameters unit) (sym there))
+    rw (named, read) (ap (λ (m : ℕ). compose_as k m (name_of (name_text text)) body parameters unit) (sym e) ∙ ap (λ (xs : List ℕ). compose_as k n xs body parameters unit) (sym there))
 
--- a definition of a standard aperture
-standard_did : (copper : Copper) (k : Known) (text : List ℕ) (unit : Measure) (e : Effect) → k.settings.unit ≡ Some unit → define_in copper k text unit ≡ Ok e → Defined (meaning_of copper).aperture k text e
-unfolding define_real
-standard_did Exact k text unit e is h = define_did k text e h
-standard_did Real k text unit e is h = reads_did real_aperture_at k text unit e is h
-
-defined_any : (copper : Copper) (k : Known) (text : List ℕ) (e : Effect) → define_any copper k text ≡ Ok e → Defined (meaning_of copper).aperture k text e
+defined_any : (k : Known) (text : List ℕ) (e : Effect) → define_any k text ≡ Ok e → Defined exact_meaning.aperture k text e
 unfolding define_any
-defined_any copper k text e h =
-    let u = bind_ok (needed (Gerber kind.MissingUnit) k.settings.unit) (λ unit. cond (is_of_macro (aperture_at text unit)) (compose copper k text unit) (gerber (define_in copper k text unit))) e h in
+defined_any k text e h =
+    let u = bind_ok (needed (Gerber kind.MissingUnit) k.settings.unit) (λ unit. cond (is_of_macro (aperture_at text unit)) (compose k text unit) (gerber (define k text))) e h in
     by u.0 (got (Gerber kind.MissingUnit) k.settings.unit u.0 u.1) (is_of_macro (aperture_at text u.0)) refl u.2
   where
-    by : (unit : Measure) → k.settings.unit ≡ Some unit → (b : Bool) → is_of_macro (aperture_at text unit) ≡ b → cond b (compose copper k text unit) (gerber (define_in copper k text unit)) ≡ Ok e → Defined (meaning_of copper).aperture k text e
+    by : (unit : Measure) → k.settings.unit ≡ Some unit → (b : Bool) → is_of_macro (aperture_at text unit) ≡ b → cond b (compose k text unit) (gerber (define k text)) ≡ Ok e → Defined exact_meaning.aperture k text e
     by unit is true of h =
-        let c = compose_did copper k text unit e h in
+        let c = compose_did k text unit e h in
         record {
           unit = unit;
           n = digits_value 10 (number_digits text);
           tool = composed (name_of (name_text text)) c.parameters unit;
           unit_is = is;
-          read_is = of_macro copper text unit (composed_in text unit) of ∙ ap (option_map (λ (ps : List Fraction). (digits_value 10 (number_digits text), composed (name_of (name_text text)) ps unit))) c.read;
+          read_is = exactly_of_macro (aperture_at text unit) (composed_in text unit) of ∙ ap (option_map (λ (ps : List Fraction). (digits_value 10 (number_digits text), composed (name_of (name_text text)) ps unit))) c.read;
           is = c.is;
         }
-    by unit is false of h = standard_did copper k text unit e is (gerber_ok (define_in copper k text unit) e h)
+    by unit is false of h = define_did k text e (gerber_ok (define k text) e h)
 
--- the words that mean something else in real copper have rows of their own
-shared_row : (copper : Copper) (k : Known) (c : Command) (e : Effect) → is_of_macros c ≡ false → Outcome exact_meaning k c e → Outcome (meaning_of copper) k c e
-shared_row Exact k c e apart o = o
-shared_row Real k (defines text) e apart o = absurd (cc)
-shared_row Real k (body_word text) e apart o = absurd (cc)
-shared_row Real k other e apart o = o
-
-read_by : (copper : Copper) (text : List ℕ) (e : Effect) → IsFilled (primitive_at copper text) e → IsFilled ((meaning_of copper).primitive text) e
-read_by Exact text e i = i
-read_by Real text e i = i
-
-pub row_did : (copper : Copper) (k : Known) (c : Command) (e : Effect) → macro_row copper k c ≡ Ok e → Outcome (meaning_of copper) k c e
+pub row_did : (k : Known) (c : Command) (e : Effect) → macro_row k c ≡ Ok e → Outcome exact_meaning k c e
 unfolding macro_row
-row_did copper k (names_macro name) e h = named k name e h
-row_did copper k (body_word text) e h = read_by copper text e (filled_is k copper text e h)
-row_did copper k (defines text) e h = defined_any copper k text e h
-row_did copper k other e h = shared_row copper k other e refl (row_outcome k other e (gerber_ok (row k other) e h))
+row_did k (names_macro name) e h = named k name e h
+row_did k (body_word text) e h = filled_is k text e h
+row_did k (defines text) e h = defined_any k text e h
+row_did k other e h = row_outcome k other e (gerber_ok (row k other) e h)
 
 flat_did : (k : Known) (c : Command) (e : Effect) → row_with_macros k c ≡ Ok e → Outcome exact_meaning k c e
 unfolding row_with_macros
 flat_did k (functions function layer) e h = ok_stays e h
-flat_did k other e h = row_did Exact k other e h
+flat_did k other e h = row_did k other e h
 
 few_same : (x e : Effect) → few_radii x ≡ Ok e → x ≡ e
 few_same (concludes pieces) e h = let f : ◌≡◌ {A = Result Effect FlattenKind} (Ok (concludes pieces)) (Ok e) = past_test (nat_lt MOST_APERTURES (length (radii_of pieces))) TooManyRadii (Ok (concludes pieces)) e h in cc
@@ -163,11 +134,3 @@ outcome_with_macros k c e h = by k.settings.ended h
     by : (b : Bool) → cond b (cond (is_finish c) (Ok stays) (Err (Gerber kind.AfterEnd))) (row_with_macros k c >>= few_radii) ≡ Ok e → Outcome exact_meaning k c e
     by true h = end_outcome exact_meaning k c e (Gerber kind.AfterEnd) h
     by false h = flat_did k c e (few_ok (row_with_macros k c) e h)
-
-pub outcome_loosely : (k : Known) (c : Command) (e : Effect) → effect_loosely k c ≡ Ok e → Outcome loose_meaning k c e
-unfolding effect_loosely
-outcome_loosely k c e h = by k.settings.ended h
-  where
-    by : (b : Bool) → cond b (cond (is_finish c) (Ok stays) (Err (Gerber kind.AfterEnd))) (macro_row Real k c) ≡ Ok e → Outcome loose_meaning k c e
-    by true h = end_outcome loose_meaning k c e (Gerber kind.AfterEnd) h
-    by false h = row_did Real k c e h

@@ -13,12 +13,11 @@ use Rattle.gerber_reading.specs.declared.kind.GerberKind.{GerberKind}
 use Rattle.gerber_reading.specs.declared.kind.GerberKind.TheVariants as kind
 use Rattle.gerber_reading.specs.declared.command.Code.{Code}
 use Rattle.gerber_reading.specs.declared.command.Code.TheVariants.{Draw, Move, Flash}
-use Rattle.aperture_macros.specs.BodyWord.{PlainPrimitive}
+use Rattle.aperture_macros.specs.BodyWord.{PlainPrimitive, primitive_at}
 use Rattle.aperture_macros.specs.declared.fault.MacroFault.{MacroFault}
-use Rattle.aperture_macros.specs.declared.primitive.Copper.{Copper}
-use Rattle.aperture_macros.specs.declared.primitive.Copper.TheVariants.{Exact, Real}
+use Rattle.aperture_macros.specs.declared.primitive.Copper.TheVariants.{Exact}
 use Rattle.gerber_layer.specs.declared.macro_kind.FlattenKind.TheVariants.{Gerber}
-use Rattle.gerber_layer.specs.MacroTable.{effect_loosely, effect_with_macros, few_radii, loose_table, macro_row, macro_table, meaning_of, row_with_macros}
+use Rattle.gerber_layer.specs.MacroTable.{effect_with_macros, few_radii, macro_row, macro_table, row_with_macros}
 use Rattle.gerber_reading.specs.Outcomes.{KeepsLayer, OnLayer}
 use Rattle.gerber_layer.proofs.MacroOutcome.{few_ok, gerber_ok, row_did}
 use Rattle.gerber_layer.specs.CommandEffects.{Place, Known, Effect, plain_table, stays, begins_macro, fills_macro, is_finish, performs, extends, closes, opens, leaves, steps, concludes, ◌>>=◌, as_copies, with_copies, left, listed, ended_block, next_block, repeat, row, effect, code_of}
@@ -132,17 +131,17 @@ filled_on p k n (Ok None) e is on = simple_on p n k.pieces e (simple_by e stays 
 filled_on p k n (Ok (Some primitive)) e is on = simple_on p n k.pieces e (simple_by e (fills_macro primitive) is tt) on
 filled_on p k n (Err fault) e is on = absurd is
 
-macro_on : (copper : Copper) (p : Place) (k : Known) (n : ℕ) (c : Command) (e : Effect) → All (OnLayer p) k.pieces → macro_row copper k c ≡ Ok e → All (OnLayer p) (pieces_after p n k.pieces e)
+macro_on : (p : Place) (k : Known) (n : ℕ) (c : Command) (e : Effect) → All (OnLayer p) k.pieces → macro_row k c ≡ Ok e → All (OnLayer p) (pieces_after p n k.pieces e)
 unfolding macro_row
-macro_on copper p k n (names_macro name) e on h = simple_on p n k.pieces e (simple_by e (begins_macro name) (row_did copper k (names_macro name) e h) tt) on
-macro_on copper p k n (body_word text) e on h = filled_on p k n ((meaning_of copper).primitive text) e (row_did copper k (body_word text) e h) on
-macro_on copper p k n (defines text) e on h = let o = row_did copper k (defines text) e h in simple_on p n k.pieces e (simple_by e _ o.is tt) on
-macro_on copper p k n other e on h = row_on p k n other e on (gerber_ok (row k other) e h)
+macro_on p k n (names_macro name) e on h = simple_on p n k.pieces e (simple_by e (begins_macro name) (row_did k (names_macro name) e h) tt) on
+macro_on p k n (body_word text) e on h = filled_on p k n (primitive_at Exact text) e (row_did k (body_word text) e h) on
+macro_on p k n (defines text) e on h = let o = row_did k (defines text) e h in simple_on p n k.pieces e (simple_by e _ o.is tt) on
+macro_on p k n other e on h = row_on p k n other e on (gerber_ok (row k other) e h)
 
 flat_on : (p : Place) (k : Known) (n : ℕ) (c : Command) (e : Effect) → All (OnLayer p) k.pieces → row_with_macros k c ≡ Ok e → All (OnLayer p) (pieces_after p n k.pieces e)
 unfolding row_with_macros
 flat_on p k n (functions function layer) e on h = simple_on p n k.pieces e (simple_by e stays (ok_stays e h) tt) on
-flat_on p k n other e on h = macro_on Exact p k n other e on h
+flat_on p k n other e on h = macro_on p k n other e on h
 
 -- behind the end nothing is made
 ended_or : {W : Type 0} (p : Place) (k : Known) (n : ℕ) (ended finish : Bool) (why : W) (row : Result Effect W) (e : Effect) → All (OnLayer p) k.pieces → (row ≡ Ok e → All (OnLayer p) (pieces_after p n k.pieces e)) → cond ended (cond finish (Ok stays) (Err why)) row ≡ Ok e → All (OnLayer p) (pieces_after p n k.pieces e)
@@ -157,7 +156,3 @@ effect_on p k n c e on h = ended_or p k n k.settings.ended (is_finish c) kind.Af
 pub macros_on : KeepsLayer macro_table
 unfolding effect_with_macros
 macros_on p k n c e on h = ended_or p k n k.settings.ended (is_finish c) (Gerber kind.AfterEnd) (row_with_macros k c >>= few_radii) e on (λ few. flat_on p k n c e on (few_ok (row_with_macros k c) e few)) h
-
-pub loose_on : KeepsLayer loose_table
-unfolding effect_loosely
-loose_on p k n c e on h = ended_or p k n k.settings.ended (is_finish c) (Gerber kind.AfterEnd) (macro_row Real k c) e on (macro_on Real p k n c e on) h

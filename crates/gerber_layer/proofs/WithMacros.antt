@@ -1,22 +1,17 @@
 -- Files with macros.
-use Rattle.std.proofs.Common.{◌≡◌, Bool, true, false, cond, [], Some, Result, Ok, Err, refl, ap, ◌∙◌, subst, sym}
-use Rattle.file_reading.specs.declared.halt.Halt.{Halt}
-use Rattle.file_reading.specs.declared.halt.Halt.TheVariants as halt
-use Rattle.gerber_reading.specs.Command.{Command, names_macro, body_word, defines}
+use Rattle.std.proofs.Common.{◌≡◌, false, [], Some, Result, Ok, refl, ap, ◌∙◌, subst, sym}
+use Rattle.gerber_reading.specs.Command.{Command}
 use Rattle.gerber_reading.specs.declared.kind.GerberKind.{GerberKind}
-use Rattle.gerber_reading.specs.declared.kind.GerberKind.TheVariants as kind
 use Rattle.gerber_layer.specs.declared.macro_kind.FlattenKind.{FlattenKind}
-use Rattle.gerber_layer.specs.declared.macro_kind.FlattenKind.TheVariants.{Gerber}
 use Rattle.aperture_macros.specs.Seen.{plain}
-use Rattle.aperture_macros.specs.declared.primitive.Copper.TheVariants.{Real}
 use Rattle.board_shapes.specs.declared.shape.Shape.TheVariants.{Round}
 use Rattle.board_shapes.specs.Figures.{figure_of}
 use Rattle.gerber_layer.specs.declared.effect.Effect.{Effect as Seen}
 use Rattle.gerber_layer.specs.declared.effect.Effect.TheVariants as seen
-use Rattle.gerber_layer.specs.CommandEffects.{Known, Effect, stays, makes, begins_macro, fills_macro, performs, extends, closes, opens, leaves, steps, room_for, effect, is_finish, row, ◌>>=◌}
-use Rattle.gerber_layer.specs.MacroTable.{effect_loosely, few_radii, gerber, is_of_macros, macro_row}
-use Rattle.gerber_layer.specs.MacroReader.{any_halt, is_end}
-use Rattle.gerber_layer.specs.Reader.{Reader, Obeys, Stops, known_of, shown, tool_of}
+use Rattle.gerber_layer.specs.CommandEffects.{Known, Effect, stays, makes, begins_macro, fills_macro, performs, extends, closes, opens, leaves, steps, room_for, ◌>>=◌}
+use Rattle.gerber_layer.specs.MacroTable.{few_radii, gerber}
+use Rattle.gerber_layer.specs.MacroReader.{is_end}
+use Rattle.gerber_layer.specs.Reader.{Reader, Obeys, shown, tool_of}
 use Rattle.gerber_layer.proofs.Outcome.{then_goes, flash_goes, extend_is, close_is, area_left, steps_is}
 
 -- ---- The end of a file
@@ -64,31 +59,3 @@ obeys_as old new c what all o is = record {
 
 pub obeys_with : (old new : Reader) (c : Command) (what : Result Effect GerberKind) (all : Result Effect FlattenKind) (o : Obeys old c what new) → (gerber what >>= few_radii) ≡ all → few_radii o.effect_is ≡ Ok o.effect_is → Obeys old c all new
 obeys_with old new c what all o same few = obeys_as old new c what all o (sym (all_is what all o.effect_is o.clean same) ∙ few)
-
-pub obeys_loosely : (old new : Reader) (c : Command) (what : Result Effect GerberKind) (all : Result Effect FlattenKind) → Obeys old c what new → gerber what ≡ all → Obeys old c all new
-obeys_loosely old new c what all o same = obeys_as old new c what all o (sym same ∙ ap (λ (r : Result Effect GerberKind). gerber r) o.clean)
-
--- ---- Commands whose rows are those of a file without macros
-
-plain_row : (k : Known) (c : Command) → is_of_macros c ≡ false → gerber (row k c) ≡ macro_row Real k c
-unfolding macro_row
-plain_row k (names_macro name) apart = absurd (cc)
-plain_row k (body_word text) apart = absurd (cc)
-plain_row k (defines text) apart = absurd (cc)
-plain_row k other apart = refl
-
-plain_effect : (k : Known) (c : Command) → is_of_macros c ≡ false → gerber (effect k c) ≡ effect_loosely k c
-unfolding effect effect_loosely
-plain_effect k c apart = by k.settings.ended (is_finish c)
-  where
-    by : (ended last : Bool) → gerber (cond ended (cond last (Ok stays) (Err kind.AfterEnd)) (row k c)) ≡ cond ended (cond last (Ok stays) (Err (Gerber kind.AfterEnd))) (macro_row Real k c)
-    by true true = refl
-    by true false = refl
-    by false last = plain_row k c apart
-
-pub obeys_plainly : (old new : Reader) (c : Command) → is_of_macros c ≡ false → Obeys old c (effect (known_of old) c) new → Obeys old c (effect_loosely (known_of old) c) new
-obeys_plainly old new c apart o = obeys_loosely old new c (effect (known_of old) c) (effect_loosely (known_of old) c) o (plain_effect (known_of old) c apart)
-
-pub stops_plainly : (k : Known) (c : Command) (why : Halt GerberKind) → is_of_macros c ≡ false → Stops (effect k c) why → Stops (effect_loosely k c) (any_halt why)
-stops_plainly k c (halt.Fault why) apart stops = sym (plain_effect k c apart) ∙ ap (λ (r : Result Effect GerberKind). gerber r) stops
-stops_plainly k c halt.NoMemory apart stops = tt

@@ -3,7 +3,6 @@ use Rattle.std.specs.Prelude.{◌&&◌, if◌then◌else◌, drop, codes}
 use Rattle.texts.specs.Words.{begins}
 use Rattle.gerber_words.specs.Words.{Entry}
 use Rattle.gerber_reading.specs.Command.{Command, names_macro, body_word}
-use Rattle.gerber_layer.specs.StraightCommands.{straight_command}
 use Rattle.gerber_layer.specs.WordCommands.{command_of}
 
 -- `AM` names a macro, the words behind it in its pair are its body, and every other word is this command
@@ -16,7 +15,3 @@ macro_or other w =
 -- which is what it is elsewhere
 abbrev pub command_with_macros : Entry → Command
 command_with_macros w = macro_or (command_of w) w
-
--- or of real copper, where arcs are straight
-abbrev pub loose_command : Entry → Command
-loose_command w = macro_or (straight_command w) w

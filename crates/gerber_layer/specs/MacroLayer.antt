@@ -6,8 +6,8 @@ use Rattle.file_reading.specs.declared.fault.FileFault.{FileFault}
 use Rattle.gerber_layer.specs.declared.TheConstants.{MOST_FLAT_EDGES}
 use Rattle.gerber_reading.specs.Dialect.{Dialect, HasOneAnswerBy, IsFaultBy, IsReadBy, IsRefusedBy}
 use Rattle.gerber_layer.specs.declared.macro_kind.FlattenKind.{FlattenKind}
-use Rattle.gerber_layer.specs.MacroCommands.{command_with_macros, loose_command}
-use Rattle.gerber_layer.specs.MacroTable.{loose_table, macro_table}
+use Rattle.gerber_layer.specs.MacroCommands.{command_with_macros}
+use Rattle.gerber_layer.specs.MacroTable.{macro_table}
 use Rattle.apertures.specs.declared.aperture.Aperture.{Aperture}
 use Rattle.board_shapes.specs.Figures.{Figure}
 use Rattle.gerber_layer.specs.CommandEffects.{Place}
@@ -15,10 +15,6 @@ use Rattle.gerber_layer.specs.CommandEffects.{Place}
 -- the dialect with macros
 abbrev pub with_macros : Dialect Figure (Unit {0}) Aperture FlattenKind
 with_macros = record { command = command_with_macros; table = macro_table }
-
--- The dialect of real copper: each arc draw is straight, apertures may have holes and odd sizes, and there may be macros, whose lines may be slanted and whose turns are by degrees.
-abbrev pub loose : Dialect Figure (Unit {0}) Aperture FlattenKind
-loose = record { command = loose_command; table = loose_table }
 
 -- the pieces stand on layer 1 of file 0, and there is room for MOST_PIECES pieces and MOST_FLAT_EDGES edges
 abbrev pub flat_place : Place

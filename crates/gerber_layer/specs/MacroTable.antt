@@ -9,13 +9,11 @@ use Rattle.apertures.specs.declared.aperture.Aperture.{Aperture}
 use Rattle.apertures.specs.declared.fault.ApertureFault.{ApertureFault}
 use Rattle.apertures.specs.declared.fault.ApertureFault.TheVariants as aperture
 use Rattle.apertures.specs.Definition.{aperture_at, name_of}
-use Rattle.apertures.specs.Real.{real_aperture_at}
 use Rattle.aperture_macros.specs.BodyWord.{PlainPrimitive, primitive_at}
 use Rattle.aperture_macros.specs.Flashes.{judged}
 use Rattle.aperture_macros.specs.declared.fault.MacroFault.{MacroFault}
 use Rattle.aperture_macros.specs.declared.fault.MacroFault.TheVariants as shape
-use Rattle.aperture_macros.specs.declared.primitive.Copper.{Copper}
-use Rattle.aperture_macros.specs.declared.primitive.Copper.TheVariants.{Exact, Real}
+use Rattle.aperture_macros.specs.declared.primitive.Copper.TheVariants.{Exact}
 use Rattle.gerber_reading.specs.Command.{Command, defines, functions, names_macro, body_word}
 use Rattle.gerber_reading.specs.declared.TheConstants.{MOST_APERTURES}
 use Rattle.gerber_reading.specs.declared.kind.GerberKind.{GerberKind}
@@ -25,7 +23,7 @@ use Rattle.gerber_layer.specs.declared.macro_kind.FlattenKind.TheVariants.{Gerbe
 use Rattle.gerber_layer.specs.Radii.{radii_of}
 use Rattle.gerber_layer.specs.WordCommands.{is_empty}
 use Rattle.gerber_layer.specs.Tools.{composed, has_room, macro_named, name_text, number_digits, parameters_in}
-use Rattle.gerber_layer.specs.CommandEffects.{Known, Effect, Meaning, Profile, exact_meaning, stays, makes, begins_macro, fills_macro, concludes, ◌>>=◌, unless, needed, read, define, define_as, is_finish, row}
+use Rattle.gerber_layer.specs.CommandEffects.{Known, Effect, Profile, exact_meaning, stays, makes, begins_macro, fills_macro, concludes, ◌>>=◌, unless, needed, define, is_finish, row}
 
 -- how the rows of `CommandEffects` refuse
 abbrev pub gerber : {A : Type 0} → Result A GerberKind → Result A FlattenKind
@@ -61,60 +59,44 @@ fill_by room (Ok (Some primitive)) = if room then Ok (fills_macro primitive) els
 fill_by room (Err fault) = if room then Err (kind_of_macro fault) else Err BadMacro
 
 -- the row of a word of a macro's body: a comment, or a primitive
-unfoldable pub fill_macro : Known → Copper → List ℕ → Result Effect FlattenKind
-fill_macro k copper text = fill_by (has_room k.macros.latest) (primitive_at copper text)
+unfoldable pub fill_macro : Known → List ℕ → Result Effect FlattenKind
+fill_macro k text = fill_by (has_room k.macros.latest) (primitive_at Exact text)
 
 -- the first fault of the primitives with these parameters, if one has a fault
-unfoldable pub all_judged : Copper → List PlainPrimitive → List Fraction → Measure → Result (Unit {0}) MacroFault
-all_judged copper [] parameters unit = Ok tt
-all_judged copper (p ∷ body) parameters unit = judged copper p parameters unit >>= λ done. all_judged copper body parameters unit
+unfoldable pub all_judged : List PlainPrimitive → List Fraction → Measure → Result (Unit {0}) MacroFault
+all_judged [] parameters unit = Ok tt
+all_judged (p ∷ body) parameters unit = judged Exact p parameters unit >>= λ done. all_judged body parameters unit
 
--- an aperture n of the macro of this name and body with these parameters, of such copper
-unfoldable pub compose_as : Copper → Known → ℕ → List ℕ → List PlainPrimitive → List Fraction → Measure → Result Effect FlattenKind
-compose_as copper k n name body parameters unit =
+-- an aperture n of the macro of this name and body with these parameters
+unfoldable pub compose_as : Known → ℕ → List ℕ → List PlainPrimitive → List Fraction → Measure → Result Effect FlattenKind
+compose_as k n name body parameters unit =
     unless (is_some (k.defined n)) (Gerber kind.ApertureTwice) (unless (nat_le MOST_APERTURES k.definitions) (Gerber kind.TooManyApertures)
-    (as_macro (all_judged copper body parameters unit) >>= λ done. Ok (makes n (composed name parameters unit))))
+    (as_macro (all_judged body parameters unit) >>= λ done. Ok (makes n (composed name parameters unit))))
 
 -- a definition of an aperture by a macro
-unfoldable pub compose : Copper → Known → List ℕ → Measure → Result Effect FlattenKind
-compose copper k text unit = do
+unfoldable pub compose : Known → List ℕ → Measure → Result Effect FlattenKind
+compose k text unit = do
   body ← needed NoMacro (macro_named k.macros (name_of (name_text text)))
   parameters ← needed BadMacro (parameters_in (name_text text))
-  compose_as copper k (digits_value 10 (number_digits text)) (name_of (name_text text)) body parameters unit
+  compose_as k (digits_value 10 (number_digits text)) (name_of (name_text text)) body parameters unit
 
 -- the name is none of a standard aperture
 abbrev pub is_of_macro : Result (ℕ × Aperture) ApertureFault → Bool
 is_of_macro (Err aperture.Macro) = true
 is_of_macro other = false
 
--- the row of a definition of a standard aperture in such copper: in real copper a circle, a rectangle or an obround may have a hole, and
--- sizes may be odd
-unfoldable pub define_real : Known → List ℕ → Measure → Result Effect GerberKind
-define_real k text unit = read (real_aperture_at text unit) >>= λ made. define_as k made
-
-abbrev pub define_in : Copper → Known → List ℕ → Measure → Result Effect GerberKind
-define_in Exact k text unit = define k text
-define_in Real k text unit = define_real k text unit
-
 -- the row of a definition
-unfoldable pub define_any : Copper → Known → List ℕ → Result Effect FlattenKind
-define_any copper k text =
+unfoldable pub define_any : Known → List ℕ → Result Effect FlattenKind
+define_any k text =
     needed (Gerber kind.MissingUnit) k.settings.unit >>= λ unit.
-    if is_of_macro (aperture_at text unit) then compose copper k text unit else gerber (define_in copper k text unit)
+    if is_of_macro (aperture_at text unit) then compose k text unit else gerber (define k text)
 
 -- The rows where a file may have macros.
-unfoldable pub macro_row : Copper → Known → Command → Result Effect FlattenKind
-macro_row copper k (names_macro name) = name_macro k name
-macro_row copper k (body_word text) = fill_macro k copper text
-macro_row copper k (defines text) = define_any copper k text
-macro_row copper k other = gerber (row k other)
-
--- the commands that have a row of their own there
-abbrev pub is_of_macros : Command → Bool
-is_of_macros (names_macro name) = true
-is_of_macros (body_word text) = true
-is_of_macros (defines text) = true
-is_of_macros other = false
+unfoldable pub macro_row : Known → Command → Result Effect FlattenKind
+macro_row k (names_macro name) = name_macro k name
+macro_row k (body_word text) = fill_macro k text
+macro_row k (defines text) = define_any k text
+macro_row k other = gerber (row k other)
 
 -- a word of the file's function
 abbrev pub is_function : Command → Bool
@@ -123,7 +105,7 @@ is_function other = false
 
 -- Where copper is flattened, it is taken exactly, and a file's function is any.
 unfoldable pub row_with_macros : Known → Command → Result Effect FlattenKind
-row_with_macros k c = if is_function c then Ok stays else macro_row Exact k c
+row_with_macros k c = if is_function c then Ok stays else macro_row k c
 
 -- where the file ends, its image has at most MOST_APERTURES radii
 abbrev pub few_radii : Effect → Result Effect FlattenKind
@@ -142,21 +124,6 @@ behind_end c = if is_finish c then Ok stays else Err (Gerber kind.AfterEnd)
 unfoldable pub effect_with_macros : Known → Command → Result Effect FlattenKind
 effect_with_macros k c = if k.settings.ended then behind_end c else with_few_radii (row_with_macros k c)
 
--- The table of real copper: a file's function is judged as without macros, and radii are not counted.
-unfoldable pub effect_loosely : Known → Command → Result Effect FlattenKind
-effect_loosely k c = if k.settings.ended then behind_end c else macro_row Real k c
-
--- both tables, and what their words mean: in real copper apertures may have holes and odd sizes, and primitives are those of real copper
+-- the table, and what its words mean
 abbrev pub macro_table : Profile FlattenKind
 macro_table = record { does = effect_with_macros; means = exact_meaning }
-
-abbrev pub loose_meaning : Meaning (Unit {0}) Aperture
-loose_meaning = record { edge = λ s c. tt; aperture = real_aperture_at; primitive = primitive_at Real }
-
--- by the copper
-abbrev pub meaning_of : Copper → Meaning (Unit {0}) Aperture
-meaning_of Exact = exact_meaning
-meaning_of Real = loose_meaning
-
-abbrev pub loose_table : Profile FlattenKind
-loose_table = record { does = effect_loosely; means = loose_meaning }

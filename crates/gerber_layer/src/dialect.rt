@@ -1,17 +1,16 @@
-//! The dialects of copper whose pieces are shapes: by the standard apertures alone, with macros, and of real copper.
+//! The dialects of copper whose pieces are shapes: by the standard apertures alone, and with macros.
 ghost use Rattle.std.specs.Prelude.{◌≡◌};
 ghost use Rattle.board_shapes.specs.Figures.{Figure, figure_of};
 ghost use Rattle.step_repeat.specs.Figures.{shape_handling};
 ghost use Rattle.gerber_layer.specs.Layer.{standard};
-ghost use Rattle.gerber_layer.specs.MacroLayer.{loose, with_macros};
+ghost use Rattle.gerber_layer.specs.MacroLayer.{with_macros};
 ghost use Rattle.gerber_layer.specs.MacroReader.{any_halt};
 ghost use Rattle.gerber_layer.specs.Reader.{Fits, KeepsStraight};
 
 use crate::macro_kind::FlattenKind;
-use crate::macro_rows::{effect_loosely, effect_with_macros, has_few_radii, is_of_macros};
+use crate::macro_rows::{effect_with_macros, has_few_radii};
 use crate::operations::obey;
 use crate::reader::{PlainReader, go_on};
-use crate::straight_commands::read_loose_command;
 use crate::word_commands::{read_command, read_macro_command};
 use apertures::Aperture;
 use board_shapes::Shape;
@@ -104,57 +103,6 @@ impl Dialect for WithMacros {
             has_few_radii(reader, alloc)
         } else {
             Ok(())
-        }
-    }
-}
-
-/// Real copper: each arc draw is straight, apertures may have holes and odd sizes, and there may be aperture macros, whose lines
-/// may be slanted and whose turns are by degrees.
-pub struct Loose;
-
-impl Dialect for Loose {
-    type Kind = FlattenKind;
-
-    type Figure = Shape;
-
-    type Edge = ();
-
-    type Aperture = Aperture;
-
-    ghost Plain = { Figure };
-
-    ghost plain = { figure_of };
-
-    ghost handling = { shape_handling };
-
-    ghost Fits = { Fits };
-
-    ghost Keeps = { KeepsStraight };
-
-    ghost dialect = { loose };
-
-    fn is_lawful() {}
-
-    fn read<'a>(word: Word<'a>) -> Command<'a> {
-        read_loose_command(word)
-    }
-
-    fn obey<'a>(
-        reader: &mut PlainReader<'a>,
-        alloc: Global,
-        command: &Command<'a>,
-    ) -> Result<(), Halt<FlattenKind>> {
-        // Most commands have the row of a file without macros, by fewer steps.
-        if !is_of_macros(command) {
-            return match obey(reader, alloc, command) {
-                Ok(()) => Ok(()),
-                Err(halt) => Err(any_halt(halt)),
-            };
-        }
-        let effect = effect_loosely(reader, alloc, command)?;
-        match go_on(reader, alloc, command, effect) {
-            Ok(()) => Ok(()),
-            Err(halt) => Err(any_halt(halt)),
         }
     }
 }

@@ -7,16 +7,16 @@ ghost use Rattle.gerber_layer.specs.MacroReader.{showing_any};
 ghost use Rattle.gerber_layer.specs.MacroTable as spec;
 ghost use Rattle.apertures.specs.Definition.{aperture_at};
 ghost use Rattle.gerber_layer.specs.MacroTable.{as_macro, gerber};
-ghost use Rattle.gerber_layer.specs.Reader.{AreBlank, IsFit, IsLawfulReader, Stops, body_of, known_of, macros_in, showing, shown};
+ghost use Rattle.gerber_layer.specs.Reader.{AreBlank, IsFit, IsLawfulReader, Stops, body_of, known_of, macros_in, shown};
 ghost use Rattle.gerber_layer.specs.Tools.{macro_named};
 ghost use Rattle.gerber_layer.specs.CommandEffects.{concludes, row, stays};
 
 use crate::effect::Effect;
 use crate::macro_kind::FlattenKind;
 use crate::radii::Radii;
-use crate::reader::{PlainReader, define, define_as, effect};
+use crate::reader::{PlainReader, define, effect};
 use aperture_macros::{Copper, Primitive, read_body};
-use apertures::{ApertureFault, name_text, number, read_aperture, read_real_aperture};
+use apertures::{ApertureFault, name_text, number, read_aperture};
 use file_reading::Halt;
 use gerber_reading::{Command, GerberKind, MOST_APERTURES, Tool, is_finish, read_parameters};
 use lengths::decimal::{Decimal, Unit};
@@ -47,18 +47,17 @@ fn is_of_macro(text: &[u8], unit: Unit) -> bool
 #[tactic(auto, unfolding(crate::specs::MacroTable::all_judged))]
 fn judge(
     alloc: Global,
-    copper: Copper,
     body: &[Primitive],
     parameters: &[Decimal],
     unit: Unit,
 ) -> Result<Vec<bool>, Halt<FlattenKind>>
-    ensures ok { IfOk result (λ marks. spec.all_judged copper (body_of body.now) parameters.now unit ≡ Ok tt) }
+    ensures ok { IfOk result (λ marks. spec.all_judged (body_of body.now) parameters.now unit ≡ Ok tt) }
     ensures blank { IfOk result (λ marks. AreBlank (body_of body.now) parameters.now unit marks.items) }
-    ensures halt { IfErr result (Stops (as_macro (spec.all_judged copper (body_of body.now) parameters.now unit))) }
+    ensures halt { IfErr result (Stops (as_macro (spec.all_judged (body_of body.now) parameters.now unit))) }
 {
     let mut marks = Vec::new(alloc);
     for primitive in body {
-        let has_image = match primitive.has_image(copper, parameters, unit) {
+        let has_image = match primitive.has_image(Copper::Exact, parameters, unit) {
             Ok(has_image) => has_image,
             Err(fault) => return Err(Halt::Fault(FlattenKind::from(fault))),
         };
@@ -79,16 +78,6 @@ fn behind_end<'a>(command: &Command<'a>) -> MacroRow<'a>
     } else {
         Err(Halt::Fault(FlattenKind::Gerber(GerberKind::AfterEnd)))
     }
-}
-
-/// Whether a command has another row where the file may have macros.
-pub fn is_of_macros(command: &Command) -> bool
-    ensures { result ≡ spec.is_of_macros (view command.now) }
-{
-    matches!(
-        command,
-        Command::Macro(_) | Command::Body(_) | Command::Define(_)
-    )
 }
 
 // Whether a word is of the file's function.
@@ -115,16 +104,12 @@ fn name_macro<'a>(reader: &PlainReader<'a>, name: &'a [u8]) -> Result<Effect<'a>
 
 // A word of a macro's body.
 #[tactic(auto, unfolding(crate::specs::MacroTable::fill_macro))]
-fn fill_macro<'a>(
-    reader: &PlainReader<'a>,
-    copper: Copper,
-    text: &'a [u8],
-) -> Result<Effect<'a>, FlattenKind>
-    ensures value { showing_any (known_of reader.now) result ≡ spec.fill_macro (known_of reader.now) copper text.now }
+fn fill_macro<'a>(reader: &PlainReader<'a>, text: &'a [u8]) -> Result<Effect<'a>, FlattenKind>
+    ensures value { showing_any (known_of reader.now) result ≡ spec.fill_macro (known_of reader.now) text.now }
     ensures fit { IfOk result (IsFit reader.now.dictionary) }
 {
     let room = reader.dictionary.has_room();
-    match read_body(copper, text) {
+    match read_body(Copper::Exact, text) {
         Ok(None) => Ok(Effect::Stays),
         Ok(Some(primitive)) => if room {
             Ok(Effect::Fills(primitive))
@@ -141,17 +126,11 @@ fn fill_macro<'a>(
 
 // An aperture of a macro.
 #[tactic(auto, unfolding(crate::specs::MacroTable::compose))]
-fn compose<'a>(
-    reader: &PlainReader<'a>,
-    alloc: Global,
-    copper: Copper,
-    text: &'a [u8],
-    unit: Unit,
-) -> MacroRow<'a>
+fn compose<'a>(reader: &PlainReader<'a>, alloc: Global, text: &'a [u8], unit: Unit) -> MacroRow<'a>
     requires { spec.is_of_macro (aperture_at text.now unit) ≡ true }
-    ensures ok { IfOk result (λ e. gerber (shown (known_of reader.now) e) ≡ spec.compose copper (known_of reader.now) text.now unit) }
+    ensures ok { IfOk result (λ e. gerber (shown (known_of reader.now) e) ≡ spec.compose (known_of reader.now) text.now unit) }
     ensures fit { IfOk result (IsFit reader.now.dictionary) }
-    ensures halt { IfErr result (Stops (spec.compose copper (known_of reader.now) text.now unit)) }
+    ensures halt { IfErr result (Stops (spec.compose (known_of reader.now) text.now unit)) }
 {
     let word = name_text(text);
     let name = before_byte(word, b',');
@@ -164,16 +143,7 @@ fn compose<'a>(
     let Some(parameters) = parameters else {
         return Err(Halt::Fault(FlattenKind::BadMacro));
     };
-    compose_as(
-        reader,
-        alloc,
-        copper,
-        number(text),
-        name,
-        body,
-        parameters,
-        unit,
-    )
+    compose_as(reader, alloc, number(text), name, body, parameters, unit)
 }
 
 // An aperture of the macro of this name and body.
@@ -181,7 +151,6 @@ fn compose<'a>(
 fn compose_as<'a>(
     reader: &PlainReader<'a>,
     alloc: Global,
-    copper: Copper,
     n: u32,
     name: &'a [u8],
     body: &[Primitive],
@@ -189,65 +158,31 @@ fn compose_as<'a>(
     unit: Unit,
 ) -> MacroRow<'a>
     requires found { macro_named (macros_in reader.now.dictionary) name.now ≡ Some (body_of body.now) }
-    ensures ok { IfOk result (λ e. gerber (shown (known_of reader.now) e) ≡ spec.compose_as copper (known_of reader.now) n name.now (body_of body.now) parameters.items unit) }
+    ensures ok { IfOk result (λ e. gerber (shown (known_of reader.now) e) ≡ spec.compose_as (known_of reader.now) n name.now (body_of body.now) parameters.items unit) }
     ensures fit { IfOk result (IsFit reader.now.dictionary) }
-    ensures halt { IfErr result (Stops (spec.compose_as copper (known_of reader.now) n name.now (body_of body.now) parameters.items unit)) }
+    ensures halt { IfErr result (Stops (spec.compose_as (known_of reader.now) n name.now (body_of body.now) parameters.items unit)) }
 {
     if let Err(kind) = reader.judge_number(n) {
         return Err(Halt::Fault(FlattenKind::Gerber(kind)));
     }
-    let marks = judge(alloc, copper, body, &parameters, unit)?;
+    let marks = judge(alloc, body, &parameters, unit)?;
     Ok(Effect::Makes(n, Tool::Composed(name, parameters, unit, marks)))
-}
-
-// A standard aperture, which in real copper may have a hole or odd sizes.
-#[tactic(auto, unfolding(crate::specs::MacroTable::define_real))]
-fn define_real<'a>(
-    reader: &PlainReader<'a>,
-    text: &[u8],
-    unit: Unit,
-) -> Result<Effect<'a>, GerberKind>
-    ensures value { showing (known_of reader.now) result ≡ spec.define_real (known_of reader.now) text.now unit }
-    ensures fit { IfOk result (IsFit reader.now.dictionary) }
-{
-    let (n, aperture) = read_real_aperture(text, unit)?;
-    define_as(reader, n, aperture)
-}
-
-fn define_in<'a>(
-    reader: &PlainReader<'a>,
-    copper: Copper,
-    text: &[u8],
-    unit: Unit,
-) -> Result<Effect<'a>, GerberKind>
-    ensures value { showing (known_of reader.now) result ≡ spec.define_in copper (known_of reader.now) text.now unit }
-    ensures fit { IfOk result (IsFit reader.now.dictionary) }
-{
-    match copper {
-        Copper::Exact => define(reader, text),
-        Copper::Real => define_real(reader, text, unit),
-    }
 }
 
 // `AD`.
 #[tactic(auto, unfolding(crate::specs::MacroTable::define_any))]
-fn define_any<'a>(
-    reader: &PlainReader<'a>,
-    alloc: Global,
-    copper: Copper,
-    text: &'a [u8],
-) -> MacroRow<'a>
-    ensures ok { IfOk result (λ e. gerber (shown (known_of reader.now) e) ≡ spec.define_any copper (known_of reader.now) text.now) }
+fn define_any<'a>(reader: &PlainReader<'a>, alloc: Global, text: &'a [u8]) -> MacroRow<'a>
+    ensures ok { IfOk result (λ e. gerber (shown (known_of reader.now) e) ≡ spec.define_any (known_of reader.now) text.now) }
     ensures fit { IfOk result (IsFit reader.now.dictionary) }
-    ensures halt { IfErr result (Stops (spec.define_any copper (known_of reader.now) text.now)) }
+    ensures halt { IfErr result (Stops (spec.define_any (known_of reader.now) text.now)) }
 {
     let Some(unit) = reader.settings.unit else {
         return Err(Halt::Fault(FlattenKind::Gerber(GerberKind::MissingUnit)));
     };
     if is_of_macro(text, unit) {
-        return compose(reader, alloc, copper, text, unit);
+        return compose(reader, alloc, text, unit);
     }
-    define_in(reader, copper, text, unit).map_err(|kind| Halt::Fault(FlattenKind::Gerber(kind)))
+    define(reader, text).map_err(|kind| Halt::Fault(FlattenKind::Gerber(kind)))
 }
 
 // A row that is the same without macros.
@@ -265,23 +200,18 @@ fn standard_row<'a>(reader: &PlainReader<'a>, command: &Command<'a>) -> MacroRow
 
 // The row of a command where the file may have macros.
 #[tactic(auto, unfolding(crate::specs::MacroTable::macro_row))]
-fn macro_row<'a>(
-    reader: &PlainReader<'a>,
-    alloc: Global,
-    copper: Copper,
-    command: &Command<'a>,
-) -> MacroRow<'a>
+fn macro_row<'a>(reader: &PlainReader<'a>, alloc: Global, command: &Command<'a>) -> MacroRow<'a>
     requires lawful { IsLawfulReader reader.now }
     requires command { IsLawfulCommand (view command.now) }
     requires before_end { reader.now.settings.ended ≡ false }
-    ensures ok { IfOk result (λ e. gerber (shown (known_of reader.now) e) ≡ spec.macro_row copper (known_of reader.now) (view command.now)) }
+    ensures ok { IfOk result (λ e. gerber (shown (known_of reader.now) e) ≡ spec.macro_row (known_of reader.now) (view command.now)) }
     ensures fit { IfOk result (IsFit reader.now.dictionary) }
-    ensures halt { IfErr result (Stops (spec.macro_row copper (known_of reader.now) (view command.now))) }
+    ensures halt { IfErr result (Stops (spec.macro_row (known_of reader.now) (view command.now))) }
 {
     match *command {
         Command::Macro(name) => name_macro(reader, name).map_err(Halt::Fault),
-        Command::Body(text) => fill_macro(reader, copper, text).map_err(Halt::Fault),
-        Command::Define(text) => define_any(reader, alloc, copper, text),
+        Command::Body(text) => fill_macro(reader, text).map_err(Halt::Fault),
+        Command::Define(text) => define_any(reader, alloc, text),
         _ => standard_row(reader, command),
     }
 }
@@ -305,26 +235,7 @@ pub fn effect_with_macros<'a>(
     if is_function(command) {
         return Ok(Effect::Stays);
     }
-    macro_row(reader, alloc, Copper::Exact, command)
-}
-
-/// What a command does in a file of real copper, or its fault.
-#[tactic(auto, unfolding(crate::specs::MacroTable::effect_loosely))]
-pub fn effect_loosely<'a>(
-    reader: &PlainReader<'a>,
-    alloc: Global,
-    command: &Command<'a>,
-) -> MacroRow<'a>
-    requires lawful { IsLawfulReader reader.now }
-    requires command { IsLawfulCommand (view command.now) }
-    ensures ok { IfOk result (λ e. gerber (shown (known_of reader.now) e) ≡ spec.effect_loosely (known_of reader.now) (view command.now)) }
-    ensures fit { IfOk result (IsFit reader.now.dictionary) }
-    ensures halt { IfErr result (Stops (spec.effect_loosely (known_of reader.now) (view command.now))) }
-{
-    if reader.settings.ended {
-        return behind_end(command);
-    }
-    macro_row(reader, alloc, Copper::Real, command)
+    macro_row(reader, alloc, command)
 }
 
 /// The pieces have at most `MOST_APERTURES` radii.
