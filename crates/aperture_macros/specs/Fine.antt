@@ -15,8 +15,7 @@ use Rattle.aperture_macros.specs.declared.fault.MacroFault.{MacroFault}
 use Rattle.aperture_macros.specs.declared.fault.MacroFault.TheVariants.{OffGrid, OutOfRange}
 use Rattle.aperture_macros.specs.BodyWord.{◌>>=◌, part, past}
 use Rattle.planar.specs.Plane.{IsReachable, same_spot}
-use Rattle.aperture_macros.specs.Images.{area_at, right_of, set_down}
-use Rattle.aperture_macros.specs.Telling.{told}
+use Rattle.aperture_macros.specs.Images.{right_of}
 use Rattle.aperture_macros.specs.Values.{extent_at, point_at}
 
 -- so far above a spot
@@ -56,21 +55,6 @@ fine_at other text parameters unit = Err OffGrid
 abbrev pub is_central : FineKind → Spot → Bool
 is_central Disc p = same_spot p (record { x = pos 0; y = pos 0 })
 is_central other p = false
-
--- Two right angles or more are told, by the kind: so it is told from an outline and from a polygon.
-abbrev pub fine_rest : FineKind → ℕ
-fine_rest Disc = 2 * 900000000
-fine_rest Rectangle = 3 * 900000000
-fine_rest Line = 4 * 900000000
-
--- its spots, the first again as the last
-abbrev pub fine_spots : FineSketch → List Spot
-fine_spots f = f.start ∷ f.end ∷ f.side ∷ f.start ∷ []
-
--- turned by quarter turns and set down, the area that tells it
-abbrev pub fine_told : Rotation → Spot → Option FineSketch → Result (Option Figure) MacroFault
-fine_told rotation at None = Ok None
-fine_told rotation at (Some f) = area_at (told at (fine_rest f.kind) (map (set_down rotation at) (fine_spots f)))
 
 -- its spots are at most two metres from 0
 abbrev pub IsNearFine : Option FineSketch → Type 0

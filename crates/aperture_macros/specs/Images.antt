@@ -130,17 +130,13 @@ area_at points = if list_all is_placed points then Ok (Some (filled points)) els
 abbrev pub right_of : Spot → ℕ → Spot
 right_of p far = record { x = p.x +ℤ pos far; y = p.y }
 
--- What tells a polygon: its middle; to the right of it the diameter in whole u and 1 u more, so it is never the middle, the number of corners, and the parts of a u; and the middle again.
-abbrev pub polygon_spots : Spot → ℕ → ℕ → List Spot
-polygon_spots p d n = p ∷ right_of p (d / PARTS + 1) ∷ right_of p n ∷ right_of p (d % PARTS) ∷ p ∷ []
-
--- a figure about the origin, turned and set down at a spot
+-- a figure about the origin, turned and set down at a spot; the corners of a polygon lie on no grid
 unfoldable pub sketch_at : Rotation → Spot → Option Sketch → Result (Option Figure) MacroFault
 sketch_at rotation at None = Ok None
 sketch_at rotation at (Some (Disc p d)) = disc_at (set_down rotation at p) d
 sketch_at rotation at (Some (Stroke p q w)) = stroke_at (set_down rotation at p) (set_down rotation at q) w
 sketch_at rotation at (Some (Rectangle low high)) = area_at (map (set_down rotation at) (rectangle low high))
-sketch_at rotation at (Some (Regular p d n)) = area_at (map (set_down rotation at) (polygon_spots p d n))
+sketch_at rotation at (Some (Regular p d n)) = Err BadMacro
 
 -- what is left of a figure, or of the points of an outline, where it is set down
 abbrev pub sketched : Rotation → Spot → Result (Option Sketch) MacroFault → Result (Option Figure) MacroFault
