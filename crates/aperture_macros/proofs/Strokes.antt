@@ -8,7 +8,7 @@ use Rattle.std.specs.Prelude.{nat_lt, IfOk}
 use Rattle.contact.specs.declared.TheConstants.{MOST_DIAMETER}
 use Rattle.planar.specs.Plane.{is_placed}
 use Rattle.planar.specs.declared.Spot.{Spot}
-use Rattle.board_shapes.specs.Figures.{Figure, Stroke as Figured, filled, round}
+use Rattle.board_shapes.specs.Figures.{Stroke as Figured, filled, round}
 use Rattle.board_shapes.specs.Rectangles.{halved, rectangle}
 use Rattle.lengths.specs.Decimal.{Fraction}
 use Rattle.lengths.specs.declared.decimal.Unit.{Unit as Measure}
@@ -42,7 +42,7 @@ done_ok (Err e) h = cc
 
 -- ---- Sketches
 
--- a stroke is told by a slanted line, where these lines are taken
+-- a stroke is that of a slanted line, where these lines are taken
 IsFor : Copper → Option Sketch → Type 0
 IsFor copper (Some (Stroke p q w)) = (copper ≡ Real) × (p.x ≢ q.x) × (p.y ≢ q.y)
 IsFor copper other = Unit {0}

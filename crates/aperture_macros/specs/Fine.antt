@@ -1,8 +1,7 @@
 -- Fine primitives: circles, vector lines and centre lines of real copper with a size that is an odd number of u (Gerber Layer Format Specification, 4.5.1, codes 1, 20 and 21).
-use Rattle.std.specs.Prelude.{ℕ, ◌*◌, Bool, false, ◌||◌, ◌==◌, nat_lt, if◌then◌else◌, List, [], ◌∷◌, map, pos, ◌+ℤ◌, Option, Some, None, Result, Ok, Err}
+use Rattle.std.specs.Prelude.{ℕ, Bool, false, ◌||◌, ◌==◌, nat_lt, if◌then◌else◌, List, pos, ◌+ℤ◌, Option, Some, None, Result, Ok, Err}
 use Rattle.planar.specs.declared.Spot.{Spot}
 use Rattle.contact.specs.declared.TheConstants.{MOST_DIAMETER}
-use Rattle.board_shapes.specs.Figures.{Figure}
 use Rattle.lengths.specs.Decimal.{Fraction}
 use Rattle.lengths.specs.declared.decimal.Unit.{Unit as Measure}
 use Rattle.aperture_macros.specs.declared.fine.FineKind.{FineKind}
@@ -10,7 +9,6 @@ use Rattle.aperture_macros.specs.declared.fine.FineKind.TheVariants.{Disc, Recta
 use Rattle.aperture_macros.specs.declared.fine.FineSketch.{FineSketch}
 use Rattle.aperture_macros.specs.declared.primitive.Form.{Form}
 use Rattle.aperture_macros.specs.declared.primitive.Form.TheVariants.{Circle, VectorLine, CentreLine}
-use Rattle.aperture_macros.specs.declared.primitive.Rotation.{Rotation}
 use Rattle.aperture_macros.specs.declared.fault.MacroFault.{MacroFault}
 use Rattle.aperture_macros.specs.declared.fault.MacroFault.TheVariants.{OffGrid, OutOfRange}
 use Rattle.aperture_macros.specs.BodyWord.{◌>>=◌, part, past}
