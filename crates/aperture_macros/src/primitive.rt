@@ -16,7 +16,7 @@ pub enum Form {
 }
 
 /// Which primitives are taken: those alone whose figures are exact, or those of real copper, which may be vector
-/// lines along no axis, each told by its stroke, polygons, of odd sizes, and turned by degrees.
+/// lines along no axis, polygons, of odd sizes, and turned by degrees.
 #[derive(Clone, Copy, Debug, PartialEq, Eq)]
 pub enum Copper {
     Exact,

@@ -16,6 +16,8 @@ mod real_apertures;
 #[cfg(test)]
 mod real_files;
 #[cfg(test)]
+mod real_primitives;
+#[cfg(test)]
 mod repeats;
 #[cfg(test)]
 mod words;
