@@ -4,6 +4,4 @@ pub mod Strokes
 pub mod Closings
 pub mod Turns
 pub mod Readings
-pub mod Told
-pub mod RealAreas
 pub mod PointsRead

@@ -1,8 +1,7 @@
 -- What the points of an outline are, where they are read.
-use Rattle.std.proofs.Common.{ℕ, ◌≡◌, ◌+◌, ◌≤◌, List, [], length, Result, Ok, Err, arith}
+use Rattle.std.proofs.Common.{ℕ, ◌≡◌, ◌+◌, List, [], Result, Ok, Err}
 use Rattle.std.specs.Prelude.{IfErr, IfOk}
 use Rattle.planar.specs.declared.Spot.{Spot}
-use Rattle.area_contact.specs.Contour.{IsClosed}
 use Rattle.lengths.specs.Decimal.{Fraction}
 use Rattle.lengths.specs.declared.decimal.Unit.{Unit as Measure}
 use Rattle.aperture_macros.specs.Images.{outline_at, set_down}
@@ -12,7 +11,7 @@ use Rattle.aperture_macros.specs.Seen.{IsRefusal}
 use Rattle.aperture_macros.specs.declared.fault.FigureFault.{FigureFault}
 use Rattle.aperture_macros.specs.declared.fault.FigureFault.TheVariants.{Macro, NoMemory}
 use Rattle.aperture_macros.specs.declared.primitive.Rotation.{Rotation}
-use Rattle.aperture_macros.proofs.Closings.{IsOutlined, outline_refused, outlined_by}
+use Rattle.aperture_macros.proofs.Closings.{outline_refused, outlined_by}
 
 -- what follows of a value follows of an answer
 pub if_ok : {A E : Type 0} (P Q : A → Type 0) → ((x : A) → P x → Q x) → (r : Result A E) → IfOk r P → IfOk r Q

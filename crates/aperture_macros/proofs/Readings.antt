@@ -1,5 +1,5 @@
 -- What a body word is read as.
-use Rattle.std.proofs.Common.{◌≡◌, ℕ, ◌+◌, ◌-◌, ◌/◌, Bool, true, false, not, ◌&&◌, cond, nat_le, List, Option, Some, None, Result, Ok, Err, refl, sym, ap, ◌∙◌, subst, arith, zero, suc}
+use Rattle.std.proofs.Common.{◌≤◌, ◌≡◌, ℕ, ◌+◌, ◌-◌, ◌/◌, Bool, true, false, not, ◌&&◌, cond, nat_le, List, Option, Some, None, Result, Ok, Err, refl, sym, ap, ◌∙◌, subst, arith, zero, suc}
 use Rattle.std.proofs.lemmas.Bool.{leb-true}
 use Rattle.std.specs.Option.{option_and_then}
 use Rattle.std.specs.Prelude.{IfSome, codes}
@@ -35,7 +35,7 @@ outline_sized word n = by (nat_le 3 n) (nat_le n MOST_OUTLINE_EDGES) refl refl
     by : (a b : Bool) → nat_le 3 n ≡ a → nat_le n MOST_OUTLINE_EDGES ≡ b → IfSome (cond (not (a && b)) None (cond (not (is_decimal (part 2 word))) None (cond (is_number (fraction (part 2 word)) n) (Some (Outline n)) None))) IsSized
     by false b low high = tt
     by true false low high = tt
-    by true true low high = either_sized (not (is_decimal (part 2 word))) None (cond (is_number (fraction (part 2 word)) n) (Some (Outline n)) None) tt (either_sized (is_number (fraction (part 2 word)) n) (Some (Outline n)) None (leb-true _ _ low, leb-true _ _ high) tt)
+    by true true low high = either_sized (not (is_decimal (part 2 word))) None (cond (is_number (fraction (part 2 word)) n) (Some (Outline n)) None) tt (either_sized (is_number (fraction (part 2 word)) n) (Some (Outline n)) None (leb-true _ _ low, leb-true _ _ high, omega arith, omega arith) tt)
 
 -- the word has the parts of its form
 IsFitting : ℕ → Form → Type 0
@@ -50,15 +50,15 @@ fitting_sized n (Some form) h = by (fits form n) refl
     by true e = (h, e)
     by false e = tt
 
-regular_sized : (k n : ℕ) (d : Fraction) → IfSome (regular_from k n d) IsSized
+regular_sized : (k n : ℕ) (d : Fraction) → 3 ≤ n → n + k ≤ 13 → IfSome (regular_from k n d) IsSized
 unfolding regular_from
-regular_sized zero n d = tt
-regular_sized (suc k) n d = either_sized (is_number d n) (Some (Polygon n)) (regular_from k (n + 1) d) (omega arith, omega arith) (regular_sized k (n + 1) d)
+regular_sized zero n d low high = tt
+regular_sized (suc k) n d low high = either_sized (is_number d n) (Some (Polygon n)) (regular_from k (n + 1) d) (omega arith, omega arith, low, omega arith) (regular_sized k (n + 1) d (omega arith) (omega arith))
 
 polygon_sized : (copper : Copper) (word : List ℕ) → IfSome (polygon_of copper word) IsSized
 unfolding polygon_of
 polygon_sized Exact word = tt
-polygon_sized Real word = either_sized (not (is_decimal (part 2 word))) None (regular_of (fraction (part 2 word))) tt (regular_sized 10 3 (fraction (part 2 word)))
+polygon_sized Real word = either_sized (not (is_decimal (part 2 word))) None (regular_of (fraction (part 2 word))) tt (regular_sized 10 3 (fraction (part 2 word)) (omega arith) (omega arith))
 
 form_sized : (copper : Copper) (word : List ℕ) (n : ℕ) → IfSome (form_of copper word n) IsSized
 unfolding form_of
@@ -70,10 +70,10 @@ form_sized copper word n =
     let vector : Option Form = cond (code (codes "20")) (Some VectorLine) centre in
     let outline : Option Form = cond (code (codes "4")) edges vector in
     let fifth = either_sized (code (codes "5")) (polygon_of copper word) None (polygon_sized copper word) tt in
-    let fourth = either_sized (code (codes "21")) (Some CentreLine) regular (omega arith, omega arith) fifth in
-    let third = either_sized (code (codes "20")) (Some VectorLine) centre (omega arith, omega arith) fourth in
+    let fourth = either_sized (code (codes "21")) (Some CentreLine) regular (omega arith, omega arith, omega arith, omega arith) fifth in
+    let third = either_sized (code (codes "20")) (Some VectorLine) centre (omega arith, omega arith, omega arith, omega arith) fourth in
     let second = either_sized (code (codes "4")) edges vector (outline_sized word ((n - 5) / 2)) third in
-    either_sized (code (codes "1")) (Some Circle) outline (omega arith, omega arith) second
+    either_sized (code (codes "1")) (Some Circle) outline (omega arith, omega arith, omega arith, omega arith) second
 
 -- what a primitive that is read is
 pub record IsRead (copper : Copper) (word : List ℕ) (p : PlainPrimitive) : Type 0 where

@@ -8,7 +8,7 @@ use Rattle.std.specs.Prelude.{nat_lt, IfOk}
 use Rattle.contact.specs.declared.TheConstants.{MOST_DIAMETER}
 use Rattle.planar.specs.Plane.{is_placed}
 use Rattle.planar.specs.declared.Spot.{Spot}
-use Rattle.board_shapes.specs.Figures.{Figure, Stroke as Figured, filled, round}
+use Rattle.board_shapes.specs.Figures.{Stroke as Figured, filled, round}
 use Rattle.board_shapes.specs.Rectangles.{halved, rectangle}
 use Rattle.lengths.specs.Decimal.{Fraction}
 use Rattle.lengths.specs.declared.decimal.Unit.{Unit as Measure}
@@ -23,14 +23,11 @@ use Rattle.aperture_macros.specs.declared.primitive.Copper.TheVariants.{Exact, R
 use Rattle.aperture_macros.specs.declared.primitive.Rotation.{Rotation}
 use Rattle.aperture_macros.specs.declared.primitive.Rotation.TheVariants.{Unturned, Quarter, Half, ThreeQuarters}
 use Rattle.aperture_macros.specs.BodyWord.{◌>>=◌, part, past}
-use Rattle.aperture_macros.specs.Images.{area_at, circle_at, centre_at, centred, disc_at, figure_by, is_done, judged_by, line_at, line_between, outline_at, outlined, polygon_at, polygon_spots, set_down, sketch_at, sketched, slanted, strip, stroke_at}
+use Rattle.aperture_macros.specs.Images.{area_at, circle_at, centre_at, centred, disc_at, figure_by, is_done, judged_by, line_at, line_between, outline_at, outlined, polygon_at, set_down, sketch_at, sketched, slanted, strip, stroke_at}
 use Rattle.aperture_macros.specs.declared.primitive.Turning.{Turning}
 use Rattle.aperture_macros.specs.declared.primitive.Turning.TheVariants.{Quarters, Degrees}
 use Rattle.aperture_macros.specs.BodyWord.{PlainPrimitive}
-use Rattle.aperture_macros.specs.Fine.{fine_at, fine_rest, fine_spots, fine_told}
-use Rattle.aperture_macros.specs.declared.fine.FineSketch.{FineSketch}
-use Rattle.aperture_macros.specs.Flashes.{figure_turned, fine_figure, fine_judged, is_fine, plainly_judged, tell, told_figure, turn_behind, turn_judged}
-use Rattle.aperture_macros.specs.Telling.{is_moved, told, told_rest, told_round as told_as_round}
+use Rattle.aperture_macros.specs.Flashes.{figure_turned, is_fine, judged, plainly_judged, turn_judged}
 use Rattle.aperture_macros.specs.Laws.{FlashesDiscsAlone, IsSlanted, StrokesAreSlantedLines}
 use Rattle.aperture_macros.specs.Values.{across_at, diameter_at, point_at, size_at}
 
@@ -45,7 +42,7 @@ done_ok (Err e) h = cc
 
 -- ---- Sketches
 
--- a stroke is told by a slanted line, where these lines are taken
+-- a stroke is that of a slanted line, where these lines are taken
 IsFor : Copper → Option Sketch → Type 0
 IsFor copper (Some (Stroke p q w)) = (copper ≡ Real) × (p.x ≢ q.x) × (p.y ≢ q.y)
 IsFor copper other = Unit {0}
@@ -194,7 +191,7 @@ unfolding sketch_at IsFlat
 flat_ends rotation at None s f h = cc
 flat_ends rotation at (Some (Disc p d)) s f h = disc_ends (set_down rotation at p) d s h
 flat_ends rotation at (Some (Rectangle low high)) s f h = no_area (map (set_down rotation at) (rectangle low high)) s h
-flat_ends rotation at (Some (Regular p d n)) s f h = no_area (map (set_down rotation at) (polygon_spots p d n)) s h
+flat_ends rotation at (Some (Regular p d n)) s f h = cc
 flat_ends rotation at (Some (Stroke p q w)) s f h = absurd f
 
 plus_differ : (a x y : ℤ) → x ≢ y → (a +ℤ x) ≢ (a +ℤ y)
@@ -217,7 +214,7 @@ unfolding sketch_at IsFor
 line_ends rotation at None s f h apart = cc
 line_ends rotation at (Some (Disc p d)) s f h apart = absurd (apart (disc_ends (set_down rotation at p) d s h))
 line_ends rotation at (Some (Rectangle low high)) s f h apart = no_area (map (set_down rotation at) (rectangle low high)) s h
-line_ends rotation at (Some (Regular p d n)) s f h apart = no_area (map (set_down rotation at) (polygon_spots p d n)) s h
+line_ends rotation at (Some (Regular p d n)) s f h apart = cc
 line_ends rotation at (Some (Stroke p q w)) s f h apart =
     let ends = stroke_ends (set_down rotation at p) (set_down rotation at q) w s h in
     slanted_by (set_down rotation at p) (set_down rotation at q) s ends.0 ends.1 (turned_slanted rotation at p q f.1 f.2)
@@ -248,48 +245,23 @@ discs_by VectorLine rotation text given unit at s j h = flat_by (line_at Real te
 discs_by CentreLine rotation text given unit at s j h = flat_by (centre_at text given unit) rotation at s (centre_flat text given unit) h
 discs_by (Polygon n) rotation text given unit at s j h = flat_by (polygon_at n text given unit) rotation at s (polygon_flat n text given unit) h
 
-told_round : (form : Form) (about : Spot) (rest : ℕ) (o : Option Figure) (s : Figured) → tell form about rest o ≡ Ok (Some (round s)) → ◌≡◌ {A = Result (Option Figure) MacroFault} (Ok o) (Ok (Some (round s)))
-told_round form about rest None s h = cc
-told_round form about rest (Some (round t)) s h = by (is_moved about rest t) h
-  where
-    by : (b : Bool) → cond b (area_at (told_as_round about rest t)) (Ok (Some (round t))) ≡ Ok (Some (round s)) → ◌≡◌ {A = Result (Option Figure) MacroFault} (Ok (Some (round t))) (Ok (Some (round s)))
-    by true k = no_area (told_as_round about rest t) s k
-    by false k = k
-told_round form about rest (Some (filled points)) s h = no_area (told about (told_rest form rest) points) s h
-
--- what tells no turn is as it is by quarter turns
-round_by : (turning : Turning) (form : Form) (text : List ℕ) (given : List Fraction) (unit : Measure) (at : Spot) (s : Figured) → figure_turned turning form text given unit at ≡ Ok (Some (round s)) → (rotation : Rotation) × (figure_by form rotation text given unit at ≡ Ok (Some (round s)))
+round_by : (turning : Turning) (form : Form) (text : List ℕ) (given : List Fraction) (unit : Measure) (at : Spot) (s : Figured) → figure_turned turning form text given unit at ≡ Ok (Some (round s)) → (rotation : Rotation) × (turning ≡ Quarters rotation) × (figure_by form rotation text given unit at ≡ Ok (Some (round s)))
 unfolding figure_turned
-round_by (Quarters rotation) form text given unit at s h = (rotation, h)
-round_by Degrees form text given unit at s h =
-    let t = then_ok (turn_behind form text given) (λ turn. told_figure turn form text given unit at) (Some (round s)) h in
-    let f = then_ok (figure_by form t.0.quarters text given unit at) (λ figure. tell form at t.0.rest figure) (Some (round s)) t.2 in
-    (t.0.quarters, f.1 ∙ told_round form at t.0.rest f.0 s f.2)
+round_by (Quarters rotation) form text given unit at s h = (rotation, refl, h)
+round_by Degrees form text given unit at s h = cc
 
--- a fine one flashes an area
-fine_none : {P : Type 0} (form : Form) (text : List ℕ) (given : List Fraction) (unit : Measure) (at : Spot) (s : Figured) → fine_figure form text given unit at ≡ Ok (Some (round s)) → P
-unfolding fine_figure
-fine_none {P = P} form text given unit at s h =
-    let t = then_ok (turn_behind form text given) (λ turn. fine_at form text given unit >>= λ f. fine_told turn.quarters at f) (Some (round s)) h in
-    let f = then_ok (fine_at form text given unit) (λ f. fine_told t.0.quarters at f) (Some (round s)) t.2 in
-    by t.0.quarters f.0 f.2
-  where
-    by : (rotation : Rotation) (f : Option FineSketch) → fine_told rotation at f ≡ Ok (Some (round s)) → P
-    by rotation None k = cc
-    by rotation (Some f) k = no_area (told at (fine_rest f.kind) (map (set_down rotation at) (fine_spots f))) s k
-
-plain_discs : (p : PlainPrimitive) (given : List Fraction) (unit : Measure) (at : Spot) (s : Figured) → plainly_judged Exact p given unit ≡ Ok tt → figure_turned p.rotation p.form p.lengths given unit at ≡ Ok (Some (round s)) → s.a ≡ s.b
-plain_discs p given unit at s j h =
-    let r = round_by p.rotation p.form p.lengths given unit at s h in
-    let d = then_ok (judged_by Exact p.form p.lengths given unit) (λ done. turn_judged p.rotation p.form p.lengths given unit) tt j in
-    discs_by p.form r.0 p.lengths given unit at s d.1 r.1
+-- by quarter turns none is judged as a fine one
+plainly : (rotation : Rotation) (p : PlainPrimitive) (given : List Fraction) (unit : Measure) → p.rotation ≡ Quarters rotation → judged Exact p given unit ≡ Ok tt → plainly_judged Exact p given unit ≡ Ok tt
+unfolding is_fine
+plainly rotation p given unit e j =
+    let no : is_fine p.rotation p.form p.lengths given unit ≡ false = rw e refl in
+    rw no at j
 
 pub flashes_discs_alone : FlashesDiscsAlone
-flashes_discs_alone p given unit at s j h = by (is_fine p.rotation p.form p.lengths given unit) j h
-  where
-    by : (b : Bool) → cond b (fine_judged p.form p.lengths given unit) (plainly_judged Exact p given unit) ≡ Ok tt → cond b (fine_figure p.form p.lengths given unit at) (figure_turned p.rotation p.form p.lengths given unit at) ≡ Ok (Some (round s)) → s.a ≡ s.b
-    by true j h = fine_none p.form p.lengths given unit at s h
-    by false j h = plain_discs p given unit at s j h
+flashes_discs_alone p given unit at s j h =
+    let r = round_by p.rotation p.form p.lengths given unit at s h in
+    let d = then_ok (judged_by Exact p.form p.lengths given unit) (λ done. turn_judged p.rotation p.form p.lengths given unit) tt (plainly r.0 p given unit r.1 j) in
+    discs_by p.form r.0 p.lengths given unit at s d.1 r.2
 
 strokes_by : (form : Form) (rotation : Rotation) (text : List ℕ) (given : List Fraction) (unit : Measure) (at : Spot) (s : Figured) → figure_by form rotation text given unit at ≡ Ok (Some (round s)) → s.a ≢ s.b → (form ≡ VectorLine) × IsSlanted s
 unfolding figure_by
@@ -302,8 +274,4 @@ strokes_by CentreLine rotation text given unit at s h apart = absurd (apart (fla
 strokes_by (Polygon n) rotation text given unit at s h apart = absurd (apart (flat_by (polygon_at n text given unit) rotation at s (polygon_flat n text given unit) h))
 
 pub strokes_are_slanted_lines : StrokesAreSlantedLines
-strokes_are_slanted_lines p given unit at s h apart = by (is_fine p.rotation p.form p.lengths given unit) h
-  where
-    by : (b : Bool) → cond b (fine_figure p.form p.lengths given unit at) (figure_turned p.rotation p.form p.lengths given unit at) ≡ Ok (Some (round s)) → (p.form ≡ VectorLine) × IsSlanted s
-    by true h = fine_none p.form p.lengths given unit at s h
-    by false h = let r = round_by p.rotation p.form p.lengths given unit at s h in strokes_by p.form r.0 p.lengths given unit at s r.1 apart
+strokes_are_slanted_lines p given unit at s h apart = let r = round_by p.rotation p.form p.lengths given unit at s h in strokes_by p.form r.0 p.lengths given unit at s r.2 apart

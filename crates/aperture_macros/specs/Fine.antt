@@ -1,8 +1,7 @@
 -- Fine primitives: circles, vector lines and centre lines of real copper with a size that is an odd number of u (Gerber Layer Format Specification, 4.5.1, codes 1, 20 and 21).
-use Rattle.std.specs.Prelude.{ℕ, ◌*◌, Bool, false, ◌||◌, ◌==◌, nat_lt, if◌then◌else◌, List, [], ◌∷◌, map, pos, ◌+ℤ◌, Option, Some, None, Result, Ok, Err}
+use Rattle.std.specs.Prelude.{ℕ, Bool, false, ◌||◌, ◌==◌, nat_lt, if◌then◌else◌, List, pos, ◌+ℤ◌, Option, Some, None, Result, Ok, Err}
 use Rattle.planar.specs.declared.Spot.{Spot}
 use Rattle.contact.specs.declared.TheConstants.{MOST_DIAMETER}
-use Rattle.board_shapes.specs.Figures.{Figure}
 use Rattle.lengths.specs.Decimal.{Fraction}
 use Rattle.lengths.specs.declared.decimal.Unit.{Unit as Measure}
 use Rattle.aperture_macros.specs.declared.fine.FineKind.{FineKind}
@@ -10,13 +9,11 @@ use Rattle.aperture_macros.specs.declared.fine.FineKind.TheVariants.{Disc, Recta
 use Rattle.aperture_macros.specs.declared.fine.FineSketch.{FineSketch}
 use Rattle.aperture_macros.specs.declared.primitive.Form.{Form}
 use Rattle.aperture_macros.specs.declared.primitive.Form.TheVariants.{Circle, VectorLine, CentreLine}
-use Rattle.aperture_macros.specs.declared.primitive.Rotation.{Rotation}
 use Rattle.aperture_macros.specs.declared.fault.MacroFault.{MacroFault}
 use Rattle.aperture_macros.specs.declared.fault.MacroFault.TheVariants.{OffGrid, OutOfRange}
 use Rattle.aperture_macros.specs.BodyWord.{◌>>=◌, part, past}
 use Rattle.planar.specs.Plane.{IsReachable, same_spot}
-use Rattle.aperture_macros.specs.Images.{area_at, right_of, set_down}
-use Rattle.aperture_macros.specs.Telling.{told}
+use Rattle.aperture_macros.specs.Images.{right_of}
 use Rattle.aperture_macros.specs.Values.{extent_at, point_at}
 
 -- so far above a spot
@@ -56,21 +53,6 @@ fine_at other text parameters unit = Err OffGrid
 abbrev pub is_central : FineKind → Spot → Bool
 is_central Disc p = same_spot p (record { x = pos 0; y = pos 0 })
 is_central other p = false
-
--- Two right angles or more are told, by the kind: so it is told from an outline and from a polygon.
-abbrev pub fine_rest : FineKind → ℕ
-fine_rest Disc = 2 * 900000000
-fine_rest Rectangle = 3 * 900000000
-fine_rest Line = 4 * 900000000
-
--- its spots, the first again as the last
-abbrev pub fine_spots : FineSketch → List Spot
-fine_spots f = f.start ∷ f.end ∷ f.side ∷ f.start ∷ []
-
--- turned by quarter turns and set down, the area that tells it
-abbrev pub fine_told : Rotation → Spot → Option FineSketch → Result (Option Figure) MacroFault
-fine_told rotation at None = Ok None
-fine_told rotation at (Some f) = area_at (told at (fine_rest f.kind) (map (set_down rotation at) (fine_spots f)))
 
 -- its spots are at most two metres from 0
 abbrev pub IsNearFine : Option FineSketch → Type 0

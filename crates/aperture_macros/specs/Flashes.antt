@@ -1,7 +1,7 @@
--- What primitives flash as they are turned: by quarter turns, or in real copper by degrees.
+-- What is judged of primitives, and what they flash where copper is taken exactly.
 use Rattle.std.specs.Prelude.{◌≡◌, ◌≢◌, ℕ, Bool, true, false, ◌&&◌, not, nat_lt, if◌then◌else◌, List, Option, Some, None, Result, Ok, Err}
 use Rattle.planar.specs.declared.Spot.{Spot}
-use Rattle.board_shapes.specs.Figures.{Figure, Stroke, filled, round}
+use Rattle.board_shapes.specs.Figures.{Figure}
 use Rattle.lengths.specs.Decimal.{Fraction}
 use Rattle.lengths.specs.declared.decimal.Unit.{Unit as Measure}
 use Rattle.aperture_macros.specs.declared.degrees.Turn.{Turn}
@@ -17,10 +17,9 @@ use Rattle.aperture_macros.specs.declared.fault.MacroFault.{MacroFault}
 use Rattle.aperture_macros.specs.declared.fault.MacroFault.TheVariants.{OffGrid, Turn as Turned}
 use Rattle.aperture_macros.specs.BodyWord.{◌>>=◌, PlainPrimitive, count, part}
 use Rattle.aperture_macros.specs.Degrees.{turn_at}
-use Rattle.aperture_macros.specs.Fine.{fine_at, fine_told, is_central}
+use Rattle.aperture_macros.specs.Fine.{fine_at, is_central}
 use Rattle.aperture_macros.specs.declared.fine.FineSketch.{FineSketch}
-use Rattle.aperture_macros.specs.Images.{area_at, centre_at, circle_at, figure_by, judged_by, line_at}
-use Rattle.aperture_macros.specs.Telling.{is_moved, told, told_rest, told_round}
+use Rattle.aperture_macros.specs.Images.{centre_at, circle_at, figure_by, judged_by, line_at}
 
 -- the turn that the expression behind the lengths says
 abbrev pub turn_behind : Form → List ℕ → List Fraction → Result Turn MacroFault
@@ -72,36 +71,13 @@ plainly_judged copper p parameters unit = judged_by copper p.form p.lengths para
 abbrev pub judged : Copper → PlainPrimitive → List Fraction → Measure → Result (Unit {0}) MacroFault
 judged copper p parameters unit = if is_fine p.rotation p.form p.lengths parameters unit then fine_judged p.form p.lengths parameters unit else plainly_judged copper p parameters unit
 
--- a disc that a turn moves is told with it (so would a stroke be, which `needs_quarters` refuses); others are as they are
-abbrev pub tell_round : Spot → ℕ → Stroke → Result (Option Figure) MacroFault
-tell_round about rest s = if is_moved about rest s then area_at (told_round about rest s) else Ok (Some (round s))
-
--- an area is told with how far it is turned about a spot, and so is such a disc or stroke
-abbrev pub tell : Form → Spot → ℕ → Option Figure → Result (Option Figure) MacroFault
-tell form about rest (Some (filled points)) = area_at (told about (told_rest form rest) points)
-tell form about rest (Some (round s)) = tell_round about rest s
-tell form about rest other = Ok other
-
--- in real copper quarter turns are made, and what is left is told
-abbrev pub told_figure : Turn → Form → List ℕ → List Fraction → Measure → Spot → Result (Option Figure) MacroFault
-told_figure turn form text parameters unit at = figure_by form turn.quarters text parameters unit at >>= λ figure. tell form at turn.rest figure
-
--- by how the primitive is turned
+-- what a primitive flashes at a spot where copper is taken exactly: it is turned by quarter turns alone
 unfoldable pub figure_turned : Turning → Form → List ℕ → List Fraction → Measure → Spot → Result (Option Figure) MacroFault
 figure_turned (Quarters rotation) form text parameters unit at = figure_by form rotation text parameters unit at
-figure_turned Degrees form text parameters unit at =
-    turn_behind form text parameters >>= λ turn. told_figure turn form text parameters unit at
+figure_turned Degrees form text parameters unit at = Err Turned
 
--- a fine one, by quarter turns
-unfoldable pub fine_figure : Form → List ℕ → List Fraction → Measure → Spot → Result (Option Figure) MacroFault
-fine_figure form text parameters unit at =
-    turn_behind form text parameters >>= λ turn. fine_at form text parameters unit >>= λ f. fine_told turn.quarters at f
-
--- what a primitive flashes at a spot
 abbrev pub figure_at : PlainPrimitive → List Fraction → Measure → Spot → Result (Option Figure) MacroFault
-figure_at p parameters unit at =
-    if is_fine p.rotation p.form p.lengths parameters unit then fine_figure p.form p.lengths parameters unit at
-    else figure_turned p.rotation p.form p.lengths parameters unit at
+figure_at p parameters unit at = figure_turned p.rotation p.form p.lengths parameters unit at
 
 -- the primitive has no image with these parameters: it flashes nothing, wherever that is
 abbrev pub IsBlank : PlainPrimitive → List Fraction → Measure → Type 0

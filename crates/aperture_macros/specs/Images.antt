@@ -1,5 +1,5 @@
 -- The figures of primitives: about the origin of the macro, and where they are flashed.
-use Rattle.std.specs.Prelude.{ℕ, zero, suc, ◌+◌, ◌/◌, ◌%◌, Bool, true, ◌&&◌, ◌||◌, ◌==◌, nat_lt, if◌then◌else◌, List, [], ◌∷◌, ◌++◌, map, ◌+ℤ◌, neg_ℤ, int_lt, pos, Option, Some, None, Result, Ok, Err}
+use Rattle.std.specs.Prelude.{ℕ, zero, suc, ◌+◌, Bool, true, ◌&&◌, ◌||◌, ◌==◌, nat_lt, if◌then◌else◌, List, [], ◌∷◌, ◌++◌, map, ◌+ℤ◌, neg_ℤ, int_lt, pos, Option, Some, None, Result, Ok, Err}
 use Rattle.std.specs.List.{list_all}
 use Rattle.std.specs.Ordering.{int_eq}
 use Rattle.planar.specs.Plane.{is_placed, same_spot}
@@ -22,7 +22,6 @@ use Rattle.aperture_macros.specs.declared.fault.MacroFault.{MacroFault}
 use Rattle.aperture_macros.specs.declared.fault.MacroFault.TheVariants.{BadMacro, OutOfRange, Slanted}
 use Rattle.aperture_macros.specs.BodyWord.{◌>>=◌, part, past}
 use Rattle.aperture_macros.specs.Values.{across_at, diameter_at, point_at, size_at}
-use Rattle.aperture_macros.specs.declared.values.TheConstants.{PARTS}
 
 -- `d,x,y`: a circle is a disc (Gerber Layer Format Specification, 4.5.1, code 1); none with diameter 0
 unfoldable pub circle_at : List ℕ → List Fraction → Measure → Result (Option Sketch) MacroFault
@@ -44,7 +43,7 @@ strip w p q across up =
     if w == 0 || same_spot p q then None
     else (if is_first p q then Some (between p q across up) else Some (between q p across up))
 
--- A line along no axis is refused, or told by the stroke of its width between its ends, which its copper lies in; none with width 0.
+-- A line along no axis is refused, or is known by the stroke of its width between its ends, which its copper lies in; none with width 0.
 abbrev pub slanted : Copper → ℕ → Spot → Spot → Result (Option Sketch) MacroFault
 slanted Exact w p q = Err Slanted
 slanted Real w p q = if nat_lt MOST_DIAMETER w then Err OutOfRange else Ok (if w == 0 then None else Some (Stroke p q w))
@@ -130,17 +129,13 @@ area_at points = if list_all is_placed points then Ok (Some (filled points)) els
 abbrev pub right_of : Spot → ℕ → Spot
 right_of p far = record { x = p.x +ℤ pos far; y = p.y }
 
--- What tells a polygon: its middle; to the right of it the diameter in whole u and 1 u more, so it is never the middle, the number of corners, and the parts of a u; and the middle again.
-abbrev pub polygon_spots : Spot → ℕ → ℕ → List Spot
-polygon_spots p d n = p ∷ right_of p (d / PARTS + 1) ∷ right_of p n ∷ right_of p (d % PARTS) ∷ p ∷ []
-
--- a figure about the origin, turned and set down at a spot
+-- a figure about the origin, turned and set down at a spot; the corners of a polygon lie on no grid
 unfoldable pub sketch_at : Rotation → Spot → Option Sketch → Result (Option Figure) MacroFault
 sketch_at rotation at None = Ok None
 sketch_at rotation at (Some (Disc p d)) = disc_at (set_down rotation at p) d
 sketch_at rotation at (Some (Stroke p q w)) = stroke_at (set_down rotation at p) (set_down rotation at q) w
 sketch_at rotation at (Some (Rectangle low high)) = area_at (map (set_down rotation at) (rectangle low high))
-sketch_at rotation at (Some (Regular p d n)) = area_at (map (set_down rotation at) (polygon_spots p d n))
+sketch_at rotation at (Some (Regular p d n)) = Err BadMacro
 
 -- what is left of a figure, or of the points of an outline, where it is set down
 abbrev pub sketched : Rotation → Spot → Result (Option Sketch) MacroFault → Result (Option Figure) MacroFault

@@ -4,7 +4,6 @@ pub mod BodyWord
 pub mod Values
 pub mod Images
 pub mod Degrees
-pub mod Telling
 pub mod Fine
 pub mod Flashes
 pub mod Seen

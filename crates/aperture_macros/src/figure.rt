@@ -8,19 +8,17 @@ ghost use Rattle.aperture_macros.specs.Flashes as flashes;
 ghost use Rattle.aperture_macros.specs.Images as spec;
 ghost use Rattle.aperture_macros.specs.declared.primitive.Rotation.{Rotation as Turned};
 ghost use Rattle.planar.specs.declared.Spot.{Spot as At};
-ghost use Rattle.aperture_macros.specs.Seen.{IsMade, IsNoArea, Makes, is_circle, plain};
+ghost use Rattle.aperture_macros.specs.Seen.{IsMade, Makes, is_circle, plain};
 ghost use Rattle.aperture_macros.specs.Sketches.{IsNear, is_disc};
 
 use crate::body_word::part;
 use crate::degrees::{Turn, read_turn};
 use crate::fault::{FigureFault, MacroFault};
-use crate::fine::{fine, fine_told, is_stiff};
+use crate::fine::{fine, is_stiff};
 use crate::images::{Sketch, centre_line, circle, line, polygon};
 use crate::outline::{Outline, area_of};
 use crate::placing::Placing;
 use crate::primitive::{Copper, Form, Primitive, Rotation, Turning};
-use crate::telling::{is_moved, told, told_rest, told_round};
-use crate::values::PARTS;
 use board_shapes::{Shape, rectangle};
 use contact::Capsule;
 use lengths::decimal::{Decimal, Unit};
@@ -47,11 +45,43 @@ impl<'a> Primitive<'a> {
     ) -> Result<(), MacroFault>
         ensures { result ≡ flashes.judged copper (plain self.now) parameters.now unit }
     {
-        self.has_image(copper, parameters, unit)?;
-        Ok(())
+        if self.is_fine(parameters, unit) {
+            self.judge_fine(parameters, unit)
+        } else {
+            self.judge_plain(copper, parameters, unit)
+        }
     }
 
-    /// Whether the primitive has an image with these parameters, where `judge` finds no fault.
+    // The same of one that is not fine.
+    fn judge_plain(
+        &self,
+        copper: Copper,
+        parameters: &[Decimal],
+        unit: Unit,
+    ) -> Result<(), MacroFault>
+        ensures { result ≡ flashes.plainly_judged copper (plain self.now) parameters.now unit }
+    {
+        self.has_figure(copper, parameters, unit)?;
+        self.judge_turn(parameters, unit)
+    }
+
+    // The same of a fine one.
+    #[tactic(auto, unfolding(crate::specs::Flashes::fine_judged))]
+    fn judge_fine(&self, parameters: &[Decimal], unit: Unit) -> Result<(), MacroFault>
+        ensures { result ≡ flashes.fine_judged self.now.form self.now.lengths.now parameters.now unit }
+    {
+        let fine = fine(self.form, self.lengths, parameters, unit)?;
+        let turn = self.turn(parameters)?;
+        if turn.rest > 0 && is_stiff(fine) {
+            Err(MacroFault::Turn)
+        } else {
+            Ok(())
+        }
+    }
+
+    /// Whether the primitive has an image with these parameters where copper is taken exactly, and `judge` finds no fault. One that is
+    /// turned by degrees counts as one that has.
+    #[tactic(auto, unfolding(crate::specs::Flashes::figure_turned, crate::specs::Flashes::is_fine, crate::specs::Flashes::turn_judged))]
     pub fn has_image(
         &self,
         copper: Copper,
@@ -62,42 +92,12 @@ impl<'a> Primitive<'a> {
         ensures blank { IfOk result (λ has. has ≡ false → flashes.IsBlank (plain self.now) parameters.now unit) }
         ensures image { IfOk result (λ has. has ≡ true → flashes.HasImage (plain self.now) parameters.now unit) }
     {
-        if self.is_fine(parameters, unit) {
-            self.has_fine_image(parameters, unit)
-        } else {
-            self.has_plain_image(copper, parameters, unit)
-        }
-    }
-
-    // The same of one that is not fine.
-    fn has_plain_image(
-        &self,
-        copper: Copper,
-        parameters: &[Decimal],
-        unit: Unit,
-    ) -> Result<bool, MacroFault>
-        ensures lawful { spec.is_done result ≡ flashes.plainly_judged copper (plain self.now) parameters.now unit }
-        ensures blank { IfOk result (λ has. has ≡ false → (at : At) → flashes.figure_turned self.now.rotation self.now.form self.now.lengths.now parameters.now unit at ≡ Ok None) }
-        ensures image { IfOk result (λ has. has ≡ true → (at : At) → flashes.figure_turned self.now.rotation self.now.form self.now.lengths.now parameters.now unit at ≢ Ok None) }
-    {
-        let has = self.has_figure(copper, parameters, unit)?;
-        self.judge_turn(parameters, unit)?;
-        Ok(has)
-    }
-
-    // The same of a fine one.
-    #[tactic(auto, unfolding(crate::specs::Flashes::fine_judged))]
-    fn has_fine_image(&self, parameters: &[Decimal], unit: Unit) -> Result<bool, MacroFault>
-        ensures lawful { spec.is_done result ≡ flashes.fine_judged self.now.form self.now.lengths.now parameters.now unit }
-        ensures blank { IfOk result (λ has. has ≡ false → (at : At) → flashes.fine_figure self.now.form self.now.lengths.now parameters.now unit at ≡ Ok None) }
-        ensures image { IfOk result (λ has. has ≡ true → (at : At) → flashes.fine_figure self.now.form self.now.lengths.now parameters.now unit at ≢ Ok None) }
-    {
-        let fine = fine(self.form, self.lengths, parameters, unit)?;
-        let turn = self.turn(parameters)?;
-        if turn.rest > 0 && is_stiff(fine) {
-            Err(MacroFault::Turn)
-        } else {
-            Ok(fine.is_some())
+        match self.rotation {
+            Turning::Quarters(_) => self.has_figure(copper, parameters, unit),
+            Turning::Degrees => {
+                self.judge(copper, parameters, unit)?;
+                Ok(true)
+            },
         }
     }
 
@@ -192,19 +192,16 @@ impl<'a> Primitive<'a> {
         }
     }
 
-    /// What the primitive flashes at a spot within 1 m of 0, with the parameters of an aperture
-    /// definition in their unit (Gerber Layer Format Specification, 4.5.1): its figure about the
-    /// origin of the macro, turned counterclockwise about it and moved to the spot. `None` stands
-    /// exactly where a diameter, a width, a height or the length of a vector line is 0. For a vector line
-    /// along no axis stands its stroke: the places at most half its width from the segment between its ends.
-    /// Where it is turned by degrees, whole quarter turns are made, and an area is told with what is left, as is a disc that
-    /// this moves. A polygon is told by its middle, the diameter and the number of its corners, and a figure of an odd size by
-    /// its middle or its ends and its sizes.
+    /// What the primitive flashes at a spot within 1 m of 0 where copper is taken exactly, with the parameters of an aperture
+    /// definition in their unit (Gerber Layer Format Specification, 4.5.1): its figure about the origin of the macro, turned
+    /// counterclockwise about it and moved to the spot. `None` stands exactly where a diameter, a width, a height or the length of a
+    /// vector line is 0. For a vector line along no axis stands its stroke: the places at most half its width from the segment between
+    /// its ends.
     ///
-    /// The fault of its rotation comes first, then that of the lengths as `judge` has it of `Real` copper, then
-    /// `OutOfRange`, where the centre of a circle, a corner, an end or a spot that tells a turn is over 1 m from 0 in
-    /// x or y. `NoMemory` comes for areas alone, and what tells a turn or an odd size is one: a circle of an even diameter that
-    /// tells no turn takes no memory.
+    /// `Turn` comes of one that is turned by degrees, then the fault of the lengths, `BadMacro` of a polygon, then `OutOfRange`, where
+    /// the centre of a circle, a corner or an end is over 1 m from 0 in x or y. `NoMemory` comes for areas alone: a circle takes no
+    /// memory.
+    #[tactic(auto, unfolding(crate::specs::Flashes::figure_turned))]
     pub fn figure(
         &self,
         alloc: Global,
@@ -214,81 +211,11 @@ impl<'a> Primitive<'a> {
     ) -> Result<Option<Shape>, FigureFault>
         requires placed { IsPlaced at }
         ensures shape { Makes result (flashes.figure_at (plain self.now) parameters.now unit at) }
-        ensures no_memory { is_circle self.now.form ≡ true → IsNoArea (flashes.figure_at (plain self.now) parameters.now unit at) → IsMade result (flashes.figure_at (plain self.now) parameters.now unit at) }
-    {
-        if self.is_fine(parameters, unit) {
-            self.fine_figure(alloc, parameters, unit, at)
-        } else {
-            self.plain_figure(alloc, parameters, unit, at)
-        }
-    }
-
-    // The same of a fine one.
-    #[tactic(auto, unfolding(crate::specs::Flashes::fine_figure))]
-    fn fine_figure(
-        &self,
-        alloc: Global,
-        parameters: &[Decimal],
-        unit: Unit,
-        at: Spot,
-    ) -> Result<Option<Shape>, FigureFault>
-        requires placed { IsPlaced at }
-        ensures shape { Makes result (flashes.fine_figure self.now.form self.now.lengths.now parameters.now unit at) }
-        ensures no_memory { IsNoArea (flashes.fine_figure self.now.form self.now.lengths.now parameters.now unit at) → IsMade result (flashes.fine_figure self.now.form self.now.lengths.now parameters.now unit at) }
-    {
-        let turn = match self.turn(parameters) {
-            Ok(turn) => turn,
-            Err(fault) => return Err(FigureFault::Macro(fault)),
-        };
-        let rotation = turn.quarters;
-        match fine(self.form, self.lengths, parameters, unit) {
-            Ok(fine) => fine_told(alloc, Placing { rotation, at }, fine),
-            Err(fault) => Err(FigureFault::Macro(fault)),
-        }
-    }
-
-    // The same of one that is not fine.
-    #[tactic(auto, unfolding(crate::specs::Flashes::figure_turned))]
-    fn plain_figure(
-        &self,
-        alloc: Global,
-        parameters: &[Decimal],
-        unit: Unit,
-        at: Spot,
-    ) -> Result<Option<Shape>, FigureFault>
-        requires placed { IsPlaced at }
-        ensures shape { Makes result (flashes.figure_turned self.now.rotation self.now.form self.now.lengths.now parameters.now unit at) }
-        ensures no_memory { is_circle self.now.form ≡ true → IsNoArea (flashes.figure_turned self.now.rotation self.now.form self.now.lengths.now parameters.now unit at) → IsMade result (flashes.figure_turned self.now.rotation self.now.form self.now.lengths.now parameters.now unit at) }
+        ensures no_memory { is_circle self.now.form ≡ true → IsMade result (flashes.figure_at (plain self.now) parameters.now unit at) }
     {
         match self.rotation {
             Turning::Quarters(rotation) => self.figure_by(alloc, parameters, unit, rotation, at),
-            Turning::Degrees => match self.turn(parameters) {
-                Ok(turn) => self.told_figure(alloc, parameters, unit, turn, at),
-                Err(fault) => Err(FigureFault::Macro(fault)),
-            },
-        }
-    }
-
-    // The same where it is turned by degrees.
-    fn told_figure(
-        &self,
-        alloc: Global,
-        parameters: &[Decimal],
-        unit: Unit,
-        turn: Turn,
-        at: Spot,
-    ) -> Result<Option<Shape>, FigureFault>
-        requires below { turn.rest < 900000000 }
-        requires placed { IsPlaced at }
-        ensures shape { Makes result (flashes.told_figure turn self.now.form self.now.lengths.now parameters.now unit at) }
-        ensures no_memory { is_circle self.now.form ≡ true → IsNoArea (flashes.told_figure turn self.now.form self.now.lengths.now parameters.now unit at) → IsMade result (flashes.told_figure turn self.now.form self.now.lengths.now parameters.now unit at) }
-    {
-        let rest = told_rest(self.form, turn.rest);
-        match self.figure_by(alloc, parameters, unit, turn.quarters, at) {
-            Ok(Some(Shape::Filled(area))) => told(alloc, at, rest, &area.points),
-            Ok(Some(Shape::Round(capsule))) => turned_round(alloc, at, turn.rest, capsule),
-            Ok(None) => Ok(None),
-            Err(fault) => Err(fault),
+            Turning::Degrees => Err(FigureFault::Macro(MacroFault::Turn)),
         }
     }
 
@@ -324,24 +251,6 @@ impl<'a> Primitive<'a> {
             Form::CentreLine => set_down(alloc, by, centre_line(self.lengths, parameters, unit)),
             Form::Polygon(n) => set_down(alloc, by, polygon(n, self.lengths, parameters, unit)),
         }
-    }
-}
-
-// A disc or a stroke as it is, or told where its turn moves it.
-fn turned_round(
-    alloc: Global,
-    about: Spot,
-    rest: u32,
-    capsule: Capsule,
-) -> Result<Option<Shape>, FigureFault>
-    requires about { IsPlaced about }
-    ensures shape { Makes result (flashes.tell_round about rest (record { a = capsule.a; b = capsule.b; r = capsule.r })) }
-    ensures no_memory { IsNoArea (flashes.tell_round about rest (record { a = capsule.a; b = capsule.b; r = capsule.r })) → IsMade result (flashes.tell_round about rest (record { a = capsule.a; b = capsule.b; r = capsule.r })) }
-{
-    if is_moved(about, rest, &capsule) {
-        told_round(alloc, about, rest, &capsule)
-    } else {
-        Ok(Some(Shape::Round(capsule)))
     }
 }
 
@@ -386,7 +295,7 @@ fn set_down(
         Ok(Some(Sketch::Disc(p, d))) => disc(by.moved(p), d),
         Ok(Some(Sketch::Rectangle(low, high))) => area(alloc, by, low, high),
         Ok(Some(Sketch::Stroke(p, q, w))) => stroke(by.moved(p), by.moved(q), w),
-        Ok(Some(Sketch::Regular(p, d, n))) => marks(alloc, by, p, d, n),
+        Ok(Some(Sketch::Regular(_, _, _))) => Err(FigureFault::Macro(MacroFault::BadMacro)),
     }
 }
 
@@ -408,43 +317,6 @@ fn stroke(p: Spot, q: Spot, w: u64) -> Result<Option<Shape>, FigureFault>
         return Err(FigureFault::Macro(MacroFault::OutOfRange));
     }
     Ok(Some(Shape::Round(Capsule::new(p, q, (w / 2) as i64))))
-}
-
-// What tells a polygon.
-fn marks(alloc: Global, by: Placing, p: Spot, d: u64, n: u32) -> Result<Option<Shape>, FigureFault>
-    requires placed { IsPlaced p }
-    requires small { d ≤ MOST_DIAMETER * PARTS }
-    ensures { Makes result (spec.area_at (map (spec.set_down by.rotation by.at) (spec.polygon_spots p d n))) }
-{
-    area_of(alloc, mark_spots(by, p, d, n).as_slice())
-}
-
-// Its spots, each set down.
-fn mark_spots(by: Placing, p: Spot, d: u64, n: u32) -> [Spot; 5]
-    requires placed { IsPlaced p }
-    requires small { d ≤ MOST_DIAMETER * PARTS }
-    ensures value { result ≡ map (spec.set_down by.rotation by.at) (spec.polygon_spots p d n) }
-    ensures closed { IsClosed result }
-    ensures five { length result ≡ 5 }
-{
-    let middle = by.moved(p);
-    let across = by.moved(right_of(p, d / PARTS + 1));
-    let count = by.moved(right_of(p, n as u64));
-    let parts = by.moved(right_of(p, d % PARTS));
-    [middle, across, count, parts, middle]
-}
-
-// So far to the right of a spot.
-fn right_of(p: Spot, far: u64) -> Spot
-    requires placed { IsPlaced p }
-    requires small { far < 2 ^ 32 }
-    ensures value { result ≡ spec.right_of p far }
-    ensures reachable { IsReachable result }
-{
-    Spot {
-        x: p.x + far as i64,
-        y: p.y,
-    }
 }
 
 // The area of a rectangle.

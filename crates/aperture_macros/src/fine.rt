@@ -1,28 +1,20 @@
 //! Circles, vector lines and centre lines of real copper with a size that is an odd number of u.
-ghost use Rattle.std.specs.Prelude.{◌≡◌, ◌≤◌, map, pos, IfOk, Some, length};
+ghost use Rattle.std.specs.Prelude.{◌≡◌, ◌≤◌, pos, IfOk};
 ghost use Rattle.planar.specs.Plane.{IsPlaced, IsReachable};
 ghost use Rattle.planar.specs.declared.TheConstants.{METRE};
 ghost use Rattle.contact.specs.declared.TheConstants.{MOST_DIAMETER};
-ghost use Rattle.area_contact.specs.Contour.{IsClosed};
 ghost use Rattle.aperture_macros.specs.Fine as spec;
 ghost use Rattle.aperture_macros.specs.Flashes as flashes;
 ghost use Rattle.aperture_macros.specs.Fine.{IsNearFine};
-ghost use Rattle.aperture_macros.specs.Images.{right_of as right_of_spot, set_down};
-ghost use Rattle.aperture_macros.specs.Seen.{IsMade, IsNoArea, Makes};
-ghost use Rattle.aperture_macros.specs.Telling.{told};
+ghost use Rattle.aperture_macros.specs.Images.{right_of as right_of_spot};
 
 use crate::body_word::{part, past};
-use crate::fault::{FigureFault, MacroFault};
-use crate::outline::area_of;
-use crate::placing::Placing;
+use crate::fault::MacroFault;
 use crate::primitive::Form;
-use crate::telling::end_of_way;
 use crate::values::{extent, point};
-use board_shapes::Shape;
 use contact::MOST_DIAMETER;
 use lengths::decimal::{Decimal, Unit};
 use planar::{Spot, is_same};
-use std::alloc::Global;
 
 /// What a fine primitive flashes.
 #[derive(Clone, Copy, Debug, PartialEq, Eq)]
@@ -188,47 +180,5 @@ pub fn is_stiff(fine: Option<FineSketch>) -> bool
     match fine {
         None => false,
         Some(fine) => !is_central(fine.kind, fine.start),
-    }
-}
-
-// What is told of its turn, by its kind.
-fn fine_rest(kind: FineKind) -> u32
-    ensures { result ≡ spec.fine_rest kind }
-{
-    match kind {
-        FineKind::Disc => 1_800_000_000,
-        FineKind::Rectangle => 2_700_000_000,
-        FineKind::Line => 3_600_000_000,
-    }
-}
-
-// The spots that tell it, set down.
-fn told_spots(by: Placing, fine: FineSketch) -> [Spot; 7]
-    requires near { IsNearFine (Some fine) }
-    ensures value { result ≡ told by.at (spec.fine_rest fine.kind) (map (set_down by.rotation by.at) (spec.fine_spots fine)) }
-    ensures closed { IsClosed result }
-    ensures seven { length result ≡ 7 }
-{
-    let start = by.moved(fine.start);
-    let end = by.moved(fine.end);
-    let side = by.moved(fine.side);
-    let about = by.at;
-    let to = end_of_way(about, fine_rest(fine.kind));
-    [start, end, side, start, about, to, start]
-}
-
-/// The area that tells it, set down; `OutOfRange` where one of its spots is over 1 m from 0 in x or y.
-pub fn fine_told(
-    alloc: Global,
-    by: Placing,
-    fine: Option<FineSketch>,
-) -> Result<Option<Shape>, FigureFault>
-    requires near { IsNearFine fine }
-    ensures shape { Makes result (spec.fine_told by.rotation by.at fine) }
-    ensures no_memory { IsNoArea (spec.fine_told by.rotation by.at fine) → IsMade result (spec.fine_told by.rotation by.at fine) }
-{
-    match fine {
-        None => Ok(None),
-        Some(fine) => area_of(alloc, told_spots(by, fine).as_slice()),
     }
 }

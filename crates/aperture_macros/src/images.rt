@@ -133,6 +133,8 @@ pub fn polygon(
     parameters: &[Decimal],
     unit: Unit,
 ) -> Result<Option<Sketch>, MacroFault>
+    requires three { 3 ≤ corners }
+    requires twelve { corners ≤ 12 }
     ensures value { result ≡ spec.polygon_at corners text.now parameters.now unit }
     ensures near { IfOk result IsNear }
 {

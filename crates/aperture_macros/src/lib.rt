@@ -15,7 +15,6 @@
 //! - `degrees`: how far a primitive is turned in real copper.
 //! - `placing`: where a figure is set down.
 //! - `outline`: the areas of outlines.
-//! - `telling`: how areas tell how far they are turned.
 //! - `figure`: figures where they are flashed.
 //! - `laws`: what strokes and areas they flash.
 #![tactic(auto)]
@@ -32,7 +31,6 @@ mod outline;
 mod parts;
 mod placing;
 mod primitive;
-mod telling;
 mod values;
 
 pub use body_word::read_body;

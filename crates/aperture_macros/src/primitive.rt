@@ -1,7 +1,7 @@
 //! Primitives.
 ghost use Rattle.std.specs.Prelude.{◌≡◌, ◌≤◌, ◌+◌, ◌*◌};
 ghost use Rattle.aperture_macros.specs.BodyWord.{row};
-ghost use Rattle.aperture_macros.specs.Sized.{IsSized, outline_edges};
+ghost use Rattle.aperture_macros.specs.Sized.{IsSized, corners_of, outline_edges};
 ghost use Rattle.aperture_macros.specs.declared.TheConstants.{MOST_OUTLINE_EDGES};
 
 /// What a primitive is, by its code: 1, 4, 20, 21 or 5. An outline has so many edges, from 3 to `MOST_OUTLINE_EDGES`, a polygon so many
@@ -16,7 +16,7 @@ pub enum Form {
 }
 
 /// Which primitives are taken: those alone whose figures are exact, or those of real copper, which may be vector
-/// lines along no axis, each told by its stroke, polygons, of odd sizes, and turned by degrees.
+/// lines along no axis, polygons, of odd sizes, and turned by degrees.
 #[derive(Clone, Copy, Debug, PartialEq, Eq)]
 pub enum Copper {
     Exact,
@@ -90,4 +90,6 @@ pub struct Primitive<'a> {
     pub lengths: &'a [u8],
     ghost enough: { 3 ≤ outline_edges form },
     ghost few: { outline_edges form ≤ MOST_OUTLINE_EDGES },
+    ghost three: { 3 ≤ corners_of form },
+    ghost twelve: { corners_of form ≤ 12 },
 }

@@ -1,5 +1,5 @@
 -- What an aperture flashes.
-use Rattle.std.specs.Prelude.{◌≡◌, ℕ, Bool, true, false, ◌&&◌, ◌==◌, ◌%◌, ◌/◌, ◌-◌, ◌+◌, ◌*◌, min, nat_lt, if◌then◌else◌, List, ℤ, pos, ◌<◌, ◌≤◌, ◌≤ℤ◌, unsigned_abs, Option, Some, None, Result, Ok, Err}
+use Rattle.std.specs.Prelude.{◌≡◌, ℕ, Bool, true, false, ◌&&◌, ◌==◌, ◌%◌, ◌/◌, ◌-◌, min, nat_lt, if◌then◌else◌, List, ℤ, pos, ◌≤◌, ◌≤ℤ◌, unsigned_abs, Option, Some, None, Result, Ok, Err}
 use Rattle.std.specs.List.{list_all}
 use Rattle.contact.specs.declared.TheConstants.{MOST_DIAMETER}
 use Rattle.planar.specs.Plane.{is_placed}
@@ -9,14 +9,10 @@ use Rattle.board_shapes.specs.declared.shape.Shape.{Shape}
 use Rattle.board_shapes.specs.Figures.{Figure, Stroke, filled, round, seen_shape}
 use Rattle.board_shapes.specs.Rectangles.{lower, rectangle, upper}
 use Rattle.apertures.specs.declared.aperture.Aperture.{Aperture}
-use Rattle.apertures.specs.declared.aperture.Aperture.TheVariants.{Circle, Rectangle, Obround, Ring, Frame, FineRectangle, FineObround, FineCircle, Holed}
-use Rattle.apertures.specs.declared.aperture.HoledForm.{HoledForm}
+use Rattle.apertures.specs.declared.aperture.Aperture.TheVariants.{Circle, Rectangle, Obround}
 use Rattle.apertures.specs.declared.fault.FlashFault.{FlashFault}
 use Rattle.apertures.specs.declared.fault.FlashFault.TheVariants.{OutOfRange, NoMemory}
 use Rattle.apertures.specs.Definition.{is_zero}
-use Rattle.apertures.specs.Holes.{is_frame, is_ring}
-use Rattle.apertures.specs.FineHoles.{is_wide}
-use Rattle.apertures.specs.Telling.{told_fine, told_frame, told_holed, told_ring}
 
 -- a size: even, and from 0 to 1 m
 pub record IsSize (z : ℤ) : Type 0 where
@@ -28,51 +24,20 @@ pub record IsSize (z : ℤ) : Type 0 where
 abbrev pub IsNarrow : ℕ → Type 0
 IsNarrow size = size ≤ MOST_DIAMETER
 
--- a size of a fine aperture: over 0 and below 1 m
-pub record IsFineSize (z : ℤ) : Type 0 where
-  pub some : pos 1 ≤ℤ z
-  pub below : unsigned_abs z < METRE
-
--- every size is one, the hole is less than both sides, and neither a hole nor the lesser side of what is round is over MOST_DIAMETER
-pub record IsHoledForm (form : HoledForm) : Type 0 where
-  pub x : IsFineSize form.x
-  pub y : IsFineSize form.y
-  pub hole : IsFineSize form.hole
-  pub narrow : is_wide form ≡ false
-  pub frame : is_frame (unsigned_abs form.x) (unsigned_abs form.y) (unsigned_abs form.hole) ≡ true
-
--- every size is one; only a circle without a hole may have a size of 0; neither a circle's diameter nor an obround's lesser side is over
--- MOST_DIAMETER; a hole lies within its figure
+-- every size is one; only a circle may have a size of 0; neither a circle's diameter nor an obround's lesser side is over MOST_DIAMETER
 abbrev pub IsLawful : Aperture → Type 0
 IsLawful (Circle d) = IsSize d × IsNarrow (unsigned_abs d)
 IsLawful (Rectangle x y) = IsSize x × IsSize y × (is_zero x ≡ false) × (is_zero y ≡ false)
 IsLawful (Obround x y) = IsSize x × IsSize y × (is_zero x ≡ false) × (is_zero y ≡ false) × IsNarrow (min (unsigned_abs x) (unsigned_abs y))
-IsLawful (Ring d hole) = IsSize d × IsSize hole × IsNarrow (unsigned_abs d) × (is_ring (unsigned_abs d) (unsigned_abs hole) ≡ true)
-IsLawful (Frame x y hole) = IsSize x × IsSize y × IsSize hole × (is_frame (unsigned_abs x) (unsigned_abs y) (unsigned_abs hole) ≡ true)
-IsLawful (FineRectangle x y) = IsFineSize x × IsFineSize y
-IsLawful (FineObround x y) = IsFineSize x × IsFineSize y × IsNarrow (min (unsigned_abs x) (unsigned_abs y))
-IsLawful (FineCircle d) = IsFineSize d × IsNarrow (unsigned_abs d)
-IsLawful (Holed form) = IsHoledForm form
 
--- whether the aperture flashes an area, or one that tells it
+-- whether the aperture flashes an area
 abbrev pub is_of_area : Aperture → Bool
 is_of_area (Rectangle x y) = true
-is_of_area (Ring d hole) = true
-is_of_area (Frame x y hole) = true
-is_of_area (FineRectangle x y) = true
-is_of_area (FineObround x y) = true
-is_of_area (FineCircle d) = true
-is_of_area (Holed form) = true
 is_of_area other = false
 
--- the least even diameter that is not below a fine one, up to MOST_DIAMETER
-abbrev pub even_pen : ℤ → ℤ
-even_pen d = pos (2 * ((min (unsigned_abs d) MOST_DIAMETER + 1) / 2))
-
--- the diameter of the pen that the aperture is: a circle without a hole alone draws (4.8); a fine one as the next even one, which `arc_layer` undoes
+-- the diameter of the pen that the aperture is: a circle alone draws (4.8)
 abbrev pub pen_of : Aperture → Option ℤ
 pen_of (Circle d) = Some d
-pen_of (FineCircle d) = Some (even_pen d)
 pen_of other = None
 
 -- half a size
@@ -83,7 +48,7 @@ half z = pos (unsigned_abs z / 2)
 abbrev pub disc : ℕ → Spot → Option Figure
 disc d at = if d == 0 then None else Some (round (record { a = at; b = at; r = pos (d / 2) }))
 
--- why there is no flash: an end, a corner or a spot that tells the flash is over 1 m from 0
+-- why there is no flash: an end or a corner is over 1 m from 0
 pub data NoFlash : Type 0 where
   leaves : NoFlash
 
@@ -105,17 +70,11 @@ obround x y at =
     if nat_lt y x then placed (record { a = lower at (x - y) 0; b = upper at (x - y) 0; r = pos (y / 2) })
     else placed (record { a = lower at 0 (y - x); b = upper at 0 (y - x); r = pos (x / 2) })
 
--- What the aperture makes at a spot (Gerber Layer Format Specification, 4.4); with a hole or fine, what tells it.
+-- What the aperture makes at a spot (Gerber Layer Format Specification, 4.4).
 unfoldable pub flash_of : Aperture → Spot → Result (Option Figure) NoFlash
 flash_of (Circle d) at = Ok (disc (unsigned_abs d) at)
 flash_of (Rectangle x y) at = rectangle_at (unsigned_abs x) (unsigned_abs y) at
 flash_of (Obround x y) at = obround (unsigned_abs x) (unsigned_abs y) at
-flash_of (Ring d hole) at = area_at (told_ring (unsigned_abs d) (unsigned_abs hole) at)
-flash_of (Frame x y hole) at = area_at (told_frame (unsigned_abs x) (unsigned_abs y) (unsigned_abs hole) at)
-flash_of (FineRectangle x y) at = area_at (told_fine false (unsigned_abs x) (unsigned_abs y) at)
-flash_of (FineObround x y) at = area_at (told_fine true (unsigned_abs x) (unsigned_abs y) at)
-flash_of (FineCircle d) at = area_at (told_fine true (unsigned_abs d) (unsigned_abs d) at)
-flash_of (Holed form) at = area_at (told_holed form.round (unsigned_abs form.x) (unsigned_abs form.y) (unsigned_abs form.hole) at)
 
 -- the answer is the flash
 abbrev pub IsFlash : Result (Option Shape) FlashFault → Result (Option Figure) NoFlash → Type 0

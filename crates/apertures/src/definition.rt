@@ -150,9 +150,9 @@ fn sides_in(parameters: &[u8], unit: Unit) -> Result<(i64, i64), ApertureFault>
     Ok((x, y))
 }
 
-/// A size that is at most `MOST_DIAMETER`.
+// A size that is at most `MOST_DIAMETER`.
 #[tactic(auto, unfolding(crate::specs::Definition::diameter_at))]
-pub fn diameter(text: &[u8], unit: Unit) -> Result<i64, ApertureFault>
+fn diameter(text: &[u8], unit: Unit) -> Result<i64, ApertureFault>
     ensures value { result ≡ spec.diameter_at text.now unit }
     ensures narrow { IfOk result (λ d. IsNarrow (unsigned_abs d)) }
 {
@@ -163,9 +163,9 @@ pub fn diameter(text: &[u8], unit: Unit) -> Result<i64, ApertureFault>
     Ok(d)
 }
 
-/// A size that is no 0.
+// A size that is no 0.
 #[tactic(auto, unfolding(crate::specs::Definition::side_at))]
-pub fn side(text: &[u8], unit: Unit) -> Result<i64, ApertureFault>
+fn side(text: &[u8], unit: Unit) -> Result<i64, ApertureFault>
     ensures { result ≡ spec.side_at text.now unit }
 {
     let u = size(text, unit)?;

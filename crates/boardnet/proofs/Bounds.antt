@@ -156,7 +156,7 @@ no_fault Above n xs ys lc lower uc upper e a b h = h.refused (first_alike Above 
 
 -- boards that bound a real one do so
 pub no_reason : OneOutcome → (real : PlainRealBoard) (lower upper : PlainBoard) (bytes : List ℕ) (why : Unbound) → IsUnboundBy real lower upper bytes why → AreBoundedBy real lower upper bytes → ⊥
-no_reason law real lower upper bytes (NotCounts line) h b = law.no_other bytes b.counted.lower_counts b.counted.upper_counts line b.counted.counts h
+no_reason law real lower upper bytes (NotCounts n) h b = law.no_other bytes b.counted.lower_counts b.counted.upper_counts n b.counted.counts h
 no_reason law real lower upper bytes (Netlist Below) h b = h.1 b.counted.lower_netlist
 no_reason law real lower upper bytes (Netlist Above) h b = h.1.1 b.counted.upper_netlist
 no_reason law real lower upper bytes (Counts side) h b =

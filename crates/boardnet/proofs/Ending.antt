@@ -12,7 +12,7 @@ use Rattle.board_package.specs.declared.fault.BuildFault.TheVariants as fault
 use Rattle.board_package.specs.declared.contents.Refusal.TheVariants as refusal
 use Rattle.boardnet.proofs.Sound.{OneOutcome}
 use Rattle.boardnet.proofs.Soundness.{sound}
-use Rattle.boardnet.specs.Answers.{IsAnswerTo, RefusesFor, subject_of, report_of}
+use Rattle.boardnet.specs.Answers.{IsAnswerTo, RefusesFor, subject_of, report_or_counts_of}
 use Rattle.reports.specs.Notes.{line_of, is_good, status_of}
 use Rattle.boardnet.specs.Ends.{Ends, HasText, Puts, StopsFor, TakesFiles, cut, whole}
 use Rattle.boardnet.specs.Kept.{LeftBy, Spares}
@@ -70,7 +70,7 @@ reason_of : OneOutcome → (c : Command) (held : Option Files) (before : ℕ) (w
     → RefusesFor c why status Line → HasReason c held before now lost why → LeftBy before was now lost why → Reason c held before was now lost status Line
 reason_of law c held before was now lost status Line (Stopped why) said h left = stopped_reason law c held before was now lost status Line why said h left
 reason_of law c held before was now lost status Line other said h left =
-    refusal_of _ said.0 (told_of (read_by c held) (λ f. (task_of c).refuses (Held f) other) (λ f. OutcomeOf (Held f) c (Refused (reason_line (subject_of c) (report_of c) other)) × (HasText (Held f) c → ⊥)) (λ f r. (inr (other, r, refl), (sound c).no_refused_text law f other r)) h) said.1 left
+    refusal_of _ said.0 (told_of (read_by c held) (λ f. (task_of c).refuses (Held f) other) (λ f. OutcomeOf (Held f) c (Refused (reason_line (subject_of c) (report_or_counts_of c) other)) × (HasText (Held f) c → ⊥)) (λ f r. (inr (other, r, refl), (sound c).no_refused_text law f other r)) h) said.1 left
 
 -- ---- What a command comes to
 

@@ -73,8 +73,8 @@ abbrev pub subject_of : Command → List ℕ
 subject_of command = (task_of command).subject
 
 -- the name of the report of an audit, or of the counts of `between`; empty where a command has neither
-abbrev pub report_of : Command → List ℕ
-report_of command = (task_of command).report
+abbrev pub report_or_counts_of : Command → List ℕ
+report_or_counts_of command = (task_of command).report
 
 -- the status where a command has no answer
 abbrev pub reason_status : Unanswered → ℕ
@@ -83,4 +83,4 @@ reason_status other = 3
 
 -- the status is the reason's, and `Line` holds of its line
 abbrev pub RefusesFor : Command → Unanswered → ℕ → (List ℕ → Type 0) → Type 0
-RefusesFor command why status Line = (status ≡ reason_status why) × Line (reason_line (subject_of command) (report_of command) why)
+RefusesFor command why status Line = (status ≡ reason_status why) × Line (reason_line (subject_of command) (report_or_counts_of command) why)

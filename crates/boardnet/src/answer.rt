@@ -5,7 +5,6 @@ ghost use Rattle.boardnet.specs.declared.answer.Unanswered.TheVariants as unansw
 ghost use Rattle.std.specs.Prelude.{◌≡◌};
 
 use crate::unbound::Unbound;
-use real_copper::RealKind;
 use board_maker::MakeFault;
 use board_package::{BuildFault, LabelledFault};
 use contact::Bounds;
@@ -13,6 +12,7 @@ use gaps::GapFault;
 use gerber_layer::{FlattenFault, FlattenKind};
 use lengths::rows::NoMemory;
 use lengths::text::Text;
+use real_copper::RealKind;
 use real_package::RealBuildFault;
 use reports::Answer;
 

@@ -76,7 +76,7 @@ pub enum Command<'a> {
 }
 
 impl<'a> Command<'a> {
-    ghost use Rattle.boardnet.specs.Answers.{subject_of, report_of};
+    ghost use Rattle.boardnet.specs.Answers.{subject_of, report_or_counts_of};
 
     /// The name of the manifest, or of the copper file, that it is about.
     pub fn subject(self) -> &'a str
@@ -96,7 +96,7 @@ impl<'a> Command<'a> {
 
     /// The name of its report, or of its file of counts; empty where it has none.
     pub fn report(self) -> &'a str
-        ensures { result.now ≡ report_of (asked self.entry) }
+        ensures { result.now ≡ report_or_counts_of (asked self.entry) }
     {
         match self {
             Command::Audit { report, .. } => report,

@@ -9,11 +9,11 @@ ghost use Rattle.std.specs.Prelude.{IfErr, IfOk, ◌≡◌, ◌≤◌};
 
 use crate::answer::Unanswered;
 use crate::commands::Command;
-use real_copper::RealKind;
 use board_io::Sink;
 use board_package::{BuildFault, Refusal};
 use file_reading::RefusalKind;
 use lengths::text::Text;
+use real_copper::RealKind;
 use reports::lines::{self, Kind};
 use std::alloc::Global;
 

@@ -12,7 +12,11 @@ mod layers;
 #[cfg(test)]
 mod macro_words;
 #[cfg(test)]
+mod real_apertures;
+#[cfg(test)]
 mod real_files;
+#[cfg(test)]
+mod real_primitives;
 #[cfg(test)]
 mod repeats;
 #[cfg(test)]

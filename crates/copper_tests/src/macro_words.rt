@@ -359,66 +359,6 @@ static OUTLINES: [Flash; 16] = [
     ),
 ];
 
-// Of real copper: areas with the three spots that tell their turn, of which the last is the first corner again. A
-// rotated rectangle and a rotated outline are as KiCad and Altium write them.
-static TURNS: [Flash; 16] = [
-    (
-        "21,1,$1,$2,0,0,$3",
-        "2X1X45.0",
-        0,
-        0,
-        "[-10000000 -5000000][10000000 -5000000][10000000 5000000][-10000000 5000000][-10000000 -5000000][0 0][15000 0]",
-    ),
-    (
-        "21,1,$1,$2,0,0,$3",
-        "2X1X90",
-        0,
-        0,
-        "[5000000 -10000000][5000000 10000000][-5000000 10000000][-5000000 -10000000][5000000 -10000000][0 0][0 0]",
-    ),
-    (
-        "21,1,2,1,0,0,-30",
-        "",
-        0,
-        0,
-        "[-5000000 10000000][-5000000 -10000000][5000000 -10000000][5000000 10000000][-5000000 10000000][0 0][20000 0]",
-    ),
-    (
-        "20,1,1.0,-1,0,1,0,0.0000001",
-        "",
-        7,
-        9,
-        "[-9999993 -4999991][10000007 -4999991][10000007 5000009][-9999993 5000009][-9999993 -4999991][7 9][7 10]",
-    ),
-    (
-        "4,1,4,$1,$2,$3,$4,$5,$6,$7,$8,$1,$2,$9",
-        "-1X-0.5X1X-0.5X1X0.5X-1X0.5X89.9999999",
-        0,
-        0,
-        "[-10000000 -5000000][10000000 -5000000][10000000 5000000][-10000000 5000000][-10000000 -5000000][0 0][29999 29999]",
-    ),
-    // A turn leaves a disc about the origin what it is; of others four spots tell it. Lines along no axis turn by quarters alone.
-    ("1,1,1.0,0,0,45", "", 0, 0, "0 0, 5000000"),
-    ("1,1,1.0,1.0,0,450", "", 0, 0, "0 10000000, 5000000"),
-    (
-        "1,1,1.0,1.0,0,135",
-        "",
-        7,
-        9,
-        "[7 10000009][7 10000009][7 10000009][5000008 10000009][7 9][15007 9]",
-    ),
-    ("20,1,0.2,0,0,1.0,1.0,-270", "", 0, 0, "0 0, 1000000"),
-    ("20,1,0.2,0,0,1.0,1.0,45", "", 0, 0, "Turn"),
-    // Terms are judged one by one, then the sum, behind the lengths.
-    ("21,1,2,1,0,0,0.00000001", "", 0, 0, "OffGrid"),
-    ("21,1,2,1,0,0,600+600", "", 0, 0, "OutOfRange"),
-    ("21,1,2,1,0,1001,0.00000001", "", 0, 0, "OutOfRange"),
-    ("1,1,1.0,1.0,0,45.00000001", "", 0, 0, "OffGrid"),
-    ("21,1,0,1,0,0,45", "", 0, 0, "none"),
-    // The spots that tell a turn are within 1 m too.
-    ("21,1,2,1,-2,0,45", "", 9_999_990_000, 0, "OutOfRange"),
-];
-
 fn shown(alloc: Global, shape: &Shape) -> Result<String, AllocError> {
     let mut line = String::new(alloc);
     match shape {
@@ -434,8 +374,8 @@ fn shown(alloc: Global, shape: &Shape) -> Result<String, AllocError> {
     Ok(line)
 }
 
-// The parameters that a text has, cut at `X`; none for no text.
-fn parameters(alloc: Global, text: &str) -> Result<Vec<Decimal>, AllocError> {
+/// The parameters that a text has, cut at `X`; none for no text.
+pub fn parameters(alloc: Global, text: &str) -> Result<Vec<Decimal>, AllocError> {
     let mut found = Vec::new(alloc);
     for part in text.as_bytes().split(|b| *b == b'X') {
         if let Some(decimal) = read_decimal(part) {
@@ -445,15 +385,9 @@ fn parameters(alloc: Global, text: &str) -> Result<Vec<Decimal>, AllocError> {
     Ok(found)
 }
 
-fn flashed(
-    alloc: Global,
-    copper: Copper,
-    word: &str,
-    text: &str,
-    at: Spot,
-) -> Result<String, AllocError> {
+fn flashed(alloc: Global, word: &str, text: &str, at: Spot) -> Result<String, AllocError> {
     let given = parameters(alloc, text)?;
-    let primitive = match read_body(copper, word.as_bytes()) {
+    let primitive = match read_body(Copper::Exact, word.as_bytes()) {
         Err(fault) => return format!(in alloc; "{fault:?}"),
         Ok(None) => return String::from_str(alloc, "comment"),
         Ok(Some(primitive)) => primitive,
@@ -461,7 +395,7 @@ fn flashed(
     if !is_placed(at) {
         return String::from_str(alloc, "no spot");
     }
-    let image = match primitive.has_image(copper, &given, Unit::Mm) {
+    let image = match primitive.has_image(Copper::Exact, &given, Unit::Mm) {
         Err(fault) => return format!(in alloc; "{fault:?}"),
         Ok(image) => image,
     };
@@ -478,9 +412,9 @@ fn flashed(
 }
 
 // Whether each primitive flashes as its row says.
-fn all_flash(alloc: Global, copper: Copper, rows: &[Flash]) -> Result<bool, AllocError> {
+fn all_flash(alloc: Global, rows: &[Flash]) -> Result<bool, AllocError> {
     for (word, text, x, y, expected) in rows {
-        let flash = flashed(alloc, copper, *word, *text, Spot { x: *x, y: *y })?;
+        let flash = flashed(alloc, *word, *text, Spot { x: *x, y: *y })?;
         if flash.as_str() != *expected {
             return Ok(false);
         }
@@ -490,9 +424,8 @@ fn all_flash(alloc: Global, copper: Copper, rows: &[Flash]) -> Result<bool, Allo
 
 #[test]
 fn primitives_flash(rt: HostRuntime) -> Result<(), Fail> {
-    assert!(rt; all_flash(rt.alloc(), Copper::Exact, &CIRCLES)?);
-    assert!(rt; all_flash(rt.alloc(), Copper::Exact, &LINES)?);
-    assert!(rt; all_flash(rt.alloc(), Copper::Exact, &OUTLINES)?);
-    assert!(rt; all_flash(rt.alloc(), Copper::Real, &TURNS)?);
+    assert!(rt; all_flash(rt.alloc(), &CIRCLES)?);
+    assert!(rt; all_flash(rt.alloc(), &LINES)?);
+    assert!(rt; all_flash(rt.alloc(), &OUTLINES)?);
     Ok(())
 }

@@ -35,9 +35,10 @@ fn push_fine(line: &mut String, fine: &FineFigure) -> Result<(), AllocError> {
     Ok(())
 }
 
-fn shown(alloc: Global, piece: &RealPiece) -> Result<String, AllocError> {
+/// A shape as text.
+pub fn shape_text(alloc: Global, shape: &RealShape) -> Result<String, AllocError> {
     let mut line = String::new(alloc);
-    match &piece.shape {
+    match shape {
         RealShape::Plain(Shape::Round(capsule)) => {
             let (a, b, r) = capsule.parts();
             write!(line, "{} {}, {} {}, {r}", a.x, a.y, b.x, b.y)?;
@@ -110,6 +111,11 @@ fn shown(alloc: Global, piece: &RealPiece) -> Result<String, AllocError> {
             write!(line, " without {} at {} {}", h.hole, h.centre.x, h.centre.y)?;
         },
     }
+    Ok(line)
+}
+
+fn shown(alloc: Global, piece: &RealPiece) -> Result<String, AllocError> {
+    let mut line = shape_text(alloc, &piece.shape)?;
     write!(line, " by {}.{}", piece.origin.command, piece.origin.copy)?;
     Ok(line)
 }

@@ -14,7 +14,7 @@ use Rattle.board_shapes.specs.Shapes.{boxed_figure}
 use Rattle.slants.specs.Rounds.{GoesOnce}
 use Rattle.slants.proofs.Inside.{lies_left}
 use Rattle.fine_figures.specs.Fine.{twice}
-use Rattle.fine_figures.specs.Taken.{HoldSides, IsAroundSides, IsInSides}
+use Rattle.fine_figures.specs.Taken.{HoldSides, IsRectangleAround, IsInSides}
 
 -- ---- between sides
 
@@ -126,5 +126,5 @@ held lower upper sides p h b = boxed_lies lower.x lower.y upper.x upper.y h.wide
   not_above = under_half p.n sides.high upper.y p.y p.positive h.not_above b.not_above;
 }
 
-pub around_sides : (sides : Bounds) (points : List Spot) (p : Point) → IsAroundSides sides points → InBox sides (twice p) → InArea (edges_of points) p
+pub around_sides : (sides : Bounds) (points : List Spot) (p : Point) → IsRectangleAround sides points → InBox sides (twice p) → InArea (edges_of points) p
 around_sides sides points p h b = subst (λ (ps : List Spot). InArea (edges_of ps) p) (sym h.are) (held h.lower h.upper sides p h.hold b)

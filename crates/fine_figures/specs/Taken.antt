@@ -50,7 +50,7 @@ pub record HoldSides (lower upper : Spot) (sides : Bounds) : Type 0 where
   pub not_above : sides.high ≤ℤ (pos 2 *ℤ upper.y)
 
 -- the points are the corners of such a rectangle, counterclockwise from the lower left one
-pub record IsAroundSides (sides : Bounds) (points : List Spot) : Type 0 where
+pub record IsRectangleAround (sides : Bounds) (points : List Spot) : Type 0 where
   pub lower : Spot
   pub upper : Spot
   pub are : points ≡ rectangle lower upper
@@ -69,7 +69,7 @@ abbrev pub TakenAbove : FineFigure → Figure → Type 0
 TakenAbove (Round f) (round s) = EndsNear f s.a s.b (pos 2 *ℤ s.r -ℤ pos f.r)
 TakenAbove (Round f) (filled points) = ⊥
 TakenAbove (Rectangle sides) (round s) = ⊥
-TakenAbove (Rectangle sides) (filled points) = IsAroundSides sides points
+TakenAbove (Rectangle sides) (filled points) = IsRectangleAround sides points
 
 -- ---- words that only contracts want
 

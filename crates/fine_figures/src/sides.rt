@@ -1,5 +1,5 @@
 //! Whether boxes in u lie between sides in half u, or around them.
-ghost use Rattle.fine_figures.specs.Taken.{HoldSides, IsAroundSides, IsBetweenSides, corner};
+ghost use Rattle.fine_figures.specs.Taken.{HoldSides, IsRectangleAround, IsBetweenSides, corner};
 ghost use Rattle.std.specs.Prelude.{IsTrue, pos, ◌*ℤ◌, ◌≤ℤ◌, ◌<ℤ◌, ◌≡◌, ◌↔◌};
 
 use contact::Bounds;
@@ -84,7 +84,7 @@ fn are_corners(lower: &Spot, upper: &Spot, right: &Spot, left: &Spot, last: &Spo
 
 /// Whether the points are the corners of a rectangle that holds the sides.
 pub fn is_around(sides: &Bounds, points: &[Spot]) -> bool
-    ensures { IsTrue result ↔ IsAroundSides sides.now points.now }
+    ensures { IsTrue result ↔ IsRectangleAround sides.now points.now }
 {
     match points {
         [lower, right, upper, left, last] => {

@@ -21,7 +21,7 @@ use Rattle.gerber_layer.specs.declared.macro_kind.FlattenKind.TheVariants.{Gerbe
 use Rattle.gerber_layer.specs.Tools.{Tool, composed, composed_in, has_room, macro_named, name_text, number_digits, parameters_in, tool_by}
 use Rattle.gerber_layer.specs.CommandEffects.{Known, Effect, stays, makes, begins_macro, fills_macro, concludes, ◌>>=◌, unless, needed, define, is_finish, row}
 use Rattle.gerber_layer.specs.MacroTable.{gerber, as_macro, all_judged, is_reserved, name_macro, fill_by, fill_macro, compose, compose_as, is_of_macro, define_any, few_radii, macro_row, row_with_macros, effect_with_macros}
-use Rattle.gerber_layer.proofs.Outcome.{Defined, IsFilled, Outcome, bind_ok, past_test, got, ok_stays, define_did, reads_did, row_outcome, end_outcome}
+use Rattle.gerber_layer.proofs.Outcome.{Defined, IsFilled, Outcome, bind_ok, past_test, got, ok_stays, define_did, row_outcome, end_outcome}
 use Rattle.gerber_layer.specs.CommandEffects.{exact_meaning}
 
 pub gerber_ok : {A : Type 0} (r : Result A GerberKind) (x : A) → gerber r ≡ Ok x → r ≡ Ok x

@@ -1,21 +1,17 @@
 -- Files with macros.
-use Rattle.std.proofs.Common.{◌≡◌, Bool, true, false, cond, [], Some, Result, Ok, Err, refl, ap, ◌∙◌, subst, sym}
-use Rattle.file_reading.specs.declared.halt.Halt.{Halt}
-use Rattle.file_reading.specs.declared.halt.Halt.TheVariants as halt
-use Rattle.gerber_reading.specs.Command.{Command, names_macro, body_word, defines}
+use Rattle.std.proofs.Common.{◌≡◌, false, [], Some, Result, Ok, refl, ap, ◌∙◌, subst, sym}
+use Rattle.gerber_reading.specs.Command.{Command}
 use Rattle.gerber_reading.specs.declared.kind.GerberKind.{GerberKind}
-use Rattle.gerber_reading.specs.declared.kind.GerberKind.TheVariants as kind
 use Rattle.gerber_layer.specs.declared.macro_kind.FlattenKind.{FlattenKind}
-use Rattle.gerber_layer.specs.declared.macro_kind.FlattenKind.TheVariants.{Gerber}
 use Rattle.aperture_macros.specs.Seen.{plain}
 use Rattle.board_shapes.specs.declared.shape.Shape.TheVariants.{Round}
 use Rattle.board_shapes.specs.Figures.{figure_of}
 use Rattle.gerber_layer.specs.declared.effect.Effect.{Effect as Seen}
 use Rattle.gerber_layer.specs.declared.effect.Effect.TheVariants as seen
-use Rattle.gerber_layer.specs.CommandEffects.{Known, Effect, stays, makes, begins_macro, fills_macro, performs, extends, closes, opens, leaves, steps, room_for, effect, is_finish, row, ◌>>=◌}
+use Rattle.gerber_layer.specs.CommandEffects.{Known, Effect, stays, makes, begins_macro, fills_macro, performs, extends, closes, opens, leaves, steps, room_for, ◌>>=◌}
 use Rattle.gerber_layer.specs.MacroTable.{few_radii, gerber}
-use Rattle.gerber_layer.specs.MacroReader.{any_halt, is_end}
-use Rattle.gerber_layer.specs.Reader.{Reader, Obeys, Stops, known_of, shown, tool_of}
+use Rattle.gerber_layer.specs.MacroReader.{is_end}
+use Rattle.gerber_layer.specs.Reader.{Reader, Obeys, shown, tool_of}
 use Rattle.gerber_layer.proofs.Outcome.{then_goes, flash_goes, extend_is, close_is, area_left, steps_is}
 
 -- ---- The end of a file

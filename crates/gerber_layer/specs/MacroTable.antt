@@ -23,7 +23,7 @@ use Rattle.gerber_layer.specs.declared.macro_kind.FlattenKind.TheVariants.{Gerbe
 use Rattle.gerber_layer.specs.Radii.{radii_of}
 use Rattle.gerber_layer.specs.WordCommands.{is_empty}
 use Rattle.gerber_layer.specs.Tools.{composed, has_room, macro_named, name_text, number_digits, parameters_in}
-use Rattle.gerber_layer.specs.CommandEffects.{Known, Effect, Meaning, Profile, exact_meaning, stays, makes, begins_macro, fills_macro, concludes, ◌>>=◌, unless, needed, read, define, define_as, is_finish, row}
+use Rattle.gerber_layer.specs.CommandEffects.{Known, Effect, Profile, exact_meaning, stays, makes, begins_macro, fills_macro, concludes, ◌>>=◌, unless, needed, define, is_finish, row}
 
 -- how the rows of `CommandEffects` refuse
 abbrev pub gerber : {A : Type 0} → Result A GerberKind → Result A FlattenKind

@@ -104,10 +104,7 @@ fn name_macro<'a>(reader: &PlainReader<'a>, name: &'a [u8]) -> Result<Effect<'a>
 
 // A word of a macro's body.
 #[tactic(auto, unfolding(crate::specs::MacroTable::fill_macro))]
-fn fill_macro<'a>(
-    reader: &PlainReader<'a>,
-    text: &'a [u8],
-) -> Result<Effect<'a>, FlattenKind>
+fn fill_macro<'a>(reader: &PlainReader<'a>, text: &'a [u8]) -> Result<Effect<'a>, FlattenKind>
     ensures value { showing_any (known_of reader.now) result ≡ spec.fill_macro (known_of reader.now) text.now }
     ensures fit { IfOk result (IsFit reader.now.dictionary) }
 {
@@ -129,12 +126,7 @@ fn fill_macro<'a>(
 
 // An aperture of a macro.
 #[tactic(auto, unfolding(crate::specs::MacroTable::compose))]
-fn compose<'a>(
-    reader: &PlainReader<'a>,
-    alloc: Global,
-    text: &'a [u8],
-    unit: Unit,
-) -> MacroRow<'a>
+fn compose<'a>(reader: &PlainReader<'a>, alloc: Global, text: &'a [u8], unit: Unit) -> MacroRow<'a>
     requires { spec.is_of_macro (aperture_at text.now unit) ≡ true }
     ensures ok { IfOk result (λ e. gerber (shown (known_of reader.now) e) ≡ spec.compose (known_of reader.now) text.now unit) }
     ensures fit { IfOk result (IsFit reader.now.dictionary) }
@@ -151,15 +143,7 @@ fn compose<'a>(
     let Some(parameters) = parameters else {
         return Err(Halt::Fault(FlattenKind::BadMacro));
     };
-    compose_as(
-        reader,
-        alloc,
-        number(text),
-        name,
-        body,
-        parameters,
-        unit,
-    )
+    compose_as(reader, alloc, number(text), name, body, parameters, unit)
 }
 
 // An aperture of the macro of this name and body.
@@ -187,11 +171,7 @@ fn compose_as<'a>(
 
 // `AD`.
 #[tactic(auto, unfolding(crate::specs::MacroTable::define_any))]
-fn define_any<'a>(
-    reader: &PlainReader<'a>,
-    alloc: Global,
-    text: &'a [u8],
-) -> MacroRow<'a>
+fn define_any<'a>(reader: &PlainReader<'a>, alloc: Global, text: &'a [u8]) -> MacroRow<'a>
     ensures ok { IfOk result (λ e. gerber (shown (known_of reader.now) e) ≡ spec.define_any (known_of reader.now) text.now) }
     ensures fit { IfOk result (IsFit reader.now.dictionary) }
     ensures halt { IfErr result (Stops (spec.define_any (known_of reader.now) text.now)) }
@@ -220,11 +200,7 @@ fn standard_row<'a>(reader: &PlainReader<'a>, command: &Command<'a>) -> MacroRow
 
 // The row of a command where the file may have macros.
 #[tactic(auto, unfolding(crate::specs::MacroTable::macro_row))]
-fn macro_row<'a>(
-    reader: &PlainReader<'a>,
-    alloc: Global,
-    command: &Command<'a>,
-) -> MacroRow<'a>
+fn macro_row<'a>(reader: &PlainReader<'a>, alloc: Global, command: &Command<'a>) -> MacroRow<'a>
     requires lawful { IsLawfulReader reader.now }
     requires command { IsLawfulCommand (view command.now) }
     requires before_end { reader.now.settings.ended ≡ false }

@@ -15,9 +15,8 @@ use Rattle.board_shapes.specs.Moved.{shifted, shifted_figure, corners as ends}
 use Rattle.board_shapes.specs.Rectangles.{lower, rectangle, upper}
 use Rattle.apertures.specs.Definition.{is_zero}
 use Rattle.apertures.specs.Flash.{NoFlash, leaves, IsNarrow, IsSize, IsLawful, half, area_at, disc, rectangle_at, obround, placed, flash_of}
-use Rattle.apertures.specs.Telling.{told_fine, told_frame, told_holed, told_ring}
 use Rattle.apertures.specs.declared.aperture.Aperture.{Aperture}
-use Rattle.apertures.specs.declared.aperture.Aperture.TheVariants.{Circle, Rectangle, Obround, Ring, Frame, FineRectangle, FineObround, FineCircle, Holed}
+use Rattle.apertures.specs.declared.aperture.Aperture.TheVariants.{Circle, Rectangle, Obround}
 use Rattle.regions.specs.Contours.{stays_open, too_short, close_of}
 use Rattle.macro_flatten.specs.Laws.{IsDrawn}
 use Rattle.area_contact.specs.declared.TheConstants.{MOST_CONTOUR_POINTS}
@@ -102,10 +101,6 @@ obround_drawn x y to f hx hy sx sy narrow e = by (nat_lt (unsigned_abs y) (unsig
     by true z e = let less = ltb-true _ _ z in let small : unsigned_abs y ≤ MOST_DIAMETER = omega (arith, narrow, less) in let r = size_drawn y hy small sy in ends_drawn (record { a = lower to (unsigned_abs x - unsigned_abs y) 0; b = upper to (unsigned_abs x - unsigned_abs y) 0; r = pos (unsigned_abs y / 2) }) f r.0 r.1 e
     by false z e = let most = ltb-false _ _ z in let small : unsigned_abs x ≤ MOST_DIAMETER = omega (arith, narrow, most) in let r = size_drawn x hx small sx in ends_drawn (record { a = lower to 0 (unsigned_abs y - unsigned_abs x); b = upper to 0 (unsigned_abs y - unsigned_abs x); r = pos (unsigned_abs x / 2) }) f r.0 r.1 e
 
-holed_drawn : (round : Bool) (x y hole : ℕ) (to : Spot) (f : Figure) → area_at (told_holed round x y hole to) ≡ Ok (Some f) → IsDrawn f
-holed_drawn true x y hole to f e = area_drawn (told_holed true x y hole to) f refl (omega arith) (omega arith) e
-holed_drawn false x y hole to f e = area_drawn (told_holed false x y hole to) f refl (omega arith) (omega arith) e
-
 -- what a lawful aperture flashes
 pub flash_drawn : (a : Aperture) (to : Spot) (f : Figure) → IsLawful a → IsPlaced to → flash_of a to ≡ Ok (Some f) → IsDrawn f
 unfolding flash_of
@@ -113,12 +108,6 @@ flash_drawn (Circle (pos n)) to f h k e = disc_drawn n to f h.0.even h.1 k e
 flash_drawn (Circle (negsuc n)) to f h k e = let l = h.0.low in absurd (omega (arith, ints, l))
 flash_drawn (Rectangle x y) to f h k e = rectangle_drawn (unsigned_abs x) (unsigned_abs y) to f e
 flash_drawn (Obround x y) to f h k e = obround_drawn x y to f h.0 h.1 h.2 h.3 h.4 e
-flash_drawn (Ring d hole) to f h k e = area_drawn (told_ring (unsigned_abs d) (unsigned_abs hole) to) f refl (omega arith) (omega arith) e
-flash_drawn (Frame x y hole) to f h k e = area_drawn (told_frame (unsigned_abs x) (unsigned_abs y) (unsigned_abs hole) to) f refl (omega arith) (omega arith) e
-flash_drawn (FineRectangle x y) to f h k e = area_drawn (told_fine false (unsigned_abs x) (unsigned_abs y) to) f refl (omega arith) (omega arith) e
-flash_drawn (FineObround x y) to f h k e = area_drawn (told_fine true (unsigned_abs x) (unsigned_abs y) to) f refl (omega arith) (omega arith) e
-flash_drawn (FineCircle d) to f h k e = area_drawn (told_fine true (unsigned_abs d) (unsigned_abs d) to) f refl (omega arith) (omega arith) e
-flash_drawn (Holed form) to f h k e = holed_drawn form.round (unsigned_abs form.x) (unsigned_abs form.y) (unsigned_abs form.hole) to f e
 
 -- ---- Contours
 

@@ -15,9 +15,9 @@ use Rattle.area_contact.specs.Contour.{end_from}
 use Rattle.board_shapes.specs.Figures.{Figure, round, figure_edges}
 use Rattle.board_shapes.specs.Pieces.{PlainPiece}
 use Rattle.apertures.specs.declared.aperture.Aperture.{Aperture}
-use Rattle.apertures.specs.declared.aperture.Aperture.TheVariants.{Circle, Rectangle, Obround, Ring, Frame, FineRectangle, FineObround, FineCircle, Holed}
+use Rattle.apertures.specs.declared.aperture.Aperture.TheVariants.{Circle, Rectangle, Obround}
 use Rattle.apertures.specs.Definition.{is_zero}
-use Rattle.apertures.specs.Flash.{NoFlash, IsNarrow, IsSize, IsLawful, even_pen, flash_of, half}
+use Rattle.apertures.specs.Flash.{NoFlash, IsNarrow, IsSize, IsLawful, flash_of, half}
 use Rattle.aperture_macros.specs.BodyWord.{PlainPrimitive}
 use Rattle.aperture_macros.specs.Flashes.{figure_at}
 use Rattle.aperture_macros.specs.Sized.{IsSized}
@@ -146,22 +146,10 @@ selected_lawful : (o : Option ℕ) (defined : ℕ → Option Tool) (a : Tool) �
 selected_lawful None defined a f h = cc
 selected_lawful (Some n) defined a f h = f n a h
 
--- a fine pen is read as an even one
-even_size : (z : ℤ) → IsSize (even_pen z) × IsNarrow (unsigned_abs (even_pen z))
-even_size z =
-    let most : min (unsigned_abs z) MOST_DIAMETER ≤ MOST_DIAMETER = omega arith in
-    (record { low = omega (arith, ints); high = omega (arith, ints, most); even = omega arith }, omega (arith, most))
-
 pen_size : (a : Tool) (d : ℤ) → IsLawfulTool a → pen_with a ≡ Some d → IsSize d × IsNarrow (unsigned_abs d)
 pen_size (standard (Circle c)) d h e = let same : c ≡ d = cc in subst (λ (z : ℤ). IsSize z × IsNarrow (unsigned_abs z)) same h
 pen_size (standard (Rectangle x y)) d h e = cc
 pen_size (standard (Obround x y)) d h e = cc
-pen_size (standard (Ring x hole)) d h e = cc
-pen_size (standard (Frame x y hole)) d h e = cc
-pen_size (standard (FineRectangle x y)) d h e = cc
-pen_size (standard (FineObround x y)) d h e = cc
-pen_size (standard (Holed form)) d h e = cc
-pen_size (standard (FineCircle c)) d h e = let same : even_pen c ≡ d = cc in subst (λ (z : ℤ). IsSize z × IsNarrow (unsigned_abs z)) same (even_size c)
 pen_size (composed name parameters unit) d h e = cc
 
 -- ---- Draws and flashes

@@ -24,18 +24,14 @@ use Rattle.aperture_macros.specs.declared.primitive.Rotation.{Rotation}
 use Rattle.aperture_macros.specs.declared.primitive.Turning.{Turning}
 use Rattle.aperture_macros.specs.declared.primitive.Turning.TheVariants.{Quarters, Degrees}
 use Rattle.aperture_macros.specs.BodyWord.{PlainPrimitive, ◌>>=◌, part, past}
-use Rattle.aperture_macros.specs.Fine.{fine_at, fine_rest, fine_spots, fine_told}
-use Rattle.aperture_macros.specs.declared.fine.FineSketch.{FineSketch}
-use Rattle.aperture_macros.specs.Flashes.{figure_at, figure_turned, fine_figure, is_fine, tell, told_figure, turn_behind}
-use Rattle.aperture_macros.specs.Telling.{is_moved, told, told_rest, told_round}
-use Rattle.aperture_macros.specs.Images.{area_at, circle_at, centre_at, centred, disc_at, figure_by, line_at, line_between, outline_at, polygon_at, polygon_spots, set_down, sketch_at, sketched, slanted, stroke_at, outlined, strip}
+use Rattle.aperture_macros.specs.Flashes.{figure_at, figure_turned}
+use Rattle.aperture_macros.specs.Images.{area_at, circle_at, centre_at, centred, disc_at, figure_by, line_at, line_between, outline_at, polygon_at, set_down, sketch_at, sketched, slanted, stroke_at, outlined, strip}
 use Rattle.aperture_macros.specs.Outlines.{closing_at, moved_from}
 use Rattle.aperture_macros.specs.Sized.{IsSized}
 use Rattle.aperture_macros.specs.Values.{across_at, as_size, coordinate_at, diameter_at, point_at, size_at}
 use Rattle.aperture_macros.proofs.Closings.{closing_is, outline_refused, outlined_by}
 use Rattle.aperture_macros.proofs.Readings.{passed}
 use Rattle.aperture_macros.proofs.Strokes.{then_ok}
-use Rattle.aperture_macros.proofs.Told.{area_is, told_closed, told_length}
 use Rattle.macro_flatten.specs.Laws.{IsDrawn}
 use Rattle.macro_flatten.proofs.Drawn.{half_drawn, spot_placed, spots_placed}
 use Rattle.area_contact.specs.declared.TheConstants.{MOST_CONTOUR_POINTS}
@@ -182,7 +178,7 @@ sketch_drawn rotation at None f pen h = cc
 sketch_drawn rotation at (Some (Disc p d)) f pen h = disc_drawn (set_down rotation at p) d f pen.0 pen.1 pen.2 h
 sketch_drawn rotation at (Some (Stroke p q w)) f pen h = stroke_drawn (set_down rotation at p) (set_down rotation at q) w f pen h
 sketch_drawn rotation at (Some (Rectangle low high)) f pen h = area_drawn (map (set_down rotation at) (rectangle low high)) f refl (omega arith) (omega arith) h
-sketch_drawn rotation at (Some (Regular p d n)) f pen h = area_drawn (map (set_down rotation at) (polygon_spots p d n)) f refl (omega arith) (omega arith) h
+sketch_drawn rotation at (Some (Regular p d n)) f pen h = cc
 
 sketched_drawn : (rotation : Rotation) (at : Spot) (r : Result (Option Sketch) MacroFault) (f : Figure) → ((s : Option Sketch) → r ≡ Ok s → IsPen s) → sketched rotation at r ≡ Ok (Some f) → IsDrawn f
 sketched_drawn rotation at r f pen h =
@@ -213,49 +209,11 @@ figure_by_drawn VectorLine rotation text given unit at f sized h = sketched_draw
 figure_by_drawn CentreLine rotation text given unit at f sized h = sketched_drawn rotation at (centre_at text given unit) f (centre_pen text given unit) h
 figure_by_drawn (Polygon n) rotation text given unit at f sized h = sketched_drawn rotation at (polygon_at n text given unit) f (polygon_pen n text given unit) h
 
--- an area that is told with how far it is turned is closed too
-told_drawn : (form : Form) (about : Spot) (rest : ℕ) (o : Option Figure) (f : Figure) → ((g : Figure) → o ≡ Some g → IsDrawn g) → ((points : List Spot) → o ≡ Some (filled points) → length points ≤ 5001) → tell form about rest o ≡ Ok (Some f) → IsDrawn f
-told_drawn form about rest None f drawn few h = cc
-told_drawn form about rest (Some (round s)) f drawn few h = by (is_moved about rest s) h
-  where
-    by : (b : Bool) → cond b (area_at (told_round about rest s)) (Ok (Some (round s))) ≡ Ok (Some f) → IsDrawn f
-    by true k = area_drawn (told_round about rest s) f refl (omega arith) (omega arith) k
-    by false k = same_figure (round s) f k (drawn (round s) refl)
-told_drawn form about rest (Some (filled points)) f drawn few h =
-    let c = drawn (filled points) refl in
-    let long = told_length about (told_rest form rest) points c.enough in
-    area_drawn (told about (told_rest form rest) points) f (told_closed about (told_rest form rest) points) (omega (arith, long)) (omega (arith, long, few points refl)) h
-
 turned_drawn : (turning : Turning) (form : Form) (text : List ℕ) (given : List Fraction) (unit : Measure) (at : Spot) (f : Figure) → IsSized form → figure_turned turning form text given unit at ≡ Ok (Some f) → IsDrawn f
 unfolding figure_turned
 turned_drawn (Quarters rotation) form text given unit at f sized h = figure_by_drawn form rotation text given unit at f sized h
-turned_drawn Degrees form text given unit at f sized h =
-    let t = then_ok (turn_behind form text given) (λ turn. told_figure turn form text given unit at) (Some f) h in
-    let g = then_ok (figure_by form t.0.quarters text given unit at) (λ figure. tell form at t.0.rest figure) (Some f) t.2 in
-    told_drawn form at t.0.rest g.0 f
-    (λ d is. figure_by_drawn form t.0.quarters text given unit at d sized (g.1 ∙ ap (λ (o : Option Figure). let r : Result (Option Figure) MacroFault = Ok o in r) is))
-    (λ points is. (area_is form t.0.quarters text given unit at points sized (g.1 ∙ ap (λ (o : Option Figure). let r : Result (Option Figure) MacroFault = Ok o in r) is)).few)
-    g.2
-
--- and so is one that tells a fine figure
-fine_drawn : (form : Form) (text : List ℕ) (given : List Fraction) (unit : Measure) (at : Spot) (f : Figure) → fine_figure form text given unit at ≡ Ok (Some f) → IsDrawn f
-unfolding fine_figure
-fine_drawn form text given unit at f h =
-    let t = then_ok (turn_behind form text given) (λ turn. fine_at form text given unit >>= λ s. fine_told turn.quarters at s) (Some f) h in
-    let s = then_ok (fine_at form text given unit) (λ s. fine_told t.0.quarters at s) (Some f) t.2 in
-    by t.0.quarters s.0 s.2
-  where
-    by : (rotation : Rotation) (s : Option FineSketch) → fine_told rotation at s ≡ Ok (Some f) → IsDrawn f
-    by rotation None k = cc
-    by rotation (Some s) k =
-        let spots = map (set_down rotation at) (fine_spots s) in
-        let long = told_length at (fine_rest s.kind) spots (omega arith) in
-        area_drawn (told at (fine_rest s.kind) spots) f (told_closed at (fine_rest s.kind) spots) (omega (arith, long)) (omega (arith, long)) k
+turned_drawn Degrees form text given unit at f sized h = cc
 
 -- what a primitive of lawful size flashes
 pub primitive_drawn : (p : PlainPrimitive) (given : List Fraction) (unit : Measure) (at : Spot) (f : Figure) → IsSized p.form → figure_at p given unit at ≡ Ok (Some f) → IsDrawn f
-primitive_drawn p given unit at f sized h = by (is_fine p.rotation p.form p.lengths given unit) h
-  where
-    by : (b : Bool) → cond b (fine_figure p.form p.lengths given unit at) (figure_turned p.rotation p.form p.lengths given unit at) ≡ Ok (Some f) → IsDrawn f
-    by true k = fine_drawn p.form p.lengths given unit at f k
-    by false k = turned_drawn p.rotation p.form p.lengths given unit at f sized k
+primitive_drawn p given unit at f sized h = turned_drawn p.rotation p.form p.lengths given unit at f sized h

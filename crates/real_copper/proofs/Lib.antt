@@ -13,3 +13,4 @@ pub mod LawfulAfter
 pub mod Layers
 pub mod Outcomes
 pub mod Stops
+pub mod Settled

@@ -6,9 +6,10 @@ use Rattle.std.specs.Str.Parse.{digits_value}
 use Rattle.texts.specs.Words.{is_word}
 use Rattle.contact.specs.declared.TheConstants.{MOST_DIAMETER}
 use Rattle.planar.specs.declared.TheConstants.{METRE}
+use Rattle.lengths.specs.Decimal.{is_decimal, fraction}
+use Rattle.lengths.specs.Grid.{position_of}
 use Rattle.lengths.specs.declared.decimal.Unit.{Unit as Measure}
-use Rattle.apertures.specs.Definition.{◌>>=◌, aperture_at, is_comma, is_x, last_behind, name_of, name_text, number_digits}
-use Rattle.apertures.specs.Fine.{whole_at}
+use Rattle.apertures.specs.Definition.{◌>>=◌, aperture_at, as_fault, is_comma, is_x, last_behind, name_of, name_text, number_digits}
 use Rattle.apertures.specs.Flash.{IsLawful as IsExact, IsNarrow, pen_of as exact_pen}
 use Rattle.apertures.specs.declared.aperture.Aperture.{Aperture}
 use Rattle.apertures.specs.declared.fault.ApertureFault.{ApertureFault}
@@ -18,6 +19,10 @@ use Rattle.real_copper.specs.declared.aperture.OddForm.TheVariants as form
 use Rattle.real_copper.specs.declared.aperture.RealAperture.{RealAperture}
 use Rattle.real_copper.specs.declared.definitions.TwoSizes.{TwoSizes}
 use Rattle.real_copper.specs.declared.aperture.RealAperture.TheVariants.{Exact, Ring, Frame, Odd, Pierced}
+
+-- the whole number of u that a parameter is
+unfoldable pub whole_at : List ℕ → Measure → Result ℤ ApertureFault
+whole_at text unit = if is_decimal text then as_fault (position_of (fraction text) unit) else Err fault.BadText
 
 -- a size is a whole number of u, over 0 and at most 1 m
 abbrev pub as_size : ℤ → Result ℕ ApertureFault

@@ -23,7 +23,6 @@ use Rattle.real_copper.specs.Figures.{RealFigure, real_handling}
 use Rattle.real_copper.specs.Kinds.{gerber}
 use Rattle.real_copper.specs.Rows.{RealEffect, RealKnown, closing}
 use Rattle.real_copper.specs.Shapes.{real_figure}
-use Rattle.real_shapes.specs.declared.RealShape.{RealShape}
 use Rattle.real_copper.specs.Table.{fits}
 use Rattle.real_copper.specs.declared.anchored.Anchored.{Anchored}
 use Rattle.real_copper.specs.declared.aperture.RealAperture.{RealAperture}

@@ -8,7 +8,6 @@ use Rattle.aperture_macros.specs.BodyWord.{PlainPrimitive, primitive_at}
 use Rattle.aperture_macros.specs.Flashes.{judged}
 use Rattle.aperture_macros.specs.declared.fault.MacroFault.{MacroFault}
 use Rattle.aperture_macros.specs.declared.primitive.Copper.TheVariants.{Real}
-use Rattle.board_shapes.specs.Pieces.{PieceOf}
 use Rattle.file_reading.specs.Conditions.{◌>>=◌, unless, needed}
 use Rattle.file_reading.specs.declared.fault.FileFault.{FileFault}
 use Rattle.gerber_layer.specs.MacroTable.{is_reserved, kind_of_macro}

@@ -1,5 +1,4 @@
 //! How an aperture's definition is read in real copper.
-ghost use Rattle.apertures.specs.Fine.{whole_at};
 ghost use Rattle.apertures.specs.Flash.{IsNarrow};
 ghost use Rattle.planar.specs.Plane.{IsReached};
 ghost use Rattle.real_copper.specs.Apertures as spec;
@@ -13,9 +12,9 @@ use lengths::decimal::{Unit, read_decimal};
 use texts::{after_byte, before_byte, is_word};
 
 // The whole number of u that a parameter is.
-#[tactic(auto, unfolding(apertures::specs::Fine::whole_at))]
+#[tactic(auto, unfolding(crate::specs::Apertures::whole_at))]
 fn whole(text: &[u8], unit: Unit) -> Result<i64, ApertureFault>
-    ensures value { result ≡ whole_at text.now unit }
+    ensures value { result ≡ spec.whole_at text.now unit }
     ensures reached { IfOk result IsReached }
 {
     let Some(decimal) = read_decimal(text) else {

@@ -9,7 +9,8 @@ ghost use Rattle.real_copper.specs.Flashed.{Flashes};
 ghost use Rattle.real_copper.specs.Flashes as spec;
 ghost use Rattle.real_copper.specs.Flashes.{IsAbout};
 ghost use Rattle.real_copper.specs.Shapes.{real_figure};
-ghost use Rattle.std.specs.Prelude.{IfOk, IfErr, pos, ◌≡◌, ◌≤◌, ◌<◌, ◌^◌, ◌*◌};
+ghost use Rattle.real_shapes.specs.Settled.{is_settled};
+ghost use Rattle.std.specs.Prelude.{true, IfOk, IfErr, pos, ◌≡◌, ◌≤◌, ◌<◌, ◌^◌, ◌*◌};
 
 use crate::anchored::Anchored;
 use crate::aperture::{OddForm, RealAperture};
@@ -185,6 +186,7 @@ fn pierced_at(form: OddForm, hole: u64, at: Spot) -> RealShape
 // The figure, where it is within 1 m of 0.
 fn within(shape: RealShape) -> Result<Option<Anchored>, FlashFault>
     requires few { real_edges (real_figure shape) ≤ 4294967295 }
+    requires settled { is_settled shape ≡ true }
     ensures { Flashes result (spec.within (real_figure shape)) }
 {
     if is_anchored(&shape) {

@@ -25,16 +25,14 @@ mod words;
 
 pub use anchored::Anchored;
 pub use aperture::{Hole, OddForm, RealAperture};
-pub use contours::area_of;
 pub use definitions::read_real_aperture;
 pub use draw::Bend;
 pub use flashes::flash;
 pub use kind::{RealFault, RealKind};
-pub use moving::{edges_of, is_anchored};
+pub use moving::edges_of;
 pub use real::{RealCopper, read_real};
 pub use real_shapes::{RealPiece, RealShape};
 pub use sketches::primitive_at;
-pub use strokes::draw_of;
 
 #[cfg(test)]
 mod tests;

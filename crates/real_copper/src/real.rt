@@ -5,8 +5,9 @@ ghost use Rattle.real_copper.specs.Figures.{RealFigure, real_handling};
 ghost use Rattle.real_copper.specs.RealReader.{plain};
 ghost use Rattle.real_copper.specs.Shapes.{plain_reals};
 ghost use Rattle.real_copper.specs.Table.{IsRealCopper, IsRealFault, fits, real};
+ghost use Rattle.real_shapes.specs.Settled.{is_settled};
 ghost use Rattle.step_repeat.specs.Copies.{pieces_by};
-ghost use Rattle.std.specs.Prelude.{All, IfErr, IfOk, length, ◌≡◌, ◌≤◌};
+ghost use Rattle.std.specs.Prelude.{All, IfErr, IfOk, length, true, ◌≡◌, ◌≤◌};
 
 use crate::anchored::Anchored;
 use crate::aperture::RealAperture;
@@ -95,6 +96,7 @@ pub fn read_real(alloc: Global, file: &[u8], place: Place) -> Result<Vec<RealPie
     ensures ok { IfOk result (λ pieces. IsRealCopper file.now place (plain_reals pieces.items)) }
     ensures few { IfOk result (λ pieces. length pieces.items ≤ place.room.pieces) }
     ensures layers { IfOk result (λ pieces. All (λ piece. (piece.top ≡ place.layer) × (piece.bottom ≡ place.layer)) pieces.items) }
+    ensures settled { IfOk result (λ pieces. All (λ piece. is_settled piece.shape ≡ true) pieces.items) }
     ensures fault { IfErr result (IsRealFault file.now place) }
 {
     let pieces = read_by::<RealCopper>(alloc, file, place)?;

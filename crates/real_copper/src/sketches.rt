@@ -16,7 +16,8 @@ ghost use Rattle.real_copper.specs.Flashed.{Makes};
 ghost use Rattle.real_copper.specs.Flashes.{IsAbout};
 ghost use Rattle.real_copper.specs.Primitives as spec;
 ghost use Rattle.real_copper.specs.Shapes.{real_figure};
-ghost use Rattle.std.specs.Prelude.{Some, length, map, unsigned_abs, ◌≡◌, ◌<◌, ◌≤◌, ◌*◌, ◌^◌, ◌-ℤ◌};
+ghost use Rattle.real_shapes.specs.Settled.{is_settled};
+ghost use Rattle.std.specs.Prelude.{Some, length, map, true, unsigned_abs, ◌≡◌, ◌<◌, ◌≤◌, ◌*◌, ◌^◌, ◌-ℤ◌};
 
 use crate::anchored::Anchored;
 use crate::flashes::{plain, sides_about, stroke_about};
@@ -38,6 +39,7 @@ use turned_polygons::TurnedPolygon;
 // The figure, where it is within 1 m of 0.
 fn within(shape: RealShape) -> Result<Option<Anchored>, FigureFault>
     requires few { real_edges (real_figure shape) ≤ 4294967295 }
+    requires settled { is_settled shape ≡ true }
     ensures { Makes result (spec.within (real_figure shape)) }
 {
     if is_anchored(&shape) {
@@ -73,6 +75,7 @@ fn contour_turned(
     requires closed { IsClosed contour.items }
     requires enough { 4 ≤ length contour.items }
     requires few { length contour.items ≤ MOST_CONTOUR_POINTS }
+    requires below { rest < RIGHT_ANGLE }
     ensures { Makes result (spec.within (spec.contour_turned about rest contour.items)) }
 {
     if rest == 0 {
@@ -100,6 +103,7 @@ fn disc(p: Spot, d: u64) -> Result<Option<Anchored>, FigureFault>
 // A disc that is turned about a spot: one about that spot stays as it is.
 fn disc_turned(about: Spot, rest: u32, p: Spot, d: u64) -> Result<Option<Anchored>, FigureFault>
     requires narrow { d ≤ MOST_DIAMETER }
+    requires below { rest < RIGHT_ANGLE }
     ensures { Makes result (spec.within (spec.disc_turned about rest p d)) }
 {
     if rest == 0 || is_same(p, about) {
@@ -134,6 +138,8 @@ fn polygon_turned(
     n: u32,
 ) -> Result<Option<Anchored>, FigureFault>
     requires below { turn.rest < RIGHT_ANGLE }
+    requires three { 3 ≤ n }
+    requires twelve { n ≤ 12 }
     ensures { Makes result (spec.within (spec.polygon_turned turn about p d n)) }
 {
     let polygon = RegularPolygon {
@@ -178,6 +184,7 @@ fn rectangle_turned(
 ) -> Result<Option<Anchored>, FigureFault>
     requires low { IsReachable low }
     requires high { IsReachable high }
+    requires below { rest < RIGHT_ANGLE }
     ensures { Makes result (spec.within (spec.contour_turned by.at rest (map (set_down by.rotation by.at) (rectangle_of low high)))) }
 {
     match corners(by, low, high).as_slice().to_vec(alloc) {
@@ -254,6 +261,7 @@ fn odd_shape(kind: FineKind, by: Placing, p: Spot, fine: FineSketch) -> RealShap
     requires about { IsAbout p }
     ensures value { real_figure result ≡ spec.odd_kind kind by.rotation by.at p fine }
     ensures few { real_edges (real_figure result) ≤ 4 }
+    ensures settled { is_settled result ≡ true }
 {
     match kind {
         FineKind::Disc => {
@@ -318,6 +326,7 @@ fn outline_figure(
 ) -> Result<Option<Anchored>, FigureFault>
     requires placed { IsPlaced at }
     requires sized { IsSized (Form.Outline edges) }
+    requires below { turn.rest < RIGHT_ANGLE }
     ensures { Makes result (spec.outline_figure turn edges primitive.now.lengths.now parameters.now unit at) }
 {
     let by = Placing {

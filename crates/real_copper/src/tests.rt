@@ -1,5 +1,6 @@
 // Figures made and moved, with numbers from the page of Gerber's specification.
-use crate::{Bend, draw_of};
+use crate::draw::Bend;
+use crate::strokes::draw_of;
 use planar::Spot;
 use real_shapes::RealShape;
 use std::test::Fail;

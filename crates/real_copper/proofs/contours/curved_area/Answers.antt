@@ -11,4 +11,4 @@ invariant_of-result c =
     let are = rw c.deref.ensures.value at c.in_ok-parts.ensures in
     let many = as_many edges c.in_ok-parts.parts.items are in
     let few = c.args.contour.now.few in
-    record { near = rw (are, first, more) refl; few = omega (arith, many, few) }
+    record { near = rw (are, first, more) refl; settled = refl; few = omega (arith, many, few) }

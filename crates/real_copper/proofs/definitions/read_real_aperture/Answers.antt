@@ -1,9 +1,19 @@
-use Rattle.std.proofs.Common.{◌∙◌, ap, refl, sym}
+use Rattle.std.proofs.Common.{ℕ, ◌∙◌, Bool, true, false, Result, ap, refl, sym}
 use Rattle.std.specs.Prelude.{Err}
 use Rattle.apertures.proofs.Digits.{few_digits}
-use Rattle.apertures.specs.Real.{is_holed, is_off_grid}
+use Rattle.apertures.specs.declared.aperture.Aperture.{Aperture}
 use Rattle.apertures.specs.declared.fault.ApertureFault.{ApertureFault}
+use Rattle.apertures.specs.declared.fault.ApertureFault.TheVariants.{Hole, OffGrid}
 use Rattle.real_copper.proofs.definitions.read_real_aperture.Goals as goal
+
+-- there are more parameters than sizes, and a size is not even
+abbrev is_holed : Result (ℕ × Aperture) ApertureFault → Bool
+is_holed (Err Hole) = true
+is_holed other = false
+
+abbrev is_off_grid : Result (ℕ × Aperture) ApertureFault → Bool
+is_off_grid (Err OffGrid) = true
+is_off_grid other = false
 
 pub number-requires : goal.number-requires
 number-requires c =
