@@ -83,7 +83,7 @@ class Places(unittest.TestCase):
 
     def test_told_once(self):
         """Each kind is told once of a file, with its first place and how many more there are."""
-        text = "\n".join(["%FSLAX46Y46*%%MOMM*%", "D10*", "", "X0Y0D03*X1Y1D03*", "M02*", ""])
+        text = "\n".join(["%FSLAX46Y46*%%MOMM*%", "D10*", "", "X0Y0D03*X1Y1D03*", "M02*", ""]).encode()
         self.assertEqual(two_bounds.told_once(text, []), [])
         self.assertEqual(two_bounds.told_once(text, ["an arc at command 4", "a polygon at command 5", "an arc at command 5", "an arc at command 3 of the block at command 5"]),
                          ["an arc at command 4, line 4, and 1 more", "a polygon at command 5, line 4", "an arc at command 3 of the block at command 5, line 4"])
@@ -138,7 +138,7 @@ class Unforeseen(made.Case):
         self.board("good", "X1000000Y0D03*")
         with mock.patch.object(bounded_file, "of_text", side_effect=ZeroDivisionError("by 0")):
             status, out, _ = self.show("bad", "good")
-            self.assertEqual((status, out.count("\n"), "good: agrees" in out), (70, 2, True), out)
+            self.assertEqual((status, out.count("\n"), "good: agrees" in out), (70, 3, True), out)
             self.assertIn(f"bad: {os.path.join('bad', 'top.gbr')}: a fault of `show` itself, which is no answer on the board (ZeroDivisionError by 0, in ", out)
             status, out, _ = self.show("bad", "--json", "-")
             self.assertEqual((status, '"status": 70' in out), (70, True))
