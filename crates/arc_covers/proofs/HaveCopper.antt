@@ -1,11 +1,9 @@
 -- Each shape that is read has a copper.
-use Rattle.std.proofs.Common.{◌≡◌, ◌<◌, ◌≤◌, ℕ, Bool, true, false, ◌&&◌, List, All, Option, Some, None, map, length, slice_get, refl, sym, subst, arith}
+use Rattle.std.proofs.Common.{◌≡◌, ◌<◌, ◌≤◌, ℕ, Bool, true, false, ◌&&◌, List, All, Option, Some, slice_get, refl, sym, subst, arith}
 use Rattle.std.specs.Prelude.{nat_le, nat_lt}
 use Rattle.std.proofs.lemmas.Bool.Decides.{nat_tests}
 use Rattle.std.proofs.lemmas.Option.{get_or_from_slice_get, slice_get_within}
-use Rattle.planar.specs.Plane.{Point}
 use Rattle.board_shapes.specs.declared.placed.Placed.{Placed}
-use Rattle.covers.specs.Boards.{Layout}
 use Rattle.arcs.specs.Laws as arcs
 use Rattle.arc_regions.specs.Laws as regions
 use Rattle.slants.specs.Laws as slants
@@ -15,7 +13,7 @@ use Rattle.real_shapes.specs.Settled.{is_settled}
 use Rattle.real_shapes.specs.declared.RealShape.{RealShape}
 use Rattle.real_shapes.specs.declared.RealShape.TheVariants.{Plain, ArcDraw, Slanted, Region, Turned, TurnedDisc, Polygon, Fine, Holed}
 use Rattle.arc_covers.specs.Laws.{RealBoardsHaveCopper, ShapesHaveCopper}
-use Rattle.arc_covers.specs.RealBoards.{IsCopperOf, IsReal, least_at, least_copper, real_span}
+use Rattle.arc_covers.specs.RealBoards.{IsCopperOf, least_at}
 
 -- of both tests
 both : (x y : Bool) → (x && y) ≡ true → (x ≡ true) × (y ≡ true)
