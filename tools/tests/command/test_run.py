@@ -179,7 +179,7 @@ class Answers(made.Case):
         self.assertEqual(self.show("board", "--keep", "kept")[0], 5)
         self.assertIn("AMRound", self.read("board/top.gbr"))
         status, out, _ = self.show("board", STAND_IN_LACKS="flatten")
-        self.assertEqual((status, out.startswith("board: differs, between two bounds: 3 findings certain ")), (1, True))
+        self.assertEqual((status, out.startswith("board: differs, between two bounds: 3 findings certain\n")), (1, True))
         self.assertIn("top.gbr could not be flattened: words not understood\n", out)
         self.show("board", "--junit", "b.xml", "--rdb", "b.lyrdb", STAND_IN_LACKS="flatten")
         self.assertEqual(minidom.parseString(self.read("b.xml")).getElementsByTagName("testsuite")[0].getAttribute("failures"), "3")
