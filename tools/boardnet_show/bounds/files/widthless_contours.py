@@ -8,8 +8,6 @@ from boardnet_show.formats.gerber_machine import MOVE, STRAIGHT, Machine, Spot
 from boardnet_show.geometry.exact import Refused
 from boardnet_show.geometry.segments import Bands, dot, edges, place_beside, point_within
 
-from .wound_contours import wound_twice
-
 MOST_CORNERS = 10_000   # of a contour that is looked at
 FEW_EDGES = 200         # of one whose edges are parted where corners lie on them
 
@@ -105,6 +103,9 @@ def widthless(walk, data):
 
 
 def wound(walk, data):
+    if not walk.found:
+        return ""
+    from .wound_contours import wound_twice     # few boards have regions, and loading takes longer than a small board
     found = [(number, it) for number, it in ((number, wound_twice(corners)) for number, corners in walk.found) if it]
     if not found:
         return ""

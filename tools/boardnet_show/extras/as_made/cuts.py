@@ -3,7 +3,6 @@
 The answer stays that on the files as they were designed; what the made board has less is told beside it. Joins and points of the design
 that are certain are looked at alone: what is undecided there is told already.
 """
-from collections import defaultdict
 from typing import Dict, FrozenSet, Iterator, List, NamedTuple, Optional, Sequence, Set, Tuple
 
 from boardnet_show.base.wording import counted, spoken
@@ -15,6 +14,7 @@ from boardnet_show.formats.report import Report
 from boardnet_show.judging.judged import Judged
 
 from .made_boards import LOWER, UPPER, Copper, made
+from .point_parts import joined, parts_of
 from .removals import EDGE, Removal
 
 # So many things are tried alone, to say which one parts a net.
@@ -35,24 +35,6 @@ class Group(NamedTuple):
         """The same without some points; None where it says nothing then."""
         parts = tuple(its for its in (tuple(point for point in part if point not in points) for part in self.parts) if its)
         return self._replace(parts=parts) if len(parts) > 1 or any(part[0] in self.bare for part in parts) else None
-
-
-def joined(report: Report) -> Dict[Tuple[int, int], List[int]]:
-    """The test points with copper by name and net; each without a net name by itself."""
-    found: Dict[Tuple[int, int], List[int]] = defaultdict(list)
-    for point, (_, _, name, net) in enumerate(report.points):
-        if net >= 0:
-            found[name, net].append(point)
-    return found
-
-
-def parts_of(points: Sequence[int], report: Report) -> Tuple[Tuple[int, ...], ...]:
-    """Points by their nets in a report; each one without copper is a part of its own."""
-    parts: Dict[Tuple[int, int], List[int]] = {}
-    for point in points:
-        net = report.points[point][3]
-        parts.setdefault((net, point if net < 0 else -1), []).append(point)
-    return tuple(tuple(its) for _, its in sorted(parts.items(), key=lambda part: (part[0][0] < 0, part[1][0])))
 
 
 def is_whole(parts: Tuple[Tuple[int, ...], ...], report: Report) -> bool:

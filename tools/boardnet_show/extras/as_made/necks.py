@@ -17,9 +17,10 @@ from boardnet_show.judging import board_copper
 from boardnet_show.judging.judged import Judged
 
 from . import drawn_in
-from .cuts import Group, joined, parts_of
+from .cuts import Group
 from .looking import bounds_of
 from .made_boards import file_text, judged_with
+from .point_parts import joined, parts_of
 
 # As much is a shape drawn in less than by half the width: a neck of exactly the width is none.
 SLACK = 5

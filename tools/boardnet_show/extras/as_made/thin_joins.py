@@ -16,7 +16,7 @@ from boardnet_show.geometry.exact import Refused
 from boardnet_show.intake.package import Package, beside
 from boardnet_show.judging.judged import Judged
 
-from .cuts import parts_of
+from .point_parts import joined, parts_of
 
 APERTURE = re.compile(rb"(ADD[0-9]+[CRO],)([0-9.]+)(?:X([0-9.]+))?(?=\*)")
 INCHES = re.compile(rb"MOIN\*|^G70\*", re.M)
@@ -47,11 +47,7 @@ def with_smaller(package: Package) -> Dict[str, bytes]:
 
 def parted(designed: Report, drawn: Report) -> List[List[int]]:
     """Test points of one name that are joined as designed, by the parts in which they are then: the first of each."""
-    nets: Dict[Any, List[int]] = {}
-    for point, (_, _, name, net) in enumerate(designed.points):
-        if net >= 0:
-            nets.setdefault((name, net), []).append(point)
-    parts = (parts_of(points, drawn) for points in nets.values())
+    parts = (parts_of(points, drawn) for points in joined(designed).values())
     return [[part[0] for part in its] for its in parts if len(its) > 1]
 
 
