@@ -193,6 +193,13 @@ class Names(unittest.TestCase):
         for some in (rows[:1], [rows[0], self.record(long)], [self.record(long)] * 2):
             self.assertEqual(netlist_mends.unclear(file_of([UNITS, *some]), 2), "", some)
 
+    def test_no_alias_of_a_name_that_runs_on(self):
+        """Behind an alias two names would be one, in columns of bytes and of characters."""
+        for name in ("A BBBBBBBBBBBB", "\u00c4BBBBBBBBBBBBB", "BBBBBBBBBBBBB\udcd6", "BBBBBBBBBBBBBB"):
+            rows = [self.record(name).replace("   ", f"O{n} ", 1) for n in (1, 2)]
+            data = netlist_mends.mended(file_of([UNITS, *rows]), 6)[0]
+            self.assertNotIn(b"NNAME", data, name)
+
 
 class Points(made.Case):
     def test_same_points(self):

@@ -227,7 +227,9 @@ class Netlist:
 
     def named(self, at: int, text: bytes, name: bytes) -> bytes:
         """A record with an alias in place of a name that `check` does not take."""
-        is_unplain = UNPLAIN.fullmatch(name) and (b" " in name or OUTSIDE.search(name))
+        # Behind an alias it would not be seen that a name runs on, and may be cut.
+        runs_on = not any(text[at:at + 1].strip() == b"" for at in (ipc356.NAME.stop - 1, ipc356.NAME.stop))
+        is_unplain = not runs_on and UNPLAIN.fullmatch(name) and (b" " in name or OUTSIDE.search(name))
         stands = ipc356.has_coordinates(text) and (ipc356.has_access(text) or lacks_layer(text))
         if not is_unplain or not stands or self.end == len(self.lines):
             return text
