@@ -1,9 +1,13 @@
 """The unplated holes of a board: of tools and of files that say that they are unplated, as they came."""
 import os
+import re
 from typing import Iterator, List, NamedTuple, Set
 
 from boardnet_show.base.statuses import BadCopper
-from boardnet_show.formats.drills.drill_lines import BODY, Hit, Mode, Pick, Rout, Unit, places_of
+from boardnet_show.formats import gerber_attributes
+from boardnet_show.formats.drills.drill_lines import (
+    BODY, Comment, Hit, Mode, Move, Other, Pick, Repeat, Rout, Unit, places_of
+)
 from boardnet_show.formats.drills.drill_plating import Plating
 from boardnet_show.formats.drills.drilled_holes import add_drilled
 from boardnet_show.geometry.shapes import Shapes
@@ -11,6 +15,10 @@ from boardnet_show.geometry.shapes import Shapes
 from . import drill_files, file_kinds
 from .file_names import MOST_BYTES, Refused
 from .package import Package
+
+# Lines of a body that make no hole and say of no place how it is read.
+HARMLESS = re.compile(rb"|%|G90|G05|M1[567]|M30|M0?0|FMAT,2|M47,.*|(?:[FS][0-9.]+)+")
+DRILLS_AGAIN = b"G05"
 
 
 class UnplatedHoles(NamedTuple):
@@ -51,6 +59,26 @@ def is_exact(plating: Plating) -> bool:
     return all(b"." in number for number in numbers)
 
 
+def is_walked(plating: Plating) -> bool:
+    """Whether each line of the body is one whose holes are known: no repeat, no arc, and no place in a rout without its
+    code."""
+    is_routing = False
+    for line in plating.lines:
+        record = line.record() if line.part == BODY else Comment(b"")
+        if isinstance(record, Repeat) or isinstance(record, Other) and not HARMLESS.fullmatch(line.text):
+            return False
+        if isinstance(record, Hit) and is_routing:
+            return False
+        is_routing = isinstance(record, (Move, Rout)) or is_routing and line.text != DRILLS_AGAIN
+    return True
+
+
+def is_gerber(data: bytes) -> bool:
+    """Whether a file is one in the Gerber format that calls all its holes unplated."""
+    is_of = file_kinds.look(data).kind == "gerber" and b"TF.FileFunction" in data
+    return is_of and {it.fields[1] for it in gerber_attributes.functions(data) if it.fields[1:]} == {b"NonPlated"}
+
+
 def unplated_lines(plating: Plating, is_all: bool) -> List[int]:
     """The lines that make unplated holes."""
     found, tool, unplated = [], 0, set(plating.unplated())
@@ -65,7 +93,7 @@ def unplated_lines(plating: Plating, is_all: bool) -> List[int]:
 def is_unplated(name: str, data: bytes) -> bool:
     """Whether a file that the manifest does not name is a drill file of unplated holes."""
     if file_kinds.look(data).kind != "drill":
-        return False
+        return is_gerber(data)
     plating = Plating(data)
     if {fields[0] for _, fields, _ in plating.functions} == {"NonPlated"} or plating.is_unplated_alone():
         return True
@@ -90,12 +118,15 @@ def sources(package: Package) -> Iterator[Source]:
 
 def holes_of(source: Source) -> UnplatedHoles:
     """The unplated holes of a drill file."""
+    if source.is_all and is_gerber(source.data):
+        return UnplatedHoles(source.name, [], Shapes(), False)
     plating, shapes = Plating(source.data), Shapes()
     lines = unplated_lines(plating, source.is_all)
+    is_known = is_walked(plating) or not (source.is_all or plating.unplated())
     try:
         if lines:
             add_drilled(shapes, source.data, set(lines))
-        is_read = not lines or is_exact(plating) and len(shapes) == len(lines)
+        is_read = is_known and (not lines or is_exact(plating) and len(shapes) == len(lines))
     except BadCopper:
         is_read = False
     return UnplatedHoles(source.name, lines, shapes) if is_read else UnplatedHoles(source.name, [], Shapes(), False)

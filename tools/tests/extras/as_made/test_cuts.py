@@ -105,8 +105,14 @@ class AsMade(made.Case):
 
     def test_numbers_that_are_not_known(self):
         """Holes whose numbers have no point are not guessed."""
-        status, found, notes = self.found(board(TRACK, unplated("X5000Y0")))
-        self.assertEqual((status, found, notes), (0, [], ["npth.drl: its unplated holes are not read, so nothing is said of what they cut"]))
+        # So are repeats, arcs, and places of a rout without their code.
+        for words in (["X5000Y0"], ["X5.0Y9.0", "R1Y-9.0"], ["G00X5.0Y5.0", "M15", "G01", "X5.0Y-5.0", "M16"],
+                      ["G00X4.0Y1.0", "M15", "G03X6.0Y1.0A1.0", "M16"]):
+            status, found, notes = self.found(board(TRACK, unplated(*words)))
+            self.assertEqual((status, found, notes), (0, [], ["npth.drl: its unplated holes are not read, so nothing is said of what they cut"]))
+        flashes = gerber("%TF.FileFunction,NonPlated,1,1,NPTH*%", *flash(10, (5, 0)))
+        status, found, notes = self.found(board(TRACK, **{"npth.gbr": flashes}))
+        self.assertEqual((status, found, notes[-1:]), (0, [], ["npth.gbr: its unplated holes are not read, so nothing is said of what they cut"]))
 
     def test_unplated_tools_of_a_mixed_file(self):
         two = [*flash(10, (0, 0), (10, 0)), *draw(11, (0, 0), (10, 0))]
