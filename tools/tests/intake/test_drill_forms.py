@@ -266,8 +266,12 @@ class NearMisses(Case):
                                 ("INCH,LZ", "INCH,LZ,000.000", "different digits"), ("INCH,LZ", "INCH,TZ", "which is none of 2.5, leading zeros left out"),
                                 ("2:5", "3:5", "by it 0 of 290 holes lie on middles of pads")):
             self.refused(name, drilled.replace(old, new), (), words)
+        for words, why in (("absolute / inch", "says another unit"), ("incremental / metric", "says that places are steps")):
+            its = text("M48", "; FORMAT={3:3/ " + words + " / keep zeros}", "METRIC", "T1C0.5", "%", "T1", "X005000Y005000", "M30")
+            self.refused("m.drl", its, (), why)
         name, drilled, beside = SAID["allegro metric"]
         rows = ((("4.4", "3.4"), ""), (("4.4", "4.5"), "by it 0 of 290 holes"), (("METRIC", "ENGLISH"), "by it 0 of 290 holes"), (("ABSOLUTE", "INCREMENTAL"), "COORDINATES"),
+                (("OUTPUT-UNITS", "FORMAT 3.3\nOUTPUT-UNITS"), "says FORMAT in two ways"),
                 (("TRAIL-ZEROES     NO", "TRAIL-ZEROES     YES"), "leading and trailing zeros are left out"))
         for (old, new), words in rows:
             if words:
@@ -300,6 +304,8 @@ class NearMisses(Case):
         self.assertEqual([asked(holes[:n]) for n in (7, 8, 9)], [0, 1, 1])
         off = "X1234Y1234"
         self.assertEqual([asked([off, *holes[:n]]) for n in (8, 18, 19)], [0, 0, 1])
+        # Repeats count, and are not looked at.
+        self.assertEqual([asked([*holes[:19], f"R{n}X1Y1"]) for n in (1, 2)], [1, 0])
         # As many pads where another reading has them, too.
         every = sorted(PLATED)[:40]
         lines = [f"X{x}Y{y}" for x, y, _ in every]
@@ -312,6 +318,10 @@ class NearMisses(Case):
         """A unit that is said behind the first hole is none of the holes before it; tools that change are not read."""
         name, drilled, _ = SAID["eagle 9"]
         self.refused(name, drilled.replace("METRIC,TZ", "INCH,TZ"), (), "different units")
+        # Without `M48`, too, where the places are written in millimetres.
+        for first, second in (("M72", "M71"), ("INCH", "METRIC"), ("M71", "M72")):
+            its = text(first, "T1C0.02", "%", "T1", "X0.2Y0.2", second, "X0.4Y0.2", "M30")
+            self.assertNotIn(b"M48", self.mended("m.drl", its)[0])
         late = drilled.replace("M71\n", "").replace("M30", "M72\nX1Y1\nM30")
         self.assertIn(b"M72", self.mended(name, late)[0])
         name, drilled, _ = SILENT["orcad, pads"]
@@ -323,6 +333,7 @@ class NearMisses(Case):
         own, of_allegro = "; #@! TA.AperFunction,NonPlated,NPTH", ";T02 Holesize 2. = 1.0 Tolerance = +0.0/-0.0 NON_PLATED MM Quantity = 1"
         rows = ((("%", "M71", "T1C0.4", "X1.0Y1.0", own, "T2C1.0", "X2.0Y2.0"), 7), (("M48", "METRIC", "%", "T1C0.4", "X1.0Y1.0", own, "T2C1.0", "X2.0Y2.0"), 8),
                 (("%", "M71", "T1C0.4", "X1.0Y1.0", of_allegro, "T2C1.0", "X2.0Y2.0"), 7), ((";TYPE=PLATED", "%", "M71", "T1C0.4", "X1.0Y1.0", ";TYPE=NON_PLATED", "X2.0Y2.0"), 7))
+        rows += ((("M48", "METRIC", ";TYPE=PLATED", "T1C0.4", "%", "T1", "X1.0Y1.0", ";TYPE=NON_PLATED", "R1X5.0"), 9),)
         for lines, line in rows:
             self.assertEqual(drill_plating.unplated_hole(text(*lines, "M30").encode()), line, lines)
         data, _, _ = self.mended("m.drl", text(";TYPE=PLATED", "%", "M71", "T1C0.4", "X1.0Y1.0", ";TYPE=NON_PLATED", "T2C1.0", "X2.0Y2.0", "M30"))
@@ -384,7 +395,9 @@ class GerberDrills(Case):
 
     def test_refused(self):
         """All that is neither a hole nor a slot, with its line."""
-        rows = (("C,1.2*", "R,1.2X1*", "line 15: a hole is no flash"), ("C,1.2*", "C,1.2X0.3*", "no flash or draw of a circle"), ("D01*", "I100J0D01*", "centre"),
+        rows = (("C,1.2*", "R,1.2X1*", "line 15: a hole is no flash"), ("C,1.2*", "C,1.2X0.3*", "no flash or draw of a circle"),
+                ("TA.AperFunction,ComponentDrill", "TA.AperFunction,NonPlated,NPTH,ComponentDrill", "line 5: it calls holes unplated"),
+                ("%TA.AperFunction,ComponentDrill*%", "G04 #@! TA.AperFunction,BackDrill*", "line 5: it calls holes unplated"), ("D01*", "I100J0D01*", "centre"),
                 ("G75*", "G75*\nG02*", "a slot is an arc"), ("D11*", "%LPC*%D11*", "is clear"), ("D11*", "%SRX2Y1I1.0J0*%D11*", "repeats"), ("D11*", "%ABD12*%D11*", "block"),
                 ("D11*", "%LR90*%D11*", "turns"), ("D11*", "G36*", "region"), ("FSLAX", "FSTAX", "line 2: its format"), ("FSLAX", "FSLIX", "format"), ("M02*\n", "", "no end"),
                 ("%MOMM*%\n", "", "before its unit"), ("G75*", "G91*", "not read"), ("-300000D01", "-300000", "no code"), ("G01*", "%IPNEG*%", "not read"),

@@ -14,6 +14,7 @@ OUTPUT_UNITS = {b"ENGLISH": INCH, b"INCHES": INCH, b"METRIC": MM, b"MILLIMETERS"
 FORMAT = re.compile(rb"([0-9])\.([0-9])")
 # The zeros that are left out, by SUPPRESS-LEAD-ZEROES and SUPPRESS-TRAIL-ZEROES.
 SUPPRESSED = {(b"YES", b"NO"): LEADING, (b"NO", b"YES"): TRAILING, (b"NO", b"NO"): NO_ZEROS}
+NEEDED = (b"FORMAT", b"COORDINATES", b"OUTPUT-UNITS", b"SUPPRESS-LEAD-ZEROES", b"SUPPRESS-TRAIL-ZEROES")
 HOLESIZE = re.compile(rb"^[ \t]*;[ \t]*(?:T[0-9]{1,4}[ \t]+)?Holesize\b", re.M | re.I)
 # `Units : 1/10000 Inch` of a .dri, its tools (` T01   0.0394inch     2`), and the file that it is about.
 DRI_UNITS = re.compile(rb"^[ \t]*Units[ \t]*:[ \t]*(?:1/1(0{1,9})|0\.(0{0,8})1)[ \t]*(inch|mm)[ \t\r]*$", re.M | re.I)
@@ -34,7 +35,11 @@ class Companion(NamedTuple):
 
 def parameters(name: str, data: bytes) -> Optional[Companion]:
     """What nc_param.txt says; nothing where it has no FORMAT."""
-    its: Dict[bytes, bytes] = dict(PARAMETER.findall(data))
+    rows = list(dict.fromkeys(PARAMETER.findall(data)))
+    its: Dict[bytes, bytes] = dict(rows)
+    twice = next((key for key in its if key in NEEDED and sum(other == key for other, _ in rows) > 1), None)
+    if twice:
+        raise Contradiction(f"{name} says {shown(twice)} in two ways")
     digits = FORMAT.fullmatch(its.get(b"FORMAT", b""))
     if not digits:
         return None

@@ -150,6 +150,8 @@ class Frame:
         self.sized = commented(its[:self.front])
         self.changed: Dict[int, bytes] = {}
         self.first_pick = b""
+        # A later unit would be that of the places behind it alone.
+        self.has_units = len({it.unit for it in (line.record() for line in its) if isinstance(it, (Unit, Mode))}) > 1
         self.read()
 
     def read(self) -> None:
@@ -191,7 +193,7 @@ class Frame:
             self.changed[stop] = b"T%d" % it.number if it else b""
 
     def headed(self, raw: List[bytes]) -> Optional[Headed]:
-        if not self.moved.header or self.moved.leaves(self.its[self.front:]):
+        if not self.moved.header or self.has_units or self.moved.leaves(self.its[self.front:]):
             return None
         header = [START, *([NAMES[MM]] if self.unit else []), *self.moved.header, b"%"]
         header += [self.first_pick] if self.first_pick else []

@@ -8,7 +8,7 @@ import re
 from typing import Dict, Iterator, List, Optional, Set, Tuple
 
 from .drill_headers import headed
-from .drill_lines import BODY, Comment, Hit, Line, Pick, Rout, Tool, lines
+from .drill_lines import BODY, Comment, Hit, Line, Pick, Repeat, Rout, Tool, lines
 
 # The one form of a file's function that `check` reads; the others are comments to it.
 EXACT = b"; #@! TF.FileFunction,"
@@ -132,7 +132,7 @@ class Plating:
             if line.part != BODY:
                 continue
             record = line.record()
-            if isinstance(record, (Hit, Rout)):
+            if isinstance(record, (Hit, Rout, Repeat)):
                 yield self.head.line(line.number), called
             elif isinstance(record, (Comment, Pick)):
                 said = TYPE.match(line.text)

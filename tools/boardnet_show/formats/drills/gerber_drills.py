@@ -11,6 +11,7 @@ from boardnet_show.geometry.exact import DECIMAL, Refused
 
 FORMAT = re.compile(r"FSLAX([0-9])([0-9])Y\1\2")
 MOST_TOOLS = 9_999
+UNPLATED = re.compile(r"TA\.AperFunction,[ \t]*(?:NonPlated|BackDrill)\b", re.I)
 # Words in pairs of percent signs that change nothing.
 IDLE = re.compile(r"(?:LN|IN).*|IPPOS|OFA0B0|SFA1B1|MIA0B0|IR0|ASAXBY", re.S)
 
@@ -126,6 +127,8 @@ class Drilled(Machine):
     def attribute(self, text: str) -> None:
         if re.match(r"TF\.FilePolarity,[ \t]*negative", text, re.I):
             self.refuse("it is negative")
+        if UNPLATED.match(text):
+            self.refuse("it calls holes unplated")
 
     def other(self, text: bytes) -> None:
         if text not in (b"", b"G90"):

@@ -17,6 +17,9 @@ UNIT_NAMES = {MM: "millimetres", INCH: "inches"}
 # `;FILE_FORMAT=2:5`, and KiCad's `; FORMAT={3:3/ absolute / metric / suppress leading zeros}`.
 LAYOUT = re.compile(rb";[ \t]*(?:FILE_FORMAT[ \t]*=[ \t]*|FORMAT=\{)([0-9]):([0-9])([^\r\n]*)")
 SUPPRESSED = {b"suppress leading zeros": LEADING, b"suppress trailing zeros": TRAILING, b"keep zeros": NO_ZEROS}
+# What such a comment says of the unit, and of places.
+LAYOUT_UNITS = {b"inch": INCH, b"metric": MM}
+STEPS = b"incremental"
 
 
 class Contradiction(Exception):
@@ -131,9 +134,27 @@ def units(data: bytes) -> Iterator[Tuple[int, int]]:
             yield line.number, record.unit
 
 
+def layout_words(data: bytes) -> Iterator[Tuple[int, bytes]]:
+    """The words behind the digits of each comment that says digits, with its line."""
+    for line in lines(data):
+        found = LAYOUT.match(line.text) if line.text[:1] == b";" else None
+        if found:
+            yield from ((line.number, word.strip()) for word in found[3].lower().split(b"/"))
+
+
+def need_fit(data: bytes, unit: Optional[int]) -> None:
+    """A Contradiction where a comment on digits says another unit than the lines do, or that places are steps."""
+    for number, word in layout_words(data):
+        if word == STEPS:
+            raise Contradiction(f"line {number} says that places are steps, and only absolute ones are read")
+        if None not in (unit, LAYOUT_UNITS.get(word)) and LAYOUT_UNITS[word] != unit:
+            raise Contradiction(f"line {number} says another unit than the lines on it")
+
+
 def said_of(data: bytes) -> Said:
     """What a drill file says of its numbers; a Contradiction where it says it in two ways."""
     its_units, its_layouts, its_zeros = list(units(data)), list(layouts(data)), list(zero_words(data))
+    need_fit(data, its_units[0][1] if its_units else None)
     digits, zeros = {it for _, it, _ in its_layouts}, {it for _, it in its_zeros}
     if len({unit for _, unit in its_units}) > 1:
         raise Contradiction(f"lines {its_units[0][0]} and {its_units[-1][0]} say different units")

@@ -6,7 +6,7 @@ What is found so is evidence and no certainty: it is told, and taken only where 
 from fractions import Fraction
 from typing import Callable, Dict, Iterable, Iterator, List, NamedTuple, Optional, Set, Tuple
 
-from boardnet_show.formats.drills.drill_lines import BEHIND, Hit, Place, lines, places_of
+from boardnet_show.formats.drills.drill_lines import BEHIND, Hit, Place, Repeat, lines, places_of
 from boardnet_show.formats.drills.drill_plating import Plating
 from boardnet_show.formats.drills.number_forms import (
     LEADING, TRAILING, UNIT_NAMES, NumberForm, Said, Settled, bare_numbers
@@ -96,6 +96,12 @@ def holes_of(data: bytes) -> List[Texts]:
     return sorted(found)
 
 
+def repeated(data: bytes) -> int:
+    """How many holes repeats make."""
+    records = (line.record() for line in lines(data) if line.text[:1] == b"R" and line.part != BEHIND)
+    return sum(record.times for record in records if isinstance(record, Repeat))
+
+
 def length(number: bytes, reading: Reading) -> int:
     """A number in u, to the nearest."""
     form, behind = reading.form, 0
@@ -144,7 +150,9 @@ class Evidence:
         holes = holes_of(data) if bare else []
         if len(holes) < FEWEST:
             return None
-        found = fits(holes, readings(its, bare), self.cells())
+        # Where repeats lie is not looked at: all count as holes off pads.
+        more = repeated(data)
+        found = [fit._replace(holes=fit.holes + more) for fit in fits(holes, readings(its, bare), self.cells())]
         first = max(found, key=lambda fit: fit.on)
         others = [fit for fit in found if fit is not first]
         if not first.is_enough() or not first.is_written or not all(map(first.leaves, others)):

@@ -187,6 +187,9 @@ class Numbers:
                 raise Unclear
 
     def repeat(self, number: int, record: Repeat) -> None:
+        if not self.drill.form and any(b"." not in number for number in numbers(record)):
+            # What a number without a point means is not known.
+            raise Unclear
         step = [Fraction(0) if number is None else Fraction(self.pointed(number).decode()) for number in record.step]
         holes = []
         for _ in range(record.times):
