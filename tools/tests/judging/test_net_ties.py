@@ -135,7 +135,7 @@ class Ties(made.Case):
         """Copper outside the profile: ties hold between bounds, too."""
         arc = [*COPPER, "X20000000Y20000000D02*", "G75*", "G03X21000000Y21000000I0J1000000D01*", "G01*"]
         for program in self.over_both():
-            for words, status, line in ((["GND=AGND"], 0, "agrees, with 1 declared tie, between two bounds "), (["GND=VCC"], 1, "differs, with 0 declared ties, between two bounds"),
+            for words, status, line in ((["GND=AGND"], 0, "agrees, with 1 declared tie, between two bounds\n"), (["GND=VCC"], 1, "differs, with 0 declared ties, between two bounds"),
                                         (["GND=AGND", "GND=VCC"], 1, "differs, with 1 declared tie, between two bounds: 1 finding certain")):
                 told = self.tied(arc, words=[each for name in words for each in ("--tie", name)], program=program)
                 self.assertEqual((told[0], told[1].replace(", proved", "").startswith(f"board: {line}")), (status, True), told[1])

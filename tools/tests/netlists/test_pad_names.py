@@ -122,7 +122,7 @@ class Labels(made.Case):
         lines = [*pin("U2", "1", "A"), *arcs, *pin("U2", "2", "A"), *erased, "%TD*%", *draw(11, (20, 0), (29.7, 0)), *pin("U2", "3", "C"), *macro]
         for program in self.over_both():
             status, out, board = self.told({"one.gbr": layer(1, "Top", *lines)}, program=program)
-            self.assertEqual((status, out.startswith(f"board: {FIRST}agrees, between two bounds ")), (0, True), out)
+            self.assertEqual((status, out.startswith(f"board: {FIRST}agrees, between two bounds\n")), (0, True), out)
             self.assertEqual((board["points"], "its copper" in out), (3, False), out)
 
     def test_blocks_and_modal_flashes(self):
