@@ -89,7 +89,12 @@ def judged_at_once(asked, program: Program) -> List[Shown]:
     import multiprocessing          # most calls have one board
     pool = multiprocessing.get_context("fork").Pool(min(asked.jobs, len(asked.paths)), end_quietly)
     try:
-        return list(pool.imap(Job(asked, program), asked.paths))
-    finally:
+        judged = list(pool.imap(Job(asked, program), asked.paths))
+    except BaseException:
         pool.terminate()
+        raise
+    else:
+        pool.close()        # a signal to a process that has only begun can be lost, and is then waited for without end
+        return judged
+    finally:
         pool.join()
