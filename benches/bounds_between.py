@@ -11,7 +11,7 @@ import made_board
 import runs
 from bounds_files import FORMATS
 
-FARTHEST, ARCS = 5 * 10 ** 8, 50       # from 0 to places, in u; arc draws of a layer
+FARTHEST, ARCS = 5 * 10**8, 50  # from 0 to places, in u; arc draws of a layer
 KINDS = ("like", "whole", "any turn", "two radii", "one line", "small", "large", "quadrant")
 PROVED = ", between two bounds, proved"
 
@@ -29,14 +29,27 @@ PADS = ["%AMRotRect*", "21,1,$1,$2,0,0,$3*%", "%AMOutline4P*", "4,1,4,$1,$2,$3,$
 
 class Layer:
     """A copper file: figures, arc draws of every kind, macros with slanted lines, pads turned by degrees, round holes, odd sizes, also of pens, regions with arcs, blocks. `arcs` counts
-    the draws, and `made` what else of the file is outside the profile; lengths are counted in the file's units. At 0 is a pad for both points."""
+    the draws, and `made` what else of the file is outside the profile; lengths are counted in the file's units. At 0 is a pad for both points.
+    """
 
     def __init__(self, rng):
         self.rng, self.arcs, self.made, (digits, unit, self.unit) = rng, 0, Counter(), rng.choice(FORMATS)
-        self.scale, self.most = 254 * 10 ** 6 if unit == "IN" else 10 ** 7, FARTHEST // self.unit
-        self.lines = [f"%FSLAX{digits}Y{digits}*%", f"%MO{unit}*%", *self.apertures(), *self.macros(), *self.pads(), *self.holes(), *self.odds(), "%ADD60C,0.01*%", "G01*", "D60*", "X0Y0D03*"]
+        self.scale, self.most = 254 * 10**6 if unit == "IN" else 10**7, FARTHEST // self.unit
+        self.lines = [
+            f"%FSLAX{digits}Y{digits}*%",
+            f"%MO{unit}*%",
+            *self.apertures(),
+            *self.macros(),
+            *self.pads(),
+            *self.holes(),
+            *self.odds(),
+            "%ADD60C,0.01*%",
+            "G01*",
+            "D60*",
+            "X0Y0D03*",
+        ]
         while self.arcs < ARCS:
-            self.block() if rng.random() < .03 else self.object()
+            self.block() if rng.random() < 0.03 else self.object()
         self.lines += ["G01*", "M02*"]
 
     def apertures(self):
@@ -55,10 +68,25 @@ class Layer:
         self.lines.append(f"{before}X{spot[0]}Y{spot[1]}{behind}D0{code}*")
 
     def object(self):
-        self.rng.choice((self.arc, self.arc, self.arc, self.arc, self.draw, self.flash, self.area, self.macro, self.pad, self.holed, self.odd, self.bent))()
+        self.rng.choice(
+            (
+                self.arc,
+                self.arc,
+                self.arc,
+                self.arc,
+                self.draw,
+                self.flash,
+                self.area,
+                self.macro,
+                self.pad,
+                self.holed,
+                self.odd,
+                self.bent,
+            )
+        )()
 
     def block(self):
-        gap = self.rng.randrange(1, 10 ** 7) * self.step() / self.scale
+        gap = self.rng.randrange(1, 10**7) * self.step() / self.scale
         self.lines.append(f"%SRX{self.rng.randrange(1, 4)}Y{self.rng.randrange(1, 3)}I{gap:.7f}J{-gap:.7f}*%")
         for _ in range(self.rng.randrange(1, 4)):
             self.object()
@@ -69,7 +97,7 @@ class Layer:
 
     def pen(self):
         """A circle, at times one of an odd size."""
-        odd = self.rng.random() < .2
+        odd = self.rng.random() < 0.2
         self.lines.append(f"D{self.rng.choice((80, 83)) if odd else self.rng.randint(10, 29)}*")
         self.made["draws with pens of odd sizes"] += odd
 
@@ -108,12 +136,18 @@ class Layer:
         text = lambda u: f"{u / self.scale:.7f}"
         w, x, y, dx, dy = (self.length(size) * self.rng.choice((-1, 1)) for _ in range(5))
         w, end = 2 * abs(w) + self.odd_step(w), self.rng.choice(((x + dx, y + dy),) * 4 + ((x + dx, y), (x, y + dy)))
-        return self.rng.choice((f"20,1,{text(w)},{text(x)},{text(y)},{text(end[0])},{text(end[1])}",) * 3 + (
-            f"1,1,{text(w)},{text(x)},{text(y)}", f"21,1,{text(w)},{text(2 * abs(dx) + self.odd_step(dx))},{text(x)},{text(y)}", "20,1,0,0,0,0.1,0.1"))
+        return self.rng.choice(
+            (f"20,1,{text(w)},{text(x)},{text(y)},{text(end[0])},{text(end[1])}",) * 3
+            + (
+                f"1,1,{text(w)},{text(x)},{text(y)}",
+                f"21,1,{text(w)},{text(2 * abs(dx) + self.odd_step(dx))},{text(x)},{text(y)}",
+                "20,1,0,0,0,0.1,0.1",
+            )
+        )
 
     def odd_step(self, seed):
         """What makes a size an odd number of u, at times."""
-        return self.step() * (random.Random(seed).random() < .3)
+        return self.step() * (random.Random(seed).random() < 0.3)
 
     def pads(self):
         """Pads of layout tools, and outlines, turned by a parameter or by a number."""
@@ -121,14 +155,28 @@ class Layer:
         for k in range(50, 60):
             size = 10 ** self.rng.randint(3, 7)
             w, h, left, right = (f"{2 * self.length(size) / self.scale:.7f}" for _ in range(4))
-            turn = self.rng.choice((f"{90 * self.rng.randrange(-4, 5)}", f"{self.rng.randrange(-9000, 9000) / 10}", f"{self.rng.uniform(-360, 360):.7f}"))
+            turn = self.rng.choice(
+                (
+                    f"{90 * self.rng.randrange(-4, 5)}",
+                    f"{self.rng.randrange(-9000, 9000) / 10}",
+                    f"{self.rng.uniform(-360, 360):.7f}",
+                )
+            )
             if k % 4 == 3:
                 yield from (f"%AMP{k}*", f"{self.outline(size)},{turn}*%", f"%ADD{k}P{k}*%")
             elif k % 4 == 0:
                 middle = self.rng.choice(("0,0", f"{left},-{right}"))
                 corners = self.rng.randrange(3, 13)
-                yield from (f"%AMP{k}*", f"21,1,{w},{h},0,0,{turn}*", f"1,1,{w},{middle},{turn}*", f"5,1,{corners},{middle},{self.across(right)},{turn}*")
-                yield from (f"20,1,{h},0,0,{w},0,{turn}*%", f"%ADD{k}P{k},{random.Random(w).randrange(1, 10 ** 3) / 10 ** 4:.4f}*%")
+                yield from (
+                    f"%AMP{k}*",
+                    f"21,1,{w},{h},0,0,{turn}*",
+                    f"1,1,{w},{middle},{turn}*",
+                    f"5,1,{corners},{middle},{self.across(right)},{turn}*",
+                )
+                yield from (
+                    f"20,1,{h},0,0,{w},0,{turn}*%",
+                    f"%ADD{k}P{k},{random.Random(w).randrange(1, 10 ** 3) / 10 ** 4:.4f}*%",
+                )
             elif k % 4 == 1:
                 yield f"%ADD{k}RotRect,{w}X{h}X{turn}*%"
             else:
@@ -143,31 +191,39 @@ class Layer:
     def outline(self, size):
         """An outline of some kind, either way round."""
         kind = self.rng.choice((self.chamfered, self.rounded, self.slotted, self.star))
-        spots = kind(max(size, 10 ** 4) // self.step())[::self.rng.choice((1, -1))]
+        spots = kind(max(size, 10**4) // self.step())[:: self.rng.choice((1, -1))]
         places = (f"{v * self.step() / self.scale:.7f}" for spot in [*spots, spots[0]] for v in spot)
         return f"4,1,{len(spots)},{','.join(places)}"
 
     def chamfered(self, far):
         """A box without its corners."""
-        (w, h), (a, b, c, d) = (self.rng.randint(far // 2, far) for _ in "xy"), (self.rng.randint(1, far // 5) for _ in range(4))
+        (w, h), (a, b, c, d) = (self.rng.randint(far // 2, far) for _ in "xy"), (
+            self.rng.randint(1, far // 5) for _ in range(4)
+        )
         return [(-w, a - h), (a - w, -h), (w - b, -h), (w, b - h), (w, h - c), (w - c, h), (d - w, h), (-w, h - d)]
 
     def rounded(self, far):
         """A triangle up to a figure of twenty corners."""
-        count, flat = self.rng.randrange(3, 21), self.rng.uniform(.6, 1)
-        turns = (2 * math.pi * (k + self.rng.uniform(0, .3)) / count for k in range(count))
+        count, flat = self.rng.randrange(3, 21), self.rng.uniform(0.6, 1)
+        turns = (2 * math.pi * (k + self.rng.uniform(0, 0.3)) / count for k in range(count))
         return [(round(far * math.cos(turn)), round(far * flat * math.sin(turn))) for turn in turns]
 
     def slotted(self, far):
         """A box with a slot, or an L."""
         a, b, c, h, deep = (self.rng.randint(far // 5, far) for _ in range(5))
         spots = [(-a, -h), (b + c, -h), (b + c, deep), (b, deep), (b, 0), (0, 0), (0, deep), (-a, deep)]
-        return spots if self.rng.random() < .5 else spots[:5] + [(-a, 0)]
+        return spots if self.rng.random() < 0.5 else spots[:5] + [(-a, 0)]
 
     def star(self, far):
         """Of three points up to eleven."""
         count, rng = self.rng.randrange(3, 12), self.rng
-        places = ((math.pi * (k + rng.uniform(0, .3)) / count, far * (rng.uniform(.7, 1) if k % 2 else rng.uniform(.2, .4))) for k in range(2 * count))
+        places = (
+            (
+                math.pi * (k + rng.uniform(0, 0.3)) / count,
+                far * (rng.uniform(0.7, 1) if k % 2 else rng.uniform(0.2, 0.4)),
+            )
+            for k in range(2 * count)
+        )
         return [(round(r * math.cos(turn)), round(r * math.sin(turn))) for turn, r in places]
 
     def pad(self):
@@ -194,7 +250,11 @@ class Layer:
         for k, name in enumerate("CROCRO", 80):
             steps = [factor * (int(10 ** self.rng.uniform(0, 6)) // self.step()) + 1 for factor in (2, 1)]
             self.rng.shuffle(steps)
-            sizes = [next(it for it in steps if it % 2)] if name == "C" else [4 if name == "O" and it == 2 else it for it in steps]
+            sizes = (
+                [next(it for it in steps if it % 2)]
+                if name == "C"
+                else [4 if name == "O" and it == 2 else it for it in steps]
+            )
             yield f"%ADD{k}{name},{'X'.join(f'{it * self.step() / self.scale:.7f}' for it in sizes)}*%"
 
     def odd(self):
@@ -215,7 +275,11 @@ class Layer:
             self.go((parts[0][0] + x, parts[0][1] + y), 2, "G01")
             last = parts[0]
             for centre, end, way in parts[1:]:
-                word, offset = ("G01", "") if centre is None else ("G03" if way else "G02", f"I{centre[0] - last[0]}J{centre[1] - last[1]}")
+                word, offset = (
+                    ("G01", "")
+                    if centre is None
+                    else ("G03" if way else "G02", f"I{centre[0] - last[0]}J{centre[1] - last[1]}")
+                )
                 self.go((end[0] + x, end[1] + y), 1, word, offset)
                 last = end
             self.made["contours with arcs"] += any(part[0] for part in parts[1:])
@@ -226,12 +290,22 @@ class Layer:
         rng, r = self.rng, 9 + int(10 ** self.rng.uniform(0, math.log10(self.most // 4)))
         w, h = (r + rng.choice((0, 1, rng.randrange(1, 4 * r))) for _ in "xy")
         parts = [((r, 0), None, True)]
-        for inner, outer, first, last in (((w, r), (w + r, 0), (w, 0), (w + r, r)), ((w, h), (w + r, h + r), (w + r, h), (w, h + r)),
-                                          ((r, h), (0, h + r), (r, h + r), (0, h)), ((r, r), (0, 0), (0, r), (r, 0))):
-            parts += [(first, None, True), (last, *rng.choice(((inner, True), (inner, True), (outer, False), (None, True))))]
-        if rng.random() < .5:       # the other way round
+        for inner, outer, first, last in (
+            ((w, r), (w + r, 0), (w, 0), (w + r, r)),
+            ((w, h), (w + r, h + r), (w + r, h), (w, h + r)),
+            ((r, h), (0, h + r), (r, h + r), (0, h)),
+            ((r, r), (0, 0), (0, r), (r, 0)),
+        ):
+            parts += [
+                (first, None, True),
+                (last, *rng.choice(((inner, True), (inner, True), (outer, False), (None, True)))),
+            ]
+        if rng.random() < 0.5:  # the other way round
             spots = [spot for spot, _, _ in parts]
-            parts = [(spots[-1], None, True), *((spot, centre, not way) for spot, (_, centre, way) in zip(spots[-2::-1], parts[:0:-1]))]
+            parts = [
+                (spots[-1], None, True),
+                *((spot, centre, not way) for spot, (_, centre, way) in zip(spots[-2::-1], parts[:0:-1])),
+            ]
         return [parts[0][0], *((centre, spot, way) for spot, centre, way in parts[1:])]
 
     # ---- arcs
@@ -240,20 +314,24 @@ class Layer:
         """The places of both ends about the centre."""
         rng = self.rng
         most = 3 if kind == "small" else math.log10(self.most) - 1 if kind != "large" else math.log10(self.most)
-        r, t = 10 ** rng.uniform(0 if kind == "small" else 2, most), rng.choice((rng.uniform(0, 7), rng.randrange(4) * math.pi / 2))
+        r, t = 10 ** rng.uniform(0 if kind == "small" else 2, most), rng.choice(
+            (rng.uniform(0, 7), rng.randrange(4) * math.pi / 2)
+        )
         at = lambda turn, far=r: (round(far * math.cos(turn)), round(far * math.sin(turn)))
-        (x, y), further = at(t), rng.choice((rng.uniform(0, 6.28), 10 ** rng.uniform(-4, 0), -10 ** rng.uniform(-4, 0)))
+        (x, y), further = at(t), rng.choice(
+            (rng.uniform(0, 6.28), 10 ** rng.uniform(-4, 0), -(10 ** rng.uniform(-4, 0)))
+        )
         if kind == "whole":
             return (x, y), (x, y)
         if kind == "one line":
             k = rng.choice((-3, -2, -1, 2, 3))
             return (x, y), (k * x, k * y)
         if kind == "two radii":
-            return (x, y), at(t + further, r * rng.uniform(.7, 1.4) if rng.random() < .5 else r + rng.randint(-9, 9))
+            return (x, y), at(t + further, r * rng.uniform(0.7, 1.4) if rng.random() < 0.5 else r + rng.randint(-9, 9))
         return (x, y), rng.choice((at(t + further), rng.choice(((-y, x), (-x, -y), (y, -x), (x, -y), (-x, y), (y, x)))))
 
     def arc(self):
-        kind, centre, way = self.rng.choice(KINDS), self.place(), self.rng.random() < .5
+        kind, centre, way = self.rng.choice(KINDS), self.place(), self.rng.random() < 0.5
         if kind == "quadrant":
             self.quadrant(centre, way)
             return
@@ -276,7 +354,7 @@ class Layer:
         self.pen()
         self.lines.append(quadrants)
         self.go(a, 2)
-        if self.rng.random() < .5:
+        if self.rng.random() < 0.5:
             self.lines.append(f"G0{code}*")
             self.go(b, 1, "", offsets)
         else:
@@ -289,9 +367,24 @@ def package(rng, folder):
     """A package of two layers, a through drill file and two points; how many arc draws it has, and what else outside the profile."""
     layers = [Layer(rng) for _ in "tb"]
     files = {f"{k}.gbr": its.lines for k, its in enumerate(layers)}
-    files["d.drl"] = ["M48", "METRIC", "T1C0.3", "%", "T1", *(f"X{rng.uniform(-40, 40):.4f}Y{rng.uniform(-40, 40):.4f}" for _ in range(9)), "M30"]
+    files["d.drl"] = [
+        "M48",
+        "METRIC",
+        "T1C0.3",
+        "%",
+        "T1",
+        *(f"X{rng.uniform(-40, 40):.4f}Y{rng.uniform(-40, 40):.4f}" for _ in range(9)),
+        "M30",
+    ]
     points = [f"327{name}                J1    -{k + 1}          A01X+{k:06}Y+000000" for k, name in enumerate("AB")]
-    made_board.put(folder, {**files, "n.ipc": [made_board.NETLIST, *points, "999"], "m.json": [made_board.manifest(["0.gbr", "1.gbr"], "d.drl")]})
+    made_board.put(
+        folder,
+        {
+            **files,
+            "n.ipc": [made_board.NETLIST, *points, "999"],
+            "m.json": [made_board.manifest(["0.gbr", "1.gbr"], "d.drl")],
+        },
+    )
     return sum((its.made for its in layers), Counter({"arc draws": sum(its.arcs for its in layers)}))
 
 
@@ -301,7 +394,11 @@ def tried(packages, seed):
     for number in range(packages):
         with tempfile.TemporaryDirectory() as folder:
             count += package(random.Random(f"{seed} {number}"), folder)
-            told = subprocess.run([sys.executable, os.path.join(runs.TOP, "tools", "show"), folder, "-q"], stdout=subprocess.PIPE, check=False)
+            told = subprocess.run(
+                [sys.executable, os.path.join(runs.TOP, "tools", "show"), folder, "-q"],
+                stdout=subprocess.PIPE,
+                check=False,
+            )
             said = told.stdout.decode().strip().split("\n")[-1].replace(folder, "board")
         if PROVED in said:
             taken += 1

@@ -5,8 +5,28 @@ from fractions import Fraction as Q
 import bounds_model as model
 from bounds_model import FINE
 
-FORMS = ("flashes", "polygons", "holes", "macros", "exposure off", "thermals", "draws", "box and obround pens", "arcs", "single quadrants",
-         "small arcs", "two radii", "regions", "arcs in regions", "small circles in regions", "pies and fans", "clear", "changed", "blocks", "steps")
+FORMS = (
+    "flashes",
+    "polygons",
+    "holes",
+    "macros",
+    "exposure off",
+    "thermals",
+    "draws",
+    "box and obround pens",
+    "arcs",
+    "single quadrants",
+    "small arcs",
+    "two radii",
+    "regions",
+    "arcs in regions",
+    "small circles in regions",
+    "pies and fans",
+    "clear",
+    "changed",
+    "blocks",
+    "steps",
+)
 FORMATS = (("46", "MM", 10), ("46", "MM", 10), ("47", "MM", 1), ("24", "IN", 25400), ("26", "IN", 254))
 TRIPLES = ((3, 4, 5), (5, 12, 13), (8, 15, 17), (7, 24, 25), (20, 21, 29), (1, 0, 1))
 MIRRORS = {"N": (False, False), "X": (True, False), "Y": (False, True), "XY": (True, True)}
@@ -18,7 +38,7 @@ class File:
     def __init__(self, rng, form):
         self.rng, self.form = rng, form
         digits, unit, self.unit = rng.choice(FORMATS)
-        self.scale = 254 * 10 ** 6 if unit == "IN" else 10 ** 7
+        self.scale = 254 * 10**6 if unit == "IN" else 10**7
         self.lines = [f"%FSLAX{digits}Y{digits}*%", f"%MO{unit}*%", "G75*"]
         self.objects, self.number, self.dark = [], 10, True
         self.size = rng.choice((200, 3000, 30000)) if self.unit < 1000 else rng.choice((20, 200, 2000))
@@ -66,14 +86,18 @@ class File:
         return f"{name},{a}X{b}", model.box((0, 0), w, h) if name == "R" else model.capsule((-x, -y), (x, y), r), reach
 
     def polygon(self):
-        (a, d), n, turn = self.length(), self.rng.randrange(3, 13), self.rng.choice((Q(0), Q(90), Q(self.rng.randrange(-3600, 3600), 10)))
+        (a, d), n, turn = (
+            self.length(),
+            self.rng.randrange(3, 13),
+            self.rng.choice((Q(0), Q(90), Q(self.rng.randrange(-3600, 3600), 10))),
+        )
         return f"P,{a}X{n}X{float(turn)}", model.regular((0, 0), d, n, turn), d / 2
 
     def flash(self, aperture):
         words, shape, reach = aperture
         spot = self.spot()
         self.define(words)
-        if self.form == "flashes" and self.rng.random() < .5:
+        if self.form == "flashes" and self.rng.random() < 0.5:
             self.go(spot, 3)
             self.put(shape, spot, reach)
             spot = self.spot()
@@ -116,7 +140,9 @@ class File:
             n = rng.randrange(3, 13)
             body, shape = f"5,{on},{n},{c},{d},{a}", model.regular((x, y), w, n, Q(0))
         else:
-            body, shape = f"4,{on},4,0,0,{c},0,{e},{f},0,{d},0,0", model.parity([(0, 0), (x, Q(0)), (x2, y2), (Q(0), y)])
+            body, shape = f"4,{on},4,0,0,{c},0,{e},{f},0,{d},0,0", model.parity(
+                [(0, 0), (x, Q(0)), (x2, y2), (Q(0), y)]
+            )
         return f"{body},{float(turn)}", model.changed(shape, (0, 0), degrees=turn), w + h + x + y + x2 + y2
 
     def macro(self, parts):
@@ -142,7 +168,11 @@ class File:
         if outer == inner or wide * wide * 2 >= outer * outer:
             return self.thermals()
         shape = model.disc((x, y), outer / 2)
-        for off in (model.disc((x, y), inner / 2), model.box((x, y), 2 * outer, wide), model.box((x, y), wide, 2 * outer)):
+        for off in (
+            model.disc((x, y), inner / 2),
+            model.box((x, y), 2 * outer, wide),
+            model.box((x, y), wide, 2 * outer),
+        ):
             shape = model.without(shape, off)
         body = f"7,{c},{d},{a},{b},{gap},{float(turn)}"
         return self.flash(self.macro([(1, body, model.changed(shape, (0, 0), degrees=turn), outer + x + y)]))
@@ -156,19 +186,23 @@ class File:
         self.lines.append("G01*")
         self.go(a, 2)
         self.go(b, 1)
-        self.add(model.capsule(self.fine(a), self.fine(b), r), self.fine(a), r + model.distance(self.fine(a), self.fine(b)))
+        self.add(
+            model.capsule(self.fine(a), self.fine(b), r), self.fine(a), r + model.distance(self.fine(a), self.fine(b))
+        )
 
     def box_and_obround_pens(self):
         (u, w), (v, h), name = self.length(), self.length(), self.rng.choice("RO")
         a, b = self.spot(), self.spot()
-        if self.rng.random() < .3:
-            b = (a[0], b[1]) if self.rng.random() < .5 else (b[0], a[1])
+        if self.rng.random() < 0.3:
+            b = (a[0], b[1]) if self.rng.random() < 0.5 else (b[0], a[1])
         self.define(f"{name},{u}X{v}")
         self.lines.append("G01*")
         self.go(a, 2)
         self.go(b, 1)
         one, two, r = self.fine(a), self.fine(b), min(w, h) / 2
-        shape = model.swept_box(one, two, w, h) if name == "R" else model.swept_capsule(one, two, (w / 2 - r, h / 2 - r), r)
+        shape = (
+            model.swept_box(one, two, w, h) if name == "R" else model.swept_capsule(one, two, (w / 2 - r, h / 2 - r), r)
+        )
         self.add(shape, one, w + h + model.distance(one, two))
 
     def on_circle(self, most):
@@ -185,7 +219,7 @@ class File:
     def drawn_arc(self, a, b, words=None):
         """About a place; a and b are from there."""
         text, pen = self.length() if words is None else words
-        c, way = self.spot(), self.rng.random() < .5
+        c, way = self.spot(), self.rng.random() < 0.5
         a, b = ((c[0] + p[0], c[1] + p[1]) for p in (a, b))
         self.define(f"C,{text}")
         self.go(a if way else b, 2)
@@ -201,7 +235,11 @@ class File:
 
     def small_arcs(self):
         r = max(1, self.rng.randrange(900, 1300) // self.unit)
-        self.drawn_arc((r, 0), (r, 0), (("0.0000002", Q(2 * FINE)) if self.rng.random() < .2 and self.scale == 10 ** 7 else self.length()))
+        self.drawn_arc(
+            (r, 0),
+            (r, 0),
+            (("0.0000002", Q(2 * FINE)) if self.rng.random() < 0.2 and self.scale == 10**7 else self.length()),
+        )
 
     def two_radii(self):
         r, t = self.rng.randrange(10, 1 + 100 * self.size), self.rng.random() * 7
@@ -243,11 +281,14 @@ class File:
     def arcs_in_regions(self, r=None):
         """A disc, a D, or a square with a clearance about a place and a cut to it."""
         r = r or self.rng.randrange(1, self.size + 1) * 65
-        c, kind, way = self.spot(), self.rng.choice(("disc", "segment", "keyhole")), self.rng.random() < .5
+        c, kind, way = self.spot(), self.rng.choice(("disc", "segment", "keyhole")), self.rng.random() < 0.5
         at = lambda x, y: (c[0] + x, c[1] + y)
         a = b = at(r, 0)
         if kind == "segment":
-            a, b = (at(*self.rng.choice(((r, 0), (0, r), (-r, 0), (r * 3 // 5, r * 4 // 5), (r * 5 // 13, -r * 12 // 13)))) for _ in "ab")
+            a, b = (
+                at(*self.rng.choice(((r, 0), (0, r), (-r, 0), (r * 3 // 5, r * 4 // 5), (r * 5 // 13, -r * 12 // 13))))
+                for _ in "ab"
+            )
             kind = "disc" if a == b else kind
         w = 3 * r
         square = [at(-w, -w), at(w, -w), at(w, 0), at(r, 0)]
@@ -260,7 +301,13 @@ class File:
             self.go(a if way else b, 2)
         self.arc(c, a, b, way)
         self.lines.append("G01*")
-        for spot in [at(w, 0), at(w, w), at(-w, w), square[0]] if kind == "keyhole" else [a if way else b] if kind == "segment" else []:
+        for spot in (
+            [at(w, 0), at(w, w), at(-w, w), square[0]]
+            if kind == "keyhole"
+            else [a if way else b]
+            if kind == "segment"
+            else []
+        ):
             self.go(spot, 1)
         self.lines.append("G37*")
         shape = model.bow(self.fine(c), self.fine(a), self.fine(b))
@@ -277,7 +324,7 @@ class File:
         turn, wide = rng.random() * 6.28, math.radians(rng.choice((20, 80, 130, 200, 260, 300, 340, 357)))
         r = rng.randrange(20, 30 + 100 * self.size)
         at = lambda far, angle: (c[0] + round(far * math.cos(angle)), c[1] + round(far * math.sin(angle)))
-        a, b, is_pie = at(r, turn), at(r + rng.choice((-3, -2, -1, 1, 2)), turn + wide), rng.random() < .5
+        a, b, is_pie = at(r, turn), at(r + rng.choice((-3, -2, -1, 1, 2)), turn + wide), rng.random() < 0.5
         fan = [c] if is_pie else [at(3 * r, turn + wide * k / 24) for k in range(24, -1, -1)]
         self.lines += ["G36*", "G01*"]
         self.go(a, 2)
@@ -307,8 +354,14 @@ class File:
     def changing(self):
         """Words, and what they mean to a shape about 0."""
         name = self.rng.choice(list(MIRRORS))
-        turn, size = self.rng.choice((Q(0), Q(90), Q(270), Q(self.rng.randrange(-3600, 3600), 10))), self.rng.choice((Q(1), Q(1), Q(1, 2), Q(13, 10)))
-        return f"%LM{name}*%\n%LR{float(turn)}*%\n%LS{float(size)}*%", {"mirror": MIRRORS[name], "degrees": turn, "size": size}
+        turn, size = self.rng.choice((Q(0), Q(90), Q(270), Q(self.rng.randrange(-3600, 3600), 10))), self.rng.choice(
+            (Q(1), Q(1), Q(1, 2), Q(13, 10))
+        )
+        return f"%LM{name}*%\n%LR{float(turn)}*%\n%LS{float(size)}*%", {
+            "mirror": MIRRORS[name],
+            "degrees": turn,
+            "size": size,
+        }
 
     def changed(self):
         words, how = self.changing()
@@ -328,18 +381,30 @@ class File:
         block = self.number
         self.lines.append(f"%ABD{block}*%")
         for _ in range(self.rng.randrange(1, 3)):
-            self.make(self.rng.choice(("flashes", "draws", "macros", "regions", "holes") + (("clear",) if self.rng.random() < .3 else ())))
+            self.make(
+                self.rng.choice(
+                    ("flashes", "draws", "macros", "regions", "holes") + (("clear",) if self.rng.random() < 0.3 else ())
+                )
+            )
         self.lines.append(f"%AB*%\nD{block}*")
         inner, self.objects = self.objects, outer
-        for dark in (True, self.rng.random() < .7):
-            words, how = self.changing() if self.rng.random() < .5 else ("", {})
+        for dark in (True, self.rng.random() < 0.7):
+            words, how = self.changing() if self.rng.random() < 0.5 else ("", {})
             self.lines.append(words + ("" if dark else "%LPC*%"))
             spot = self.spot()
             self.go(spot, 3)
             self.lines.append("%LPD*%\n%LMN*%\n%LR0*%\n%LS1*%")
             at = self.fine(spot)
             for is_dark, sure, perhaps, middle, reach in inner:
-                self.objects.append((is_dark == dark, model.changed(sure, at, **how), model.changed(perhaps, at, **how), at, 2 * (reach + model.distance(middle, (0, 0)))))
+                self.objects.append(
+                    (
+                        is_dark == dark,
+                        model.changed(sure, at, **how),
+                        model.changed(perhaps, at, **how),
+                        at,
+                        2 * (reach + model.distance(middle, (0, 0))),
+                    )
+                )
 
     def steps(self):
         first, (text_x, x), (text_y, y) = len(self.objects), *(self.whole_length() for _ in "xy")
@@ -353,7 +418,15 @@ class File:
             for j in range(rows):
                 for dark, sure, perhaps, middle, reach in once:
                     by = (i * x, j * y)
-                    self.objects.append((dark, model.changed(sure, by), model.changed(perhaps, by), (middle[0] + by[0], middle[1] + by[1]), reach))
+                    self.objects.append(
+                        (
+                            dark,
+                            model.changed(sure, by),
+                            model.changed(perhaps, by),
+                            (middle[0] + by[0], middle[1] + by[1]),
+                            reach,
+                        )
+                    )
 
     def whole_length(self):
         n = self.rng.randrange(0, 2 * self.size)
@@ -362,7 +435,11 @@ class File:
     # ---- answers
 
     def sure(self):
-        return model.layered([(dark, model.within(sure if dark else perhaps, *reach)) for dark, sure, perhaps, *reach in self.objects])
+        return model.layered(
+            [(dark, model.within(sure if dark else perhaps, *reach)) for dark, sure, perhaps, *reach in self.objects]
+        )
 
     def perhaps(self):
-        return model.layered([(dark, model.within(perhaps if dark else sure, *reach)) for dark, sure, perhaps, *reach in self.objects])
+        return model.layered(
+            [(dark, model.within(perhaps if dark else sure, *reach)) for dark, sure, perhaps, *reach in self.objects]
+        )

@@ -7,10 +7,11 @@ from fractions import Fraction as Q
 from math import isqrt
 
 FINE = 4
-ONE = 1 << 64           # what is multiplied is shifted by 64
+ONE = 1 << 64  # what is multiplied is shifted by 64
 
 
 # ---- intervals
+
 
 def number(q):
     """An interval about a fraction of quarters of a u."""
@@ -69,7 +70,7 @@ def arctangent(n):
     return total
 
 
-PI = 4 * (4 * arctangent(5) - arctangent(239))       # by Machin; at most some hundreds of ONE squared's units off
+PI = 4 * (4 * arctangent(5) - arctangent(239))  # by Machin; at most some hundreds of ONE squared's units off
 
 
 def cosine(degrees):
@@ -92,6 +93,7 @@ def turn_of(degrees):
 
 # ---- shapes: functions of a place of intervals
 
+
 def disc(c, r):
     c, r2 = (number(c[0]), number(c[1])), square(number(r))
     return lambda p: positive(minus(r2, plus(square(minus(p[0], c[0])), square(minus(p[1], c[1])))))
@@ -112,6 +114,7 @@ def both(parts):
                 return False
             answer = answer and said
         return answer
+
     return inside
 
 
@@ -124,6 +127,7 @@ def either(parts):
                 return True
             answer = None if said is None else answer
         return answer
+
     return inside
 
 
@@ -131,7 +135,11 @@ def within(part, middle, reach):
     """A shape that has nothing further than `reach` from a place."""
     reach = int(reach) + 2
     box = [number(int(v) + side * reach)[0] for v in middle for side in (-1, 1)]
-    return lambda p: part(p) if box[0] <= p[0][1] and p[0][0] <= box[1] and box[2] <= p[1][1] and p[1][0] <= box[3] else False
+    return (
+        lambda p: part(p)
+        if box[0] <= p[0][1] and p[0][0] <= box[1] and box[2] <= p[1][1] and p[1][0] <= box[3]
+        else False
+    )
 
 
 def box(c, w, h):
@@ -145,13 +153,23 @@ def beside(a, b, r):
     d = (b[0] - a[0], b[1] - a[1])
     if d == (0, 0):
         return lambda p: False
-    dx, dy, length, reach = number(d[0]), number(d[1]), number(d[0] ** 2 + d[1] ** 2), number(Q(r) ** 2 * (d[0] ** 2 + d[1] ** 2))
+    dx, dy, length, reach = (
+        number(d[0]),
+        number(d[1]),
+        number(d[0] ** 2 + d[1] ** 2),
+        number(Q(r) ** 2 * (d[0] ** 2 + d[1] ** 2)),
+    )
     x, y = number(a[0]), number(a[1])
 
     def inside(p):
         u, v = minus(p[0], x), minus(p[1], y)
         along = plus(times(u, dx), times(v, dy))
-        return every(positive(along), positive(minus(length, along)), positive(minus(reach, square(minus(times(u, dy), times(v, dx))))))
+        return every(
+            positive(along),
+            positive(minus(length, along)),
+            positive(minus(reach, square(minus(times(u, dy), times(v, dx))))),
+        )
+
     return inside
 
 
@@ -161,7 +179,9 @@ def capsule(a, b, r):
 
 def parity(spots):
     """Even-odd of a closed chain, by a ray upwards."""
-    chain = [(half_plane(a, b), number(a[0]), number(b[0])) for a, b in zip(spots, spots[1:] + spots[:1]) if a[0] != b[0]]
+    chain = [
+        (half_plane(a, b), number(a[0]), number(b[0])) for a, b in zip(spots, spots[1:] + spots[:1]) if a[0] != b[0]
+    ]
 
     def inside(p):
         odd = False
@@ -173,16 +193,24 @@ def parity(spots):
                 above = left(p)
                 if above is None:
                     return None
-                odd ^= above != starts          # the edge lies above the place
+                odd ^= above != starts  # the edge lies above the place
         return odd
+
     return inside
 
 
 def regular(c, d, n, degrees):
     """By the middles of its sides."""
-    turns, far = [turn_of(Q(360 * k + 180, n) + degrees) for k in range(n)], times(number(Q(d) / 2), turn_of(Q(180, n))[0])
+    turns, far = [turn_of(Q(360 * k + 180, n) + degrees) for k in range(n)], times(
+        number(Q(d) / 2), turn_of(Q(180, n))[0]
+    )
     at = (number(c[0]), number(c[1]))
-    return both([lambda p, t=t: positive(minus(far, plus(times(minus(p[0], at[0]), t[0]), times(minus(p[1], at[1]), t[1])))) for t in turns])
+    return both(
+        [
+            lambda p, t=t: positive(minus(far, plus(times(minus(p[0], at[0]), t[0]), times(minus(p[1], at[1]), t[1]))))
+            for t in turns
+        ]
+    )
 
 
 def changed(part, at, mirror=(False, False), degrees=Q(0), size=Q(1)):
@@ -194,6 +222,7 @@ def changed(part, at, mirror=(False, False), degrees=Q(0), size=Q(1)):
         u, v = times(minus(p[0], x), less), times(minus(p[1], y), less)
         u, v = minus(times(u, c), times(v, s)), plus(times(u, s), times(v, c))
         return part(((-u[1], -u[0]) if mirror[0] else u, (-v[1], -v[0]) if mirror[1] else v))
+
     return inside
 
 
@@ -203,16 +232,19 @@ def without(part, hole):
 
 def layered(parts):
     """Dark and clear ones in their order."""
+
     def inside(p):
         state = False
         for dark, part in parts:
             said = part(p)
             state = dark if said else state if said is False or state == dark else None
         return state
+
     return inside
 
 
 # ---- arcs: counterclockwise from a to b about c; equal ends are the whole circle
+
 
 def sector(c, a, b):
     if a == b:
@@ -256,9 +288,11 @@ def between(sure, perhaps):
 
 def odd_of(parts):
     """In an odd number of parts."""
+
     def inside(p):
         told = [part(p) for part in parts]
         return None if None in told else sum(told) % 2 == 1
+
     return inside
 
 
@@ -280,6 +314,7 @@ def swept_box(a, b, w, h):
             high = two if two[0] * high[1] < high[0] * two[1] else high
         apart = high[0] * low[1] - low[0] * high[1]
         return None if apart == 0 else apart > 0
+
     return inside
 
 

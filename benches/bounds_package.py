@@ -26,8 +26,11 @@ def layer(rng, edges):
         lines += plane(rng, (20_000_000 + 60_000_000 * (k % 2), 20_000_000 + 60_000_000 * (k // 2)), edges // 4)
     lines.append("D10*")
     for k in range(2500):
-        x, y = rng.randint(0, 10 ** 8), -rng.randint(5_000_000, 55_000_000)
-        lines.append(f"X{x}Y{y}D02*\nG01X{x + 500_000}Y{y}D01*" + (f"\nG03X{x + 600_000}Y{y + 100_000}I0J100000D01*" if k % 3 == 0 else ""))
+        x, y = rng.randint(0, 10**8), -rng.randint(5_000_000, 55_000_000)
+        lines.append(
+            f"X{x}Y{y}D02*\nG01X{x + 500_000}Y{y}D01*"
+            + (f"\nG03X{x + 600_000}Y{y + 100_000}I0J100000D01*" if k % 3 == 0 else "")
+        )
     return [*lines, "D11*", *(f"X{k * 150_000}Y-60000000D03*" for k in range(2_000)), "M02*"]
 
 
@@ -35,7 +38,9 @@ def write(folder, layers, edges):
     rng, names = random.Random(3), [f"l{k}.gbr" for k in range(layers)]
     files = {name: layer(rng, edges // layers) for name in names}
     points = [f"327A                J1    -{k + 1}          A01X+{150 * k:06}Y-060000" for k in range(2)]
-    made_board.put(folder, {**files, "n.ipc": [made_board.NETLIST, *points, "999"], "m.json": [made_board.manifest(names)]})
+    made_board.put(
+        folder, {**files, "n.ipc": [made_board.NETLIST, *points, "999"], "m.json": [made_board.manifest(names)]}
+    )
 
 
 def timed(layers, edges):
@@ -45,5 +50,7 @@ def timed(layers, edges):
         done = runs.run([sys.executable, os.path.join(runs.TOP, "tools", "show"), folder, "-q"])
     sys.stderr.write(done.notes)
     print(done.out.decode().strip().split(": ", 1)[-1])
-    print(f"{layers} layers, {edges} edges: {done.processor:.1f} processor seconds, {done.clock:.0f} by the clock, {done.held >> 20} MB")
+    print(
+        f"{layers} layers, {edges} edges: {done.processor:.1f} processor seconds, {done.clock:.0f} by the clock, {done.held >> 20} MB"
+    )
     return done.status

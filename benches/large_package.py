@@ -10,9 +10,9 @@ import random
 
 import made_board
 
-PITCH, NEAR = 2_400_000, 800_000    # of vias, and of a second one below
-RING, CLEAR = 500_000, 525_000      # a via's pad, and a clearance's radius
-BAND = 100_000                      # of edges at about one height
+PITCH, NEAR = 2_400_000, 800_000  # of vias, and of a second one below
+RING, CLEAR = 500_000, 525_000  # a via's pad, and a clearance's radius
+BAND = 100_000  # of edges at about one height
 ROUNDED = """%AMRoundRect*
 0 Rectangle with rounded corners*
 0 $1 Rounding radius*
@@ -28,8 +28,10 @@ ROUNDED = """%AMRoundRect*
 20,1,$1+$1,$2,$3,$4,$5,0*
 20,1,$1+$1,$4,$5,$6,$7,0*
 20,1,$1+$1,$6,$7,$8,$9,0*
-20,1,$1+$1,$8,$9,$2,$3,0*%""".split("\n")
-CORNER = 0.09       # of a pad of 0.5 mm by 0.4 mm, in millimetres
+20,1,$1+$1,$8,$9,$2,$3,0*%""".split(
+    "\n"
+)
+CORNER = 0.09  # of a pad of 0.5 mm by 0.4 mm, in millimetres
 Via = collections.namedtuple("Via", "x y net")
 
 
@@ -47,7 +49,7 @@ def clearance(vias, steps):
         return around(x, y, steps, 1, 0)[:-1]
     below = vias[1].y
     part = math.acos((y - below) / 2 / CLEAR) / 2 / math.pi
-    return around(x, y, steps, .75 - part, part - .25)[:-1] + around(x, below, steps, .25 - part, part - .75)[:-1]
+    return around(x, y, steps, 0.75 - part, part - 0.25)[:-1] + around(x, below, steps, 0.25 - part, part - 0.75)[:-1]
 
 
 class Plane:
@@ -107,21 +109,21 @@ class Board:
         self.columns, self.rows, self.layers, self.parts = columns, rows, layers, parts
         self.chance = random.Random(seed)
         self.planes = layers // 2
-        self.places, self.nets = [], []             # the vias of each place; of a net its two vias and its layer
+        self.places, self.nets = [], []  # the vias of each place; of a net its two vias and its layer
         for k in range(columns * rows // 2):
             column, row = 2 * k % columns, 2 * k // columns
-            is_of_plane, steps = self.chance.random() < .15, self.chance.randrange(-100_000, 100_000, 1_000)
+            is_of_plane, steps = self.chance.random() < 0.15, self.chance.randrange(-100_000, 100_000, 1_000)
             pair = []
             for beside in (0, 1):
                 x, y = (column + beside + 1) * PITCH + steps, (row + 1) * PITCH + (100_000 if beside else -100_000)
                 pair.append(Via(x, y, f"P{self.chance.randrange(self.planes)}" if is_of_plane else f"N{k}"))
                 second = Via(x, y - NEAR, f"P{self.chance.randrange(self.planes)}")
-                self.places.append([pair[-1], second] if self.chance.random() < .12 else [pair[-1]])
+                self.places.append([pair[-1], second] if self.chance.random() < 0.12 else [pair[-1]])
             self.nets += [] if is_of_plane else [(*pair, 2 * self.chance.randrange((layers + 1) // 2))]
 
     def pads(self):
         """Of each part two pads above their vias: place and net."""
-        return [Via(vias[0].x, vias[0].y + 700_000, vias[0].net) for vias in self.places[:2 * self.parts]]
+        return [Via(vias[0].x, vias[0].y + 700_000, vias[0].net) for vias in self.places[: 2 * self.parts]]
 
     def plane(self, number):
         """The contour of a plane; its clearances have 28 edges and more, and each plane others."""
@@ -135,11 +137,16 @@ class Board:
     def track(self, one, other):
         """To the right, by an arc upwards, and to the right."""
         x, r = one.x + 1_000_000, 150_000
-        return [f"X{one.x}Y{one.y}D02*", f"G01X{x}Y{one.y}D01*", f"G03X{x + r}Y{one.y + r}I0J{r}D01*",
-                f"G01X{x + r}Y{other.y}D01*", f"X{other.x}Y{other.y}D01*"]
+        return [
+            f"X{one.x}Y{one.y}D02*",
+            f"G01X{x}Y{one.y}D01*",
+            f"G03X{x + r}Y{one.y + r}I0J{r}D01*",
+            f"G01X{x + r}Y{other.y}D01*",
+            f"X{other.x}Y{other.y}D01*",
+        ]
 
     def copper(self, layer):
-        x, y, turn = .25 - CORNER, .2 - CORNER, math.sqrt(.5)
+        x, y, turn = 0.25 - CORNER, 0.2 - CORNER, math.sqrt(0.5)
         corners = [((a - b) * turn, (a + b) * turn) for a, b in ((-x, -y), (x, -y), (x, y), (-x, y))]
         pad = "X".join(f"{v:.6f}" for v in (CORNER, *(v for corner in corners for v in corner)))
         lines = [*made_board.COPPER, "G75*", "G01*", f"%ADD10C,{RING / 1e6}*%", "%ADD11C,0.15*%", "%LPD*%"]

@@ -6,9 +6,9 @@ cells are broken (no track: an open) and some are bridged to the next one (a tra
 import json
 import os
 
-COPPER = "%FSLAX46Y46*%", "%MOMM*%"      # a copper file's beginning, in nanometres
+COPPER = "%FSLAX46Y46*%", "%MOMM*%"  # a copper file's beginning, in nanometres
 NETLIST = "P  UNITS CUST 1"
-COLUMNS, PITCH = 100, 2_500             # as the command `trial` has them, whose files have one decimal
+COLUMNS, PITCH = 100, 2_500  # as the command `trial` has them, whose files have one decimal
 
 
 def record(code, name, access, x, y):
@@ -61,8 +61,12 @@ class Cells:
         """What the files begin with."""
         disc, square, line, hole = map(self.millimetres, (self.disc, self.square, self.line, self.hole))
         round_one, narrow = f"%ADD10C,{disc}*%", f"%ADD12C,{line}*%"
-        return {"top.gbr": [*COPPER, round_one, f"%ADD11R,{square}X{square}*%", narrow], "bot.gbr": [*COPPER, round_one, narrow],
-                "pth.drl": ["M48", "METRIC", f"T1C{hole}", "%", "T1"], "n.ipc": [NETLIST]}
+        return {
+            "top.gbr": [*COPPER, round_one, f"%ADD11R,{square}X{square}*%", narrow],
+            "bot.gbr": [*COPPER, round_one, narrow],
+            "pth.drl": ["M48", "METRIC", f"T1C{hole}", "%", "T1"],
+            "n.ipc": [NETLIST],
+        }
 
     def cell(self, i, x, y, is_whole):
         self.flash("top.gbr", "top", 10, "disc", self.disc, x, y)

@@ -7,10 +7,25 @@ import tempfile
 import made_board
 import runs
 
-ROWS, VOID, STEP = 100, 350_000, 1_000_000          # rows, and holes of a row; nanometres
+ROWS, VOID, STEP = 100, 350_000, 1_000_000  # rows, and holes of a row; nanometres
 SIDE = (ROWS + 1) * STEP
-NOISY, DRAWS = 1_902, 2_000                         # corners of the uneven side, and draws of a layer
-AROUND = [(-14, 0), (-13, 5), (-10, 10), (-5, 13), (0, 14), (5, 13), (10, 10), (13, 5), (14, 0), (10, -10), (5, -13), (0, -14), (-5, -13), (-13, -5)]
+NOISY, DRAWS = 1_902, 2_000  # corners of the uneven side, and draws of a layer
+AROUND = [
+    (-14, 0),
+    (-13, 5),
+    (-10, 10),
+    (-5, 13),
+    (0, 14),
+    (5, 13),
+    (10, 10),
+    (13, 5),
+    (14, 0),
+    (10, -10),
+    (5, -13),
+    (0, -14),
+    (-5, -13),
+    (-13, -5),
+]
 HEAD = [*made_board.COPPER, "%ADD10C,0.3*%", "%ADD11C,0.1*%", "%LPD*%", "G01*"]
 TOOLS = os.path.join(runs.TOP, "tools")
 
@@ -43,9 +58,19 @@ def write(folder, layers):
     names = [f"l{k}.gbr" for k in range(layers)]
     made = [layer(rng) for _ in names]
     holes = [f"X{x}.0Y{y}.0" for y in range(1, ROWS + 1) for x in range(1, ROWS + 1)]
-    points = [f"317N{k:<5}           J{k:<5}-1    D0080PA00X+{k % ROWS * 1000 + 1000:06}Y+{k // ROWS * 1000 + 1000:06}X0120Y0000" for k in range(ROWS * ROWS)]
-    made_board.put(folder, {**{name: lines for name, (lines, _) in zip(names, made)}, "pth.drl": ["M48", "METRIC", "T1C0.2", "%", "T1", *holes, "M30"],
-                            "n.ipc": [made_board.NETLIST, *points, "999"], "m.json": [made_board.manifest(names, "pth.drl")]})
+    points = [
+        f"317N{k:<5}           J{k:<5}-1    D0080PA00X+{k % ROWS * 1000 + 1000:06}Y+{k // ROWS * 1000 + 1000:06}X0120Y0000"
+        for k in range(ROWS * ROWS)
+    ]
+    made_board.put(
+        folder,
+        {
+            **{name: lines for name, (lines, _) in zip(names, made)},
+            "pth.drl": ["M48", "METRIC", "T1C0.2", "%", "T1", *holes, "M30"],
+            "n.ipc": [made_board.NETLIST, *points, "999"],
+            "m.json": [made_board.manifest(names, "pth.drl")],
+        },
+    )
     return made[-1][1]
 
 
@@ -57,9 +82,15 @@ def timed(layers):
         edges = write(folder, layers)
         files = [os.path.join(folder, f"l{k}.gbr") for k in range(layers)]
         done = runs.run([sys.executable, "-c", MENDS, TOOLS, *files])
-        print(f"{layers} planes of {edges:,} edges, mends alone: {done.processor:.1f} processor s, {done.held >> 20} MB", flush=True)
+        print(
+            f"{layers} planes of {edges:,} edges, mends alone: {done.processor:.1f} processor s, {done.held >> 20} MB",
+            flush=True,
+        )
         for words in ([], ["--page", os.path.join(folder, "page.html")]):
             done = runs.run([sys.executable, os.path.join(TOOLS, "show"), folder, "-q", *words])
             sys.stderr.write(done.notes)
             print(done.out.decode().split("\n")[0].split(": ", 1)[-1])
-            print(f"show{' with a page' if words else ''}: {done.processor:.1f} processor s, {done.clock:.1f} by the clock, {done.held >> 20} MB in the process that had most", flush=True)
+            print(
+                f"show{' with a page' if words else ''}: {done.processor:.1f} processor s, {done.clock:.1f} by the clock, {done.held >> 20} MB in the process that had most",
+                flush=True,
+            )

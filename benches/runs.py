@@ -23,7 +23,9 @@ Run = collections.namedtuple("Run", "status clock processor held out notes")
 
 def run(words, folder=None, out=subprocess.PIPE):
     """What a command takes that runs in a folder. Its output is taken, or goes to a file."""
-    done = subprocess.run([sys.executable, "-ISc", MEASURE, *words], cwd=folder, stdout=out, stderr=subprocess.PIPE, check=False)
+    done = subprocess.run(
+        [sys.executable, "-ISc", MEASURE, *words], cwd=folder, stdout=out, stderr=subprocess.PIPE, check=False
+    )
     notes, _, told = done.stderr.decode("utf-8", "replace").rstrip("\n").rpartition("\n")
     if done.returncode:
         sys.exit(f"{' '.join(words)}: {told}")

@@ -31,9 +31,10 @@ def loaded(module):
     """The function `main` of a module; what Python compiles is kept, where the launcher lies beside."""
     try:
         from launch import compiled
+
         compiled.keep()
     except Exception:
-        pass        # what is installed has its modules compiled
+        pass  # what is installed has its modules compiled
     return __import__(module, None, None, ["main"]).main
 
 

@@ -22,6 +22,7 @@ NUMBER = re.compile(r"-?[\d.]+(?:e-?\d+)?")
 
 class Shape(NamedTuple):
     """A path of corners with a round pen, or a filled polygon; in millimetres."""
+
     is_dark: bool
     is_filled: bool
     corners: List[SPOT]

@@ -21,12 +21,14 @@ CLOSE, BETWEEN, UNSEEN = "near a border", "between bounds", "not in view"
 
 class Asked(NamedTuple):
     """What is asked of each file: places of each sort, and a seed."""
+
     places: int = 2_000
     seed: int = 1
 
 
 class Differing(NamedTuple):
     """A place in whole micrometres, boardnet's state and the reader's."""
+
     place: Place
     ours: int
     other: int
@@ -34,6 +36,7 @@ class Differing(NamedTuple):
 
 class Row(NamedTuple):
     """What came of a file."""
+
     file: str
     kind: str
     how: str
@@ -86,7 +89,7 @@ class Work:
         kept = [k for k, place in enumerate(looked.borders) if max(map(abs, place)) <= FARTHEST]
         states = looked.told.states
         if states is not None:
-            states = states[:len(self.places)] + [states[len(self.places) + k] for k in kept]
+            states = states[: len(self.places)] + [states[len(self.places) + k] for k in kept]
         self.places += [looked.borders[k] for k in kept]
         return looked._replace(told=Told(states, looked.told.said))
 
@@ -162,9 +165,20 @@ def finished(work: Work, readers: list, looked: Optional[Looked]) -> Row:
             counts[reader.name], found = judged(work, told[reader.name])
             found = settled(reader, file, counts[reader.name], found)
             differ.update({reader.name: found} if found else {})
-    return Row(file.name, file.kind, work.reading.how, work.reading.why, work.pieces, len(work.places), counts, differ,
-              alone(work, read, differ), looked.left if looked else [],
-              {name: it.said for name, it in told.items() if it.said}, [name for name in told if name not in read])
+    return Row(
+        file.name,
+        file.kind,
+        work.reading.how,
+        work.reading.why,
+        work.pieces,
+        len(work.places),
+        counts,
+        differ,
+        alone(work, read, differ),
+        looked.left if looked else [],
+        {name: it.said for name, it in told.items() if it.said},
+        [name for name in told if name not in read],
+    )
 
 
 def compared(files: List[File], ours: Ours, readers: list, asked: Asked) -> List[Row]:

@@ -19,6 +19,7 @@ IDLE = re.compile(r"\*\* \(process:\d+\): |\d\d:\d\d:\d\d\.\d+: |in file .*| at 
 
 class View(NamedTuple):
     """The lower left corner, micrometres a pixel, and the pixels along x and y."""
+
     left: int
     low: int
     pitch: int
@@ -40,7 +41,7 @@ def view_of(places: List[Tuple[int, int]], pitch: int = 0) -> View:
 
 def inches(value: int, per: int = INCH, digits: int = 6) -> str:
     """A length as a decimal of inches, of which one has so many, rounded down; gerbv takes no more digits."""
-    told = abs(value) * 10 ** digits // per
+    told = abs(value) * 10**digits // per
     return f"{'-' if value < 0 else ''}{told // 10 ** digits}.{told % 10 ** digits:0{digits}d}"
 
 
@@ -48,8 +49,21 @@ def words_of(view: View, out: str, path: str) -> List[str]:
     # A fifth of a pixel more, so that the count of pixels is not one less by rounding.
     size = "x".join(inches((5 * n + 1) * view.pitch, 5 * INCH) for n in (view.wide, view.high))
     colours = ["-B", "0", "-b", "#000000", "-f", "#FFFFFFFF"]
-    return ["gerbv", "-x", "png", "-D", inches(INCH * INCH // view.pitch), *colours,
-            "-O", f"{inches(view.left)};{inches(view.low)}", "-W", size, "-o", out, path]
+    return [
+        "gerbv",
+        "-x",
+        "png",
+        "-D",
+        inches(INCH * INCH // view.pitch),
+        *colours,
+        "-O",
+        f"{inches(view.left)};{inches(view.low)}",
+        "-W",
+        size,
+        "-o",
+        out,
+        path,
+    ]
 
 
 class Gerbv:

@@ -22,6 +22,7 @@ OFFSET = re.compile(rb"I([+-]?\d+)(?:J([+-]?\d+))?|J([+-]?\d+)")
 
 class Left(NamedTuple):
     """What one of two files has alone, but for the tolerance: parts, square nanometres, and boxes of some."""
+
     parts: int
     area: int
     boxes: List[List[int]]
@@ -29,6 +30,7 @@ class Left(NamedTuple):
 
 class Looked(NamedTuple):
     """States of places and messages; places near KLayout's borders; what is left of the pairs."""
+
     told: Told
     borders: List[Tuple[int, int]]
     left: List[Left]
@@ -36,6 +38,7 @@ class Looked(NamedTuple):
 
 class Task(NamedTuple):
     """What is asked of files of a kind; states and borders are of the first, whose tolerance counts, times `wider`."""
+
     files: Dict[str, bytes]
     kind: str
     places: List[Tuple[int, int]]
@@ -52,8 +55,17 @@ class Task(NamedTuple):
         os.mkdir(folder)
         files = {name: put(folder, name + end, text) for name, text in self.files.items()}
         circle, borders = CIRCLE if len(data) < LARGE else COARSE, min(self.borders, MOST_BORDERS)
-        return {"files": files, "of": of, "circle": circle, "tolerance": least, "places": self.places,
-                "pairs": self.pairs, "borders": borders, "steps": steps, "seed": self.seed}
+        return {
+            "files": files,
+            "of": of,
+            "circle": circle,
+            "tolerance": least,
+            "places": self.places,
+            "pairs": self.pairs,
+            "borders": borders,
+            "steps": steps,
+            "seed": self.seed,
+        }
 
 
 def tolerance(data: bytes) -> int:

@@ -56,7 +56,7 @@ def states(region, places, tolerance):
 
 def near(region, count, steps, seed):
     """Places beside edges, in whole micrometres: of edges one by one and of all length alike."""
-    every = region.edges()      # held while it is walked
+    every = region.edges()  # held while it is walked
     rng, edges, out = random.Random(seed), [edge for edge in every.each() if edge.length()], []
     long = rng.choices(edges, [edge.length() for edge in edges], k=count // 2) if edges else []
     for edge in long + [rng.choice(edges) for _ in long]:
@@ -94,7 +94,7 @@ def answer(task):
     return told
 
 
-with open(tasks) as file:      # noqa: F821, klayout gives it by -rd
+with open(tasks) as file:  # noqa: F821, klayout gives it by -rd
     told = [answer(task) for task in json.load(file)]
-with open(answers, "w") as file:      # noqa: F821, the same
+with open(answers, "w") as file:  # noqa: F821, the same
     json.dump(told, file)

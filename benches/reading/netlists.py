@@ -20,6 +20,7 @@ PAD = re.compile(r"%TO\.P,([^*%]*)\*%|%TD[^*%]*\*%|%TO\.N,([^*%]*)\*%|(D03)\*")
 
 class Record(NamedTuple):
     """Columns of a test record: net, component and pin, access, and place in u."""
+
     net: str
     pin: str
     access: int

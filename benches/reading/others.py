@@ -18,6 +18,7 @@ States = Optional[List[Optional[int]]]
 
 class Told(NamedTuple):
     """What a reader says: of each place a state, or None where it did not read the file; and its messages."""
+
     states: States
     said: str
 

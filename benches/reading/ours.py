@@ -25,6 +25,7 @@ Bounds = List[Tuple[int, int]]
 
 class Answer(NamedTuple):
     """A command's status, text and line; LATE where it took too long."""
+
     status: int
     out: bytes
     line: str
@@ -35,6 +36,7 @@ LATE = Answer(-1, b"", "too long")
 
 class Reading(NamedTuple):
     """How boardnet takes a file, a word of HOWS; the kind of what `check` refuses; what it takes below and above."""
+
     how: str
     why: str
     below: bytes = b""
@@ -142,7 +144,7 @@ class Ours:
     def states_of(self, data: bytes, kind: str, places: List[Place]) -> List[int]:
         found: List[int] = []
         for first in range(0, len(places), MOST_POINTS):
-            some = places[first:first + MOST_POINTS]
+            some = places[first : first + MOST_POINTS]
             answer = self.check(data, kind, some)
             told = POINT.findall(answer.out)
             if len(told) != len(some):
@@ -155,7 +157,6 @@ class Ours:
         below = self.states_of(reading.below, kind, places)
         is_one = reading.above is reading.below
         return list(zip(below, below if is_one else self.states_of(reading.above, kind, places)))
-
 
     def bounds_at(self, data: bytes, kind: str, place: Place, is_exact: bool) -> Optional[Tuple[int, int]]:
         """What a file has at one place, or None where it is refused; of an exact one by one command."""

@@ -8,6 +8,7 @@ import sys
 
 def main(path: str, reach: int) -> None:
     from PIL import Image
+
     Image.MAX_IMAGE_PIXELS = None
     picture = Image.open(path).convert("L")
     width, height = picture.size

@@ -23,6 +23,7 @@ DEFINED, CHOSEN = re.compile(r"T0*(\d+)[^\n;]*?C([\d.]+)"), re.compile(r"T0*(\d+
 
 class Piece(NamedTuple):
     """A capsule of one or two ends, or an area with the radius AREA; in u."""
+
     radius: int
     corners: List[Spot]
 
@@ -93,7 +94,7 @@ def beside(rng: random.Random, piece: Piece) -> Spot:
     step = rng.choice(STEPS) * rng.choice((-1, 1)) * U
     a, b = rng.choice(piece.edges) if piece.radius == AREA else (piece.corners[0], piece.corners[-1])
     far, length = step if piece.radius == AREA else piece.radius + step, distance(a, b)
-    if length and (piece.radius == AREA or rng.random() < .5):
+    if length and (piece.radius == AREA or rng.random() < 0.5):
         far, along = far * rng.choice((-1, 1)), rng.choice((0, rng.randrange(1001)))
         dx, dy = b[0] - a[0], b[1] - a[1]
         x, y = a[0] + along * dx // 1000, a[1] + along * dy // 1000
@@ -101,7 +102,7 @@ def beside(rng: random.Random, piece: Piece) -> Spot:
     x, y = rng.randint(-999, 999), rng.randint(1, 999) * rng.choice((-1, 1))
     end, other = rng.choice(((a, b), (b, a)))
     if x * (end[0] - other[0]) + y * (end[1] - other[1]) < 0:
-        x, y = -x, -y       # off the end, and not along the piece
+        x, y = -x, -y  # off the end, and not along the piece
     length = isqrt((x * x + y * y) * FINE * FINE)
     return micrometres(end[0] + x * far * FINE // length, end[1] + y * far * FINE // length)
 

@@ -37,4 +37,7 @@ def ends_of_obrounds(data: bytes, kind: str) -> bytes:
 
 
 PLANTS: Dict[str, Callable[[bytes, str], bytes]] = {
-    "radius": radius_for_diameter, "turn": other_way, "obround": ends_of_obrounds}
+    "radius": radius_for_diameter,
+    "turn": other_way,
+    "obround": ends_of_obrounds,
+}

@@ -4,10 +4,30 @@ from typing import List, Sequence, Tuple
 
 # Forms: those of `check`; pads by macros; clear polarity, arcs, holes and polygons; changed objects too; drills.
 FORMS = ("plain", "macros", "clear", "changed", "drill")
-SPAN, INCH_TENTHS = 12, 254       # Half the board's side in millimetres; tenths of a millimetre in an inch.
+SPAN, INCH_TENTHS = 12, 254  # Half the board's side in millimetres; tenths of a millimetre in an inch.
 # Directions about a middle, in the order of their turns: contours about them do not cross themselves.
-ROUND = ((5, 0), (4, 2), (4, 3), (3, 4), (1, 5), (0, 5), (-2, 4), (-3, 4), (-4, 3), (-5, 1),
-         (-5, 0), (-4, -2), (-4, -3), (-3, -4), (-1, -5), (0, -5), (2, -4), (3, -4), (4, -3), (5, -1))
+ROUND = (
+    (5, 0),
+    (4, 2),
+    (4, 3),
+    (3, 4),
+    (1, 5),
+    (0, 5),
+    (-2, 4),
+    (-3, 4),
+    (-4, 3),
+    (-5, 1),
+    (-5, 0),
+    (-4, -2),
+    (-4, -3),
+    (-3, -4),
+    (-1, -5),
+    (0, -5),
+    (2, -4),
+    (3, -4),
+    (4, -3),
+    (5, -1),
+)
 # The corners of a square with a hole, by a cut to it: in turn in its halves and those of its hole.
 CUT_IN = ("-a-a", "+a-a", "+a+a", "-a+a", "-a0", "-b0", "-b+b", "+b+b", "+b-b", "-b-b", "-b0", "-a0")
 IDLE = ("G04 a comment X1Y1D03*", "*", "%TA.AperFunction,Conductor*%", "%TD*%", "%LNabc*%")
@@ -26,7 +46,7 @@ class Random:
 
     def length(self, micrometres: int) -> int:
         """Micrometres in the file's last place."""
-        return micrometres * 10 ** self.digits // (100 * INCH_TENTHS if self.is_inch else 1_000)
+        return micrometres * 10**self.digits // (100 * INCH_TENTHS if self.is_inch else 1_000)
 
     def size(self, least: int = 300, most: int = 3_000) -> int:
         """A size, of four decimals at most, which is even in u."""
@@ -35,9 +55,9 @@ class Random:
 
     def decimal(self, value: int) -> str:
         """A length as a decimal, with or without its last zeros."""
-        whole, rest = divmod(abs(value), 10 ** self.digits)
+        whole, rest = divmod(abs(value), 10**self.digits)
         text = f"{'-' if value < 0 else ''}{whole}.{rest:0{self.digits}d}"
-        return text.rstrip("0").rstrip(".") if self.rng.random() < .5 else text
+        return text.rstrip("0").rstrip(".") if self.rng.random() < 0.5 else text
 
     def chance(self, percent: int) -> bool:
         return self.rng.randrange(100) < percent

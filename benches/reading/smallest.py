@@ -21,7 +21,7 @@ def smallest(parts: List[bytes], holds: Callable[[List[bytes]], bool], most: int
     while True:
         at, went = 0, False
         while at < len(parts) and most > 0:
-            fewer, most = parts[:at] + parts[at + size:], most - 1
+            fewer, most = parts[:at] + parts[at + size :], most - 1
             if fewer and holds(fewer):
                 parts, went = fewer, True
             else:

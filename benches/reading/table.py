@@ -11,6 +11,7 @@ SIGNS = {COPPER: "1", BARE: "0", NEAR: "b", None: "-"}
 
 class Cell(NamedTuple):
     """What another reader reads: its states, nothing where it reads no such file; and what it said."""
+
     reader: str
     states: Optional[str]
     said: str
@@ -18,6 +19,7 @@ class Cell(NamedTuple):
 
 class Row(NamedTuple):
     """A rule, how boardnet takes it, and what the others read."""
+
     rule: Rule
     ours: str
     others: List[Cell]
@@ -37,7 +39,6 @@ class Row(NamedTuple):
         both = zip(self.rule.says, self.states or self.rule.says)
         meant = "".join(ours if says == "?" else says for says, ours in both)
         return [cell.reader for cell in self.others if is_otherwise(meant, cell.states)]
-
 
     @property
     def is_alone(self) -> bool:

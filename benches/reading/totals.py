@@ -4,7 +4,7 @@ from typing import Iterator, List
 
 from .compare import BETWEEN, CLOSE, DIFFER, SAME_IN, SAME_OUT, SETTLED, UNSEEN, Row
 
-SQUARE_MILLIMETRE = 10 ** 12
+SQUARE_MILLIMETRE = 10**12
 MOST_SHOWN = 600
 
 
@@ -18,8 +18,11 @@ def line_of(row: Row) -> str:
     for name, (it, *_) in row.differ.items():
         count = f"{row.counts[name][DIFFER]} of {row.places} places"
         told.append(f"{name} differs at {count}, as {it.place} um: boardnet {it.ours}, it {it.other}")
-    told += [f"KLayout has {it.parts} parts otherwise, {it.area / SQUARE_MILLIMETRE:.6f} mm2, as at {it.boxes[0]} nm"
-             for it in row.left if it.parts]
+    told += [
+        f"KLayout has {it.parts} parts otherwise, {it.area / SQUARE_MILLIMETRE:.6f} mm2, as at {it.boxes[0]} nm"
+        for it in row.left
+        if it.parts
+    ]
     told += [f"ALL READERS DIFFER at {len(row.alone)} places"] if row.alone else []
     told += [f"not read by {name}: {row.said.get(name, '')[:100]}" for name in row.unread]
     told += [f"FAULT {row.fault}"] if row.fault else []

@@ -52,7 +52,10 @@ class Claims(unittest.TestCase):
         self.assertTrue(named and named <= told, named - told)
 
     def test_edits(self):
-        edits = {os.path.basename(path)[:-len(".edit")] for path in glob.glob(os.path.join(common.TOP, "crates", "*", "must-fail", "*.edit"))}
+        edits = {
+            os.path.basename(path)[: -len(".edit")]
+            for path in glob.glob(os.path.join(common.TOP, "crates", "*", "must-fail", "*.edit"))
+        }
         for cells in rows("Clause") + rows("Law"):
             named = {name for name in NAME.findall(cells[-1]) if "_" in name}
             self.assertTrue(named <= edits, named - edits)
@@ -66,4 +69,6 @@ class Claims(unittest.TestCase):
         for path in sorted(glob.glob(os.path.join(common.TOP, "crates", "*", "src", "laws.rt"))):
             crate = os.path.relpath(path, os.path.join(common.TOP, "crates")).split(os.sep)[0]
             for law in re.findall(r"(?m)^pub fn (\w+)", laws_of(crate)):
-                self.assertTrue((crate, law) in told or re.search(rf"\b{law}\b", read("crates", crate, "README.md")), (crate, law))
+                self.assertTrue(
+                    (crate, law) in told or re.search(rf"\b{law}\b", read("crates", crate, "README.md")), (crate, law)
+                )

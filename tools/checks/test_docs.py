@@ -9,7 +9,15 @@ import unittest
 
 from tests.fixtures import common
 
-ALL = ("README.md", "CONTRIBUTING.md", "CHANGELOG.md", "docs/*.md", "docs/using/*.md", "crates/*/README.md", "tools/README.md")
+ALL = (
+    "README.md",
+    "CONTRIBUTING.md",
+    "CHANGELOG.md",
+    "docs/*.md",
+    "docs/using/*.md",
+    "crates/*/README.md",
+    "tools/README.md",
+)
 # Pages for readers who do not prove, of which no sentence is over so many words.
 PLAIN = ("README.md", "CONTRIBUTING.md", "tools/README.md", "docs/USING.md", "docs/using/*.md")
 MOST_WORDS, MOST_BYTES, MOST_BYTES_OF_A_PAGE = 30, 215_000, 12_000
@@ -111,14 +119,18 @@ class Docs(common.Case):
         for name in pages(ALL):
             for target in re.findall(r"\]\(([^)#\s]+)(?:#[^)]*)?\)", read(name)):
                 if "://" not in target:
-                    self.assertTrue(os.path.exists(os.path.join(common.TOP, os.path.dirname(name), target)), f"{name}: {target}")
+                    self.assertTrue(
+                        os.path.exists(os.path.join(common.TOP, os.path.dirname(name), target)), f"{name}: {target}"
+                    )
 
     def test_files(self):
         paths = [f"{path}/" for path in all_files()]
         for name in pages(ALL):
             for code in INLINE.findall(read(name)):
                 if FILE.fullmatch(code) and "NAME" not in code:
-                    self.assertTrue(any(f"/{code}/" in path or f"/{code}." in path for path in paths), f"{name}: {code}")
+                    self.assertTrue(
+                        any(f"/{code}/" in path or f"/{code}." in path for path in paths), f"{name}: {code}"
+                    )
 
     def test_release(self):
         release = read("tools/release").strip()
@@ -148,7 +160,7 @@ class Lines(common.Case):
     def put_command(self, program):
         """A `boardnet` as an installed one is: the front over the program that is there."""
         front = f"home={shlex.quote(common.TOOLS)} program={shlex.quote(program)}\nversion() {{ :; }}\nready() {{ :; }}\nexport BOARDNET={shlex.quote(program)}\n"
-        text = f"#!/bin/sh\n{front}. \"$home/launch/front.sh\"\nfront \"$@\"\n"
+        text = f'#!/bin/sh\n{front}. "$home/launch/front.sh"\nfront "$@"\n'
         return self.write("bin/boardnet", text, 0o755)
 
     def test_known(self):
@@ -189,7 +201,9 @@ class Lines(common.Case):
     def test_toolchain_has_its_commands(self):
         if not shutil.which("rt"):
             raise unittest.SkipTest("there is no rt")
-        said = subprocess.run(["rt", "--help"], stdout=subprocess.PIPE, stderr=subprocess.STDOUT, check=False).stdout.decode()
+        said = subprocess.run(
+            ["rt", "--help"], stdout=subprocess.PIPE, stderr=subprocess.STDOUT, check=False
+        ).stdout.decode()
         for name in pages(["CONTRIBUTING.md"]):
             for line in re.findall(r"\brt ([a-z-]+)", read(name)):
                 self.assertRegex(said, rf"\b{line}\b")

@@ -91,7 +91,9 @@ class Guide(common.Case):
             _, _, notes = self.run_words([program, *words_for(head, files)], self.path(folder))
             with self.subTest(head=head):
                 if kind_of(head):
-                    self.assertRegex(notes, rf"boardnet: {re.escape(head)} at (?:command \d+, byte|line) \d+(?:, byte \d+)?\n")
+                    self.assertRegex(
+                        notes, rf"boardnet: {re.escape(head)} at (?:command \d+, byte|line) \d+(?:, byte \d+)?\n"
+                    )
                 else:
                     self.assertEqual(notes, f"boardnet: {next(it for it in printed() if it.startswith(head))}\n")
 

@@ -22,7 +22,9 @@ class House(unittest.TestCase):
     def test_all_are_in_it(self):
         text = (house.TOP / house.PICTURE).read_text()
         told = [it.text for it in xml.etree.ElementTree.fromstring(text).iter("{http://www.w3.org/2000/svg}text")]
-        below, names = house.crates((house.TOP / "crates.txt").read_text()), house.rooms((TOOLS / "README.md").read_text())
+        below, names = house.crates((house.TOP / "crates.txt").read_text()), house.rooms(
+            (TOOLS / "README.md").read_text()
+        )
         self.assertGreater((len(below), len(names)), (40, 15))
         for name in [*below, *names]:
             self.assertEqual(told.count(name), 1, name)

@@ -10,18 +10,55 @@ from tests.fixtures import common
 PACKAGE = "boardnet_show"
 HOME = os.path.join(common.TOOLS, PACKAGE)
 # The rooms, the lowest first; tools/README.md has the same table.
-ROOMS = ("base", "geometry", "formats", "formats.drills", "intake.mends", "intake.evidence", "intake", "bounds.polarity", "bounds.primitives", "bounds.apertures",
-         "bounds.files", "judging", "findings", "fitting", "netlists", "output.sentences", "extras.as_made", "extras", "output", "command")
+ROOMS = (
+    "base",
+    "geometry",
+    "formats",
+    "formats.drills",
+    "intake.mends",
+    "intake.evidence",
+    "intake",
+    "bounds.polarity",
+    "bounds.primitives",
+    "bounds.apertures",
+    "bounds.files",
+    "judging",
+    "findings",
+    "fitting",
+    "netlists",
+    "output.sentences",
+    "extras.as_made",
+    "extras",
+    "output",
+    "command",
+)
 MOST_MODULES = 14
 # Names that say nothing to who does not know them.
-FORBIDDEN = {"beside", "aims", "bundles", "strands", "runs", "swaps", "seldom", "unlike", "side", "joint", "told", "rounds", "implied", "spots"}
+FORBIDDEN = {
+    "beside",
+    "aims",
+    "bundles",
+    "strands",
+    "runs",
+    "swaps",
+    "seldom",
+    "unlike",
+    "side",
+    "joint",
+    "told",
+    "rounds",
+    "implied",
+    "spots",
+}
 
 
 def modules() -> Iterator[Tuple[str, str]]:
     """(room, name) of each module; the package's own first lines and those of a folder of rooms are none."""
     for home, _, names in sorted(os.walk(HOME)):
         room = os.path.relpath(home, HOME).replace(os.sep, ".")
-        yield from ((room, name[:-len(".py")]) for name in sorted(names) if name.endswith(".py") and name != "__init__.py")
+        yield from (
+            (room, name[: -len(".py")]) for name in sorted(names) if name.endswith(".py") and name != "__init__.py"
+        )
 
 
 def tree_of(room: str, name: str) -> ast.Module:
@@ -40,12 +77,12 @@ def imported(room: str, tree: ast.AST) -> Iterator[str]:
         if isinstance(node, ast.Import):
             names = [alias.name for alias in node.names]
         elif isinstance(node, ast.ImportFrom):
-            above = room.split(".")[:len(room.split(".")) - node.level + 1] if node.level else []
+            above = room.split(".")[: len(room.split(".")) - node.level + 1] if node.level else []
             base = ".".join([*([PACKAGE] if node.level else []), *above, *([node.module] if node.module else [])])
             names = [f"{base}.{alias.name}" for alias in node.names]
         else:
             continue
-        yield from (room_of(name[len(PACKAGE) + 1:]) for name in names if name.startswith(PACKAGE + "."))
+        yield from (room_of(name[len(PACKAGE) + 1 :]) for name in names if name.startswith(PACKAGE + "."))
 
 
 def edges() -> Dict[str, Set[str]]:
@@ -68,15 +105,21 @@ def sentences() -> List[Tuple[str, str]]:
 class Rooms(unittest.TestCase):
     def test_order(self):
         for room, others in edges().items():
-            above = [other for other in others if other not in ROOMS[:ROOMS.index(room)]]
+            above = [other for other in others if other not in ROOMS[: ROOMS.index(room)]]
             self.assertEqual(above, [], f"{room} imports what stands above it")
 
     def test_reads_imports(self):
         """Of each form, at the top and inside a function."""
-        rows = [("from boardnet_show.formats import report", "formats"), ("from boardnet_show.formats.report import Report", "formats"),
-                ("def f():\n    from boardnet_show.output import page", "output"), ("import boardnet_show.geometry.arcs", "geometry"),
-                ("from . import arcs", "geometry"), ("from .arcs import Arc", "geometry"), ("from ..formats import report", "formats"),
-                ("from boardnet_show.intake.mends import table", "intake.mends")]
+        rows = [
+            ("from boardnet_show.formats import report", "formats"),
+            ("from boardnet_show.formats.report import Report", "formats"),
+            ("def f():\n    from boardnet_show.output import page", "output"),
+            ("import boardnet_show.geometry.arcs", "geometry"),
+            ("from . import arcs", "geometry"),
+            ("from .arcs import Arc", "geometry"),
+            ("from ..formats import report", "formats"),
+            ("from boardnet_show.intake.mends import table", "intake.mends"),
+        ]
         for text, wanted in rows:
             self.assertEqual(list(imported("geometry", ast.parse(text))), [wanted], text)
         self.assertEqual(list(imported("geometry", ast.parse("import os\nfrom typing import List"))), [])
@@ -107,7 +150,9 @@ class Names(unittest.TestCase):
                 if isinstance(node, (ast.FunctionDef, ast.Lambda)):
                     args = [*node.args.args, *node.args.kwonlyargs]
                     self.assertNotIn("it", [arg.arg for arg in args], f"{room}.{name} line {node.lineno}")
-                    self.assertNotIn(getattr(node, "name", ""), ("told", "text", "place"), f"{room}.{name} line {node.lineno}")
+                    self.assertNotIn(
+                        getattr(node, "name", ""), ("told", "text", "place"), f"{room}.{name} line {node.lineno}"
+                    )
 
 
 if __name__ == "__main__":

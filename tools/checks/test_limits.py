@@ -20,7 +20,12 @@ LIMITS = [
     ("MOST_BYTES", "texts/src/lib.rt", r"67_?108_?864|2 \^ 26", ""),
     ("MOST_NAME_BYTES", "lengths/src/lib.rt", r"200", r"len|name|bytes|text"),
     ("MOST_PIECES", "board_shapes/src/lib.rt", r"200_?000", ""),
-    ("MOST_LAYERS", "board_shapes/src/lib.rt", r"(?<!\^ )32", r"\w*(layer|copper)\w*(\.\w+)*(\(\))?\)? (<|>|<=|>=|≤|32)|\bto ≤"),
+    (
+        "MOST_LAYERS",
+        "board_shapes/src/lib.rt",
+        r"(?<!\^ )32",
+        r"\w*(layer|copper)\w*(\.\w+)*(\(\))?\)? (<|>|<=|>=|≤|32)|\bto ≤",
+    ),
     ("MOST_RECORDS", "ipc356_records/src/lib.rt", r"200_?000|400_?000", ""),
     ("MOST_APERTURES", "gerber_reading/src/lib.rt", r"65_?536|2 \^ 16", ""),
     ("MOST_FLAT_EDGES", "gerber_layer/src/lib.rt", r"1_?000_?000", ""),
@@ -51,7 +56,10 @@ LEFT = {
     ("texts/proofs/Decimals.antt", "100_000"): "the same",
     ("board_maker/specs/Laws.antt", "1_000_000"): "no limit: what six digits tell",
     ("board_maker/proofs/Shortness.antt", "1_000_000"): "the same",
-    ("board_maker/proofs/Shortness.antt", "250_000_000"): "no limit: how far the pieces of the largest made package reach",
+    (
+        "board_maker/proofs/Shortness.antt",
+        "250_000_000",
+    ): "no limit: how far the pieces of the largest made package reach",
     ("made_files/specs/MadeFiles.antt", "2_000_000"): "no limit: lengths of the made board in u",
     ("made_files/specs/MadeFiles.antt", "1_000_000"): "the same",
     ("made_files/proofs/MadeHoles.antt", "2_000_000"): "the same",
@@ -60,7 +68,10 @@ LEFT = {
     ("made_files/proofs/MadePoints.antt", "200_000"): "a count of records, which the reader's limit bounds",
     ("verdict/specs/Limits.antt", "1_000_000"): "no limit: what six digits tell",
     ("verdict/proofs/Shortness.antt", "1_000_000"): "the same",
-    ("verdict/specs/Limits.antt", "200_000"): "a report's parts; the limits of boards have their names above this crate",
+    (
+        "verdict/specs/Limits.antt",
+        "200_000",
+    ): "a report's parts; the limits of boards have their names above this crate",
     ("verdict/specs/Limits.antt", "400_000"): "the same",
     ("verdict/proofs/Shortness.antt", "200_000"): "the same",
     ("verdict/proofs/Shortness.antt", "400_000"): "the same",
@@ -125,13 +136,22 @@ class Limits(unittest.TestCase):
 
     def test_finds(self):
         rows = [
-            ("METRE", "n ≤ 10_000_000_000"), ("METRE", "n ≤ 10 ^ 10"), ("MOST_BYTES", "length file.now ≤ 67108864"),
-            ("MOST_NAME_BYTES", "bytes: [u8; 200],"), ("MOST_NAME_BYTES", "length name ≤ 200"),
-            ("MOST_LAYERS", "requires few { layers ≤ 32 }"), ("MOST_LAYERS", "(nat_le (length copper) 32 &&"),
-            ("MOST_LAYERS", "if copper.len() > 32 {"), ("MOST_DRILLS", "length drills ≤ 64"),
+            ("METRE", "n ≤ 10_000_000_000"),
+            ("METRE", "n ≤ 10 ^ 10"),
+            ("MOST_BYTES", "length file.now ≤ 67108864"),
+            ("MOST_NAME_BYTES", "bytes: [u8; 200],"),
+            ("MOST_NAME_BYTES", "length name ≤ 200"),
+            ("MOST_LAYERS", "requires few { layers ≤ 32 }"),
+            ("MOST_LAYERS", "(nat_le (length copper) 32 &&"),
+            ("MOST_LAYERS", "if copper.len() > 32 {"),
+            ("MOST_DRILLS", "length drills ≤ 64"),
         ]
         told = {name: rest for name, _, *rest in LIMITS}
         for name, line in rows:
             self.assertTrue(numbers(*told[name], line), line)
-        for name, line in [("MOST_LAYERS", "reader.layers ≤ 2 ^ 32"), ("MOST_NAME_BYTES", "n ≤ 2_200"), ("METRE", "10_000_000_000_000")]:
+        for name, line in [
+            ("MOST_LAYERS", "reader.layers ≤ 2 ^ 32"),
+            ("MOST_NAME_BYTES", "n ≤ 2_200"),
+            ("METRE", "10_000_000_000_000"),
+        ]:
             self.assertFalse(numbers(*told[name], line), line)

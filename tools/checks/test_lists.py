@@ -13,17 +13,24 @@ loader = importlib.machinery.SourceFileLoader("lists", str(TOOLS / "lists"))
 loader.exec_module(lists := importlib.util.module_from_spec(importlib.util.spec_from_loader("lists", loader)))
 
 
-
 def kinds(kind, rows):
     """A file of specs/ with a table of kinds."""
-    return f"row_of : {kind} → Row\nrow_of = elim [\n" + "".join(f'  | {name} ↦ row {n} "{name}"\n' for n, name in rows) + "]\n"
+    return (
+        f"row_of : {kind} → Row\nrow_of = elim [\n"
+        + "".join(f'  | {name} ↦ row {n} "{name}"\n' for n, name in rows)
+        + "]\n"
+    )
 
 
 def refusals(ways):
     """A page with the four tables, of which the first has these rows."""
     text = ""
     for _, _, kind in lists.KINDS:
-        text += f"<!-- {kind}: made by tools/lists -->\n" + (ways if kind == "GerberKind" else "| 1 | `Bad` | Wait. |\n") + f"<!-- {kind} end -->\n"
+        text += (
+            f"<!-- {kind}: made by tools/lists -->\n"
+            + (ways if kind == "GerberKind" else "| 1 | `Bad` | Wait. |\n")
+            + f"<!-- {kind} end -->\n"
+        )
     return text
 
 
@@ -59,7 +66,9 @@ class Lists(unittest.TestCase):
         self.put(lists.KINDS[0][1], kinds("GerberKind", [(1, "Bad"), (2, "Worse")]))
         self.assertEqual(self.run_lists("--check")[0], 1)
         self.assertEqual(self.run_lists(), (0, "refusals.md: written\n"))
-        self.assertIn("| 1 | `Bad` | Mend it. |\n| 2 | `Worse` |  |\n", (self.top / "docs/using/refusals.md").read_text())
+        self.assertIn(
+            "| 1 | `Bad` | Mend it. |\n| 2 | `Worse` |  |\n", (self.top / "docs/using/refusals.md").read_text()
+        )
         self.assertEqual(self.run_lists("--check"), (1, "refusals.md: the way out of Worse is still to be written\n"))
 
     def test_a_kind_that_holds_others_has_no_row(self):
@@ -100,7 +109,9 @@ def names(cell):
 def source_of(crate):
     """All of a crate's source but its tests."""
     files = sorted((lists.TOP / "crates" / crate / "src").rglob("*.rt"))
-    return "\n".join(path.read_text() for path in files if "tests" not in path.relative_to(lists.TOP / "crates").as_posix())
+    return "\n".join(
+        path.read_text() for path in files if "tests" not in path.relative_to(lists.TOP / "crates").as_posix()
+    )
 
 
 class Answers(unittest.TestCase):

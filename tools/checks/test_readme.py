@@ -17,17 +17,27 @@ class Readme(common.Case):
         quoted = re.search(r"(?m)^    opens_and_shorts: (?:.*\n    )+.*$", read("README.md"))[0]
         wanted = [line[4:] for line in quoted.splitlines()]
         self.example("opens_and_shorts", "opens_and_shorts")
-        status, out, _ = self.run_words([os.path.join(common.TOOLS, "show"), "opens_and_shorts"], environment={"BOARDNET": common.program()})
-        self.assertEqual((status, out.splitlines()[:len(wanted)]), (1, wanted))
+        status, out, _ = self.run_words(
+            [os.path.join(common.TOOLS, "show"), "opens_and_shorts"], environment={"BOARDNET": common.program()}
+        )
+        self.assertEqual((status, out.splitlines()[: len(wanted)]), (1, wanted))
 
     def test_statuses(self):
-        told = {int(number) for cell in re.findall(r"(?m)^\| ([\d, ]+) \|", read("README.md")) for number in cell.split(",")}
-        known = {int(number) for number in re.findall(r"(?m)^  (\d+)  ", read("tools", "help.txt").partition("= status")[2])}
+        told = {
+            int(number) for cell in re.findall(r"(?m)^\| ([\d, ]+) \|", read("README.md")) for number in cell.split(",")
+        }
+        known = {
+            int(number) for number in re.findall(r"(?m)^  (\d+)  ", read("tools", "help.txt").partition("= status")[2])
+        }
         self.assertTrue({0, 1, 3, 11, 12} <= told <= known, told)
 
     def test_figures(self):
         """Minutes of the first hour, and versions of tools, are those of the pages that have them from a run."""
-        page, performance, exporting = read("README.md"), read("docs", "PERFORMANCE.md"), read("docs", "using", "exporting.md")
+        page, performance, exporting = (
+            read("README.md"),
+            read("docs", "PERFORMANCE.md"),
+            read("docs", "using", "exporting.md"),
+        )
         minutes = [int(it) for it in re.findall(r"proved after (\d+):\d\d and (\d+):", performance)[0]]
         self.assertIn(f"in up to {max(minutes) + 1} minutes", page)
         seconds = [int(it) for it in re.findall(r"a trial build after (\d+) s .*?, (\d+) s", performance)[0]]

@@ -28,7 +28,10 @@ try:
     from progress import Progress  # noqa: E402
     from proof import Failed, Proof  # noqa: E402
 except Exception as fault:
-    print(f"boardnet: the program cannot be built: Python 3.8 or later with its whole library is wanted ({type(fault).__name__} {fault})", file=sys.stderr)
+    print(
+        f"boardnet: the program cannot be built: Python 3.8 or later with its whole library is wanted ({type(fault).__name__} {fault})",
+        file=sys.stderr,
+    )
     sys.exit(127)
 
 INTERRUPTED, FAILED = 130, 70
@@ -50,7 +53,9 @@ def places():
 
 
 def line_of_rt():
-    done = subprocess.run(["rt", "version"], stdin=subprocess.DEVNULL, stdout=subprocess.PIPE, stderr=subprocess.DEVNULL)
+    done = subprocess.run(
+        ["rt", "version"], stdin=subprocess.DEVNULL, stdout=subprocess.PIPE, stderr=subprocess.DEVNULL
+    )
     return done.stdout.decode("utf-8", "replace").strip()
 
 
@@ -169,8 +174,10 @@ def found(top, is_made):
         if path or not is_made:
             return path or ""
         warn_of_other_kit(top, toolchain)
-        say("the program is not proved yet: making a trial build, in about a minute; `boardnet prove` proves it, in up to "
-            "an hour")
+        say(
+            "the program is not proved yet: making a trial build, in about a minute; `boardnet prove` proves it, in up to "
+            "an hour"
+        )
         path = trial.build(top, made, say)
         if path:
             return path
@@ -197,21 +204,25 @@ def interruptible(work, words):
 
 def call(top, command, words):
     """Builds, and then runs the command where there is one, which begins again with the launcher."""
+
     def work():
         build(top)
         if command:
             # Where the program's time could not be set, the launcher would call again for ever.
             os.execve(command, [command, *words], dict(os.environ, BOARDNET_BUILT=top))
+
     interruptible(work, "what was proved is kept, and the next call goes on there")
 
 
 def tell(top, is_made, command=None, words=()):
     """Prints what there is without a proof, or runs the command, which begins again with the launcher."""
+
     def work():
         path = found(top, is_made)
         if command:
             os.execv(command, [command, *words])
         print(path)
+
     try:
         interruptible(work, "there is no trial build yet, and the next call makes it")
     except trial.NoTrial as why:

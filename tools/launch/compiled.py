@@ -26,7 +26,11 @@ def keep():
 
 def beside(name):
     """Where this Python looks for what it made of a source."""
-    return os.path.join(os.path.dirname(name), "__pycache__", f"{os.path.basename(name)[:-len('.py')]}.{sys.implementation.cache_tag}.pyc")
+    return os.path.join(
+        os.path.dirname(name),
+        "__pycache__",
+        f"{os.path.basename(name)[:-len('.py')]}.{sys.implementation.cache_tag}.pyc",
+    )
 
 
 def of_sources(top, names):
@@ -35,6 +39,7 @@ def of_sources(top, names):
     import pathlib
     import subprocess
     import tempfile
+
     with tempfile.TemporaryDirectory() as folder:
         subprocess.run([sys.executable, "-I", "-B", os.path.abspath(__file__), folder, *names], cwd=top, check=True)
         return {beside(name): pathlib.Path(folder, str(k)).read_bytes() for k, name in enumerate(names)}
@@ -42,8 +47,15 @@ def of_sources(top, names):
 
 def main(folder, *names):
     import py_compile
+
     for k, name in enumerate(names):
-        py_compile.compile(name, os.path.join(folder, str(k)), os.path.basename(name), True, invalidation_mode=py_compile.PycInvalidationMode.CHECKED_HASH)
+        py_compile.compile(
+            name,
+            os.path.join(folder, str(k)),
+            os.path.basename(name),
+            True,
+            invalidation_mode=py_compile.PycInvalidationMode.CHECKED_HASH,
+        )
 
 
 if __name__ == "__main__":

@@ -90,7 +90,11 @@ def architecture(program: bytes) -> str:
 def depends(program: bytes) -> str:
     """The packages of the shared libraries that the program names, as dpkg-shlibdeps says it."""
     with tempfile.TemporaryDirectory(prefix="boardnet-") as scratch:
-        install.put(os.path.join(scratch, "debian", "control"), b"Source: boardnet\n\nPackage: boardnet\nArchitecture: any\n", 0o644)
+        install.put(
+            os.path.join(scratch, "debian", "control"),
+            b"Source: boardnet\n\nPackage: boardnet\nArchitecture: any\n",
+            0o644,
+        )
         install.put(os.path.join(scratch, "program"), program, 0o755)
         how = {"stdout": subprocess.PIPE, "stderr": subprocess.PIPE, "stdin": subprocess.DEVNULL, "cwd": scratch}
         done = subprocess.run(["dpkg-shlibdeps", "-O", "program"], env=dict(os.environ, LC_ALL="C"), **how)
@@ -111,7 +115,9 @@ class Package:
     def __init__(self, files: Files, facts: Facts):
         for name, package in (("dpkg-deb", "dpkg"), ("dpkg-shlibdeps", "dpkg-dev")):
             if not shutil.which(name):
-                raise Refused(f"there is no {name} on the PATH, of Debian's package {package}, which a Debian package wants")
+                raise Refused(
+                    f"there is no {name} on the PATH, of Debian's package {package}, which a Debian package wants"
+                )
         program = files["lib/boardnet/boardnet"][0]
         self.facts, self.architecture, self.depends = facts, architecture(program), depends(program)
         self.files = {name: it for name, it in files.items() if "__pycache__" not in name.split("/")}

@@ -59,7 +59,11 @@ def below(top, name):
 
 def documents(top):
     """The pages and examples, and the boards of `selftest`, which are no documents."""
-    found = {f"share/doc/boardnet/{name}": (read(os.path.join(top, name))[0], 0o644) for part in DOCUMENTS for name in below(top, part)}
+    found = {
+        f"share/doc/boardnet/{name}": (read(os.path.join(top, name))[0], 0o644)
+        for part in DOCUMENTS
+        for name in below(top, part)
+    }
     boards = [name for board in BOARDS for name in below(top, f"examples/{board}") if not name.endswith(".md")]
     found.update((f"lib/boardnet/{name}", (read(os.path.join(top, name))[0], 0o644)) for name in boards)
     return found
@@ -71,7 +75,10 @@ def files(top):
     for name in tools_of(top):
         found[f"lib/boardnet/{name}"] = read(os.path.join(top, "tools", name))
     modules = [name for name in tools_of(top) if name.endswith(".py")]
-    found.update((f"lib/boardnet/{name}", (data, 0o644)) for name, data in compiled.of_sources(os.path.join(top, "tools"), modules).items())
+    found.update(
+        (f"lib/boardnet/{name}", (data, 0o644))
+        for name, data in compiled.of_sources(os.path.join(top, "tools"), modules).items()
+    )
     told = subprocess.run([os.path.join(top, "boardnet"), "--version"], stdout=subprocess.PIPE, check=True).stdout
     made = {
         "lib/boardnet/version": told,

@@ -16,7 +16,7 @@ def named(text):
     for line in text.splitlines():
         head = re.match(r"(\w+)[^:#]*:", line)
         if head:
-            found[head.group(1)] = line[head.end():].partition("#")[0].split()
+            found[head.group(1)] = line[head.end() :].partition("#")[0].split()
     return found
 
 

@@ -25,7 +25,9 @@ PARTS = ("crates", "crates.txt", "boardnet", "tools", "HANDLES", *install.DOCUME
 
 
 def git(top, *words):
-    done = subprocess.run(["git", "-C", top, *words], stdout=subprocess.PIPE, stderr=subprocess.DEVNULL, stdin=subprocess.DEVNULL)
+    done = subprocess.run(
+        ["git", "-C", top, *words], stdout=subprocess.PIPE, stderr=subprocess.DEVNULL, stdin=subprocess.DEVNULL
+    )
     if done.returncode:
         raise Refused("this is no checkout of git with a commit, so nothing names its sources")
     return done.stdout.decode("utf-8", "replace")
@@ -35,14 +37,20 @@ def proved(top):
     """What the program is made of, where all is as it must be."""
     changed = git(top, "status", "--porcelain", "--", *PARTS).splitlines()
     if changed:
-        raise Refused(f"the checkout is changed, so its commit does not name its sources: {'; '.join(it.strip() for it in changed[:3])}")
+        raise Refused(
+            f"the checkout is changed, so its commit does not name its sources: {'; '.join(it.strip() for it in changed[:3])}"
+        )
     if not os.path.isfile(kept.program_of(top)):
         raise Refused("the program is not built: `./boardnet check examples/two_layer` proves and builds it")
     made = kept.noted(top)
     if not made:
-        raise Refused("nothing says that this program was proved: `bash .ci/run` proves and notes it; or remove crates/boardnet/out and have `./boardnet check examples/two_layer` prove and build it")
+        raise Refused(
+            "nothing says that this program was proved: `bash .ci/run` proves and notes it; or remove crates/boardnet/out and have `./boardnet check examples/two_layer` prove and build it"
+        )
     if made.sources != kept.sum_of_sources(top):
-        raise Refused("the program was proved of other sources: `./boardnet check examples/two_layer` proves and builds these")
+        raise Refused(
+            "the program was proved of other sources: `./boardnet check examples/two_layer` proves and builds these"
+        )
     return made
 
 
@@ -53,7 +61,9 @@ class Package:
         self.time = int(git(top, "log", "-1", "--format=%ct"))
         self.version = f"{texts.release()}+{self.commit}"
         self.files = install.files(top)
-        self.debian = maintainer and debian.Package(self.files, debian.Facts(self.version, self.time, maintainer, self.commit, *self.made))
+        self.debian = maintainer and debian.Package(
+            self.files, debian.Facts(self.version, self.time, maintainer, self.commit, *self.made)
+        )
 
     def tar(self, path: str) -> None:
         """An archive of one folder, which can be moved; the same bytes of the same commit and program."""
@@ -95,7 +105,10 @@ def main(words: List[str]) -> int:
         print(f"boardnet: no package: {error}", file=sys.stderr)
         return 1
     if maintainer is None:
-        print("boardnet: no Debian package, since it wants somebody who answers for it: --maintainer 'NAME <ADDRESS>'", file=sys.stderr)
+        print(
+            "boardnet: no Debian package, since it wants somebody who answers for it: --maintainer 'NAME <ADDRESS>'",
+            file=sys.stderr,
+        )
     return 0
 
 

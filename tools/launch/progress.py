@@ -26,8 +26,12 @@ class Progress:
         self.started = self.told = time.monotonic()
 
     def begin(self):
-        print(f"boardnet: proving {self.crates} crates, and then building the program; it can be interrupted, and goes on there. "
-              "Other calls answer by a trial build meanwhile", file=self.out, flush=True)
+        print(
+            f"boardnet: proving {self.crates} crates, and then building the program; it can be interrupted, and goes on there. "
+            "Other calls answer by a trial build meanwhile",
+            file=self.out,
+            flush=True,
+        )
 
     def text(self):
         what = "proving " + ", ".join(self.at_work) if self.at_work else "reading the sources"
@@ -41,7 +45,7 @@ class Progress:
         if not self.is_terminal:
             print(self.text(), file=self.out, flush=True)
             return
-        text = self.text()[:max(20, self.columns() - 1)]
+        text = self.text()[: max(20, self.columns() - 1)]
         print("\r" + text.ljust(self.width), end="", file=self.out, flush=True)
         self.width = len(text)
 

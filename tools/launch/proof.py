@@ -27,7 +27,10 @@ class Room:
     """A scratch place, one for each checkout; another call for the same checkout waits until it is free."""
 
     def __init__(self, top, says):
-        name = "boardnet-proof-" + hashlib.sha256(os.path.realpath(top).encode("utf-8", "surrogateescape")).hexdigest()[:16]
+        name = (
+            "boardnet-proof-"
+            + hashlib.sha256(os.path.realpath(top).encode("utf-8", "surrogateescape")).hexdigest()[:16]
+        )
         self.at, self.has_waited = os.path.join(proved.base(), name), False
         self.handle = os.open(os.path.join(top, "crates"), os.O_RDONLY)
         try:

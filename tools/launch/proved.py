@@ -42,7 +42,12 @@ def sums(sources, named, below, toolchain):
         inside = os.path.relpath(path, sources)
         files[inside.split(os.sep)[1 if os.sep in inside else 0]].append(f"{kept.sum_of_file(path)}  {inside}")
     for name in below:
-        lines = [toolchain, " ".join([name, *named[name]]), *sorted(files[name]), *sorted(found[it] for it in below[name])]
+        lines = [
+            toolchain,
+            " ".join([name, *named[name]]),
+            *sorted(files[name]),
+            *sorted(found[it] for it in below[name]),
+        ]
         found[name] = hashlib.sha256("\n".join(lines).encode("utf-8", "surrogateescape")).hexdigest()
     return found
 
@@ -50,7 +55,11 @@ def sums(sources, named, below, toolchain):
 def sum_of_folder(folder):
     """The sum of the files in a folder and of their names, but for the file that notes it."""
     paths = sorted(os.path.join(at, it) for at, _, files in os.walk(folder) for it in files)
-    lines = [f"{kept.sum_of_file(path)}  {os.path.relpath(path, folder)}\n" for path in paths if path != os.path.join(folder, NOTE)]
+    lines = [
+        f"{kept.sum_of_file(path)}  {os.path.relpath(path, folder)}\n"
+        for path in paths
+        if path != os.path.join(folder, NOTE)
+    ]
     return hashlib.sha256("".join(lines).encode()).hexdigest()
 
 

@@ -9,7 +9,9 @@ import re
 TOOLS = os.path.dirname(os.path.dirname(os.path.abspath(__file__)))
 OTHER = ("boardnet", "files", "status")
 # Of what is installed: where the pages lie that the help names.
-PAGES = ("Pages named docs/.. lie in share/doc/boardnet, beside the folder of the command, with boards to try in its folder examples.",)
+PAGES = (
+    "Pages named docs/.. lie in share/doc/boardnet, beside the folder of the command, with boards to try in its folder examples.",
+)
 
 
 def sections():
@@ -36,7 +38,11 @@ def is_of_the_installed(head):
 
 def installed():
     """The help text without what the repository alone can do, and with the place of the pages that it names."""
-    kept = [(head, [*lines, *PAGES] if head == "files" else lines) for head, lines in sections() if is_of_the_installed(head)]
+    kept = [
+        (head, [*lines, *PAGES] if head == "files" else lines)
+        for head, lines in sections()
+        if is_of_the_installed(head)
+    ]
     return "\n".join("\n".join([f"= {head}", *lines, ""]) for head, lines in kept)
 
 
@@ -52,7 +58,9 @@ def roff(text):
 
 def filled(text):
     """Paragraphs; one that is set in from the left stays as written."""
-    return "\n.PP\n".join(as_written(part.split("\n")) if part.startswith(" ") else roff(part) for part in text.split("\n\n"))
+    return "\n.PP\n".join(
+        as_written(part.split("\n")) if part.startswith(" ") else roff(part) for part in text.split("\n\n")
+    )
 
 
 def as_written(lines):
@@ -62,8 +70,16 @@ def as_written(lines):
 def man(release):
     title, about = other("boardnet")[0].split(": ", 1)
     kept = [it for it in commands() if is_of_the_installed(it[0])]
-    parts = [f'.TH BOARDNET 1 "" "boardnet {release}" "User commands"', ".SH NAME", f"{title} \\- {roff(about)}", ".SH SYNOPSIS"]
-    parts += [f".B boardnet {roff(head)}\n.br" for head, _, _ in kept] + [".B boardnet [COMMAND] \\-\\-help | \\-\\-version", ".SH COMMANDS"]
+    parts = [
+        f'.TH BOARDNET 1 "" "boardnet {release}" "User commands"',
+        ".SH NAME",
+        f"{title} \\- {roff(about)}",
+        ".SH SYNOPSIS",
+    ]
+    parts += [f".B boardnet {roff(head)}\n.br" for head, _, _ in kept] + [
+        ".B boardnet [COMMAND] \\-\\-help | \\-\\-version",
+        ".SH COMMANDS",
+    ]
     for head, does, text in kept:
         parts += [f".SS boardnet {roff(head)}", roff(does[:1].upper() + does[1:]) + ".", ".PP", filled(text)]
     parts += [".SH FILES", as_written([*other("files"), *PAGES]), ".SH EXIT STATUS", as_written(other("status"))]
@@ -113,7 +129,7 @@ fi
 def options_of(head, text):
     """The options in a head or in the lines of its page, each with the name of its value or nothing."""
     words = head.replace("[", " ").replace("]", " ").split()
-    found = [(word, next(iter(words[at + 1:at + 2]), "")) for at, word in enumerate(words) if word.startswith("--")]
+    found = [(word, next(iter(words[at + 1 : at + 2]), "")) for at, word in enumerate(words) if word.startswith("--")]
     return found + re.findall(r"^  (--[a-z-]+) ([A-Z]*)", text, re.M)
 
 
@@ -125,7 +141,11 @@ def takes_files(head):
 def bash():
     kept = [(head, options_of(head, page)) for head, _, page in commands() if is_of_the_installed(head)]
     names = " ".join(head.split()[0] for head, _ in kept)
-    options = [f'      {head.split()[0]}) COMPREPLY=($(compgen -W "--help {" ".join(name for name, _ in found)}" -- "$word")) ;;' for head, found in kept if found]
+    options = [
+        f'      {head.split()[0]}) COMPREPLY=($(compgen -W "--help {" ".join(name for name, _ in found)}" -- "$word")) ;;'
+        for head, found in kept
+        if found
+    ]
     none = "|".join(head.split()[0] for head, _ in kept if not takes_files(head))
     text = BASH.replace("@NAMES@", names).replace("@OPTIONS@", "\n".join(options))
     return text.replace("@NONE@", f"      {none}) ;;" if none else "")

@@ -104,7 +104,13 @@ def compiled(sources: str, scratch: str) -> bytes:
     """The program of a copy of the sources, while it runs."""
     notes = os.path.join(scratch, "notes")
     words = ["nice", "-n", NICE, "rt", "try", "--", *WORDS]
-    child = Child(words, os.path.join(sources, "crates", "boardnet"), os.path.join(scratch, "out"), dict(os.environ, TMPDIR=scratch), notes)
+    child = Child(
+        words,
+        os.path.join(sources, "crates", "boardnet"),
+        os.path.join(scratch, "out"),
+        dict(os.environ, TMPDIR=scratch),
+        notes,
+    )
     try:
         while True:
             has_ended = child.status() is not None

@@ -4,7 +4,22 @@ import unittest
 
 HERE = os.path.dirname(os.path.abspath(__file__))
 # As boardnet_show has its rooms, then what lies beside them. A folder that is not listed comes last.
-ORDER = ("geometry", "formats", "intake", "bounds", "judging", "findings", "fitting", "netlists", "extras", "output", "command", "launch", "program", "benches")
+ORDER = (
+    "geometry",
+    "formats",
+    "intake",
+    "bounds",
+    "judging",
+    "findings",
+    "fitting",
+    "netlists",
+    "extras",
+    "output",
+    "command",
+    "launch",
+    "program",
+    "benches",
+)
 
 
 def load_tests(loader, _, pattern):

@@ -2,13 +2,28 @@
 import re
 from typing import NamedTuple, Optional
 
-LINE = (r"(?P<file>.*): (?P<form>Gerber|drill|netlist|flatten) (?P<number>\d+) (?P<kind>\w+) "
-        r"at (?P<unit>command|line) (?P<place>\d+)(?:, byte (?P<byte>\d+))?")
+LINE = (
+    r"(?P<file>.*): (?P<form>Gerber|drill|netlist|flatten) (?P<number>\d+) (?P<kind>\w+) "
+    r"at (?P<unit>command|line) (?P<place>\d+)(?:, byte (?P<byte>\d+))?"
+)
 GERBER, FLATTEN = "Gerber", "flatten"
 MACRO, WRONG_LAYER, IMPLIED_DECIMALS, BAD_ACCESS = "Macro", "WrongLayer", "ImpliedDecimals", "BadAccess"
 # What copper files hold that bounds may be given for.
-BOUNDED = {"ClearPolarity", "Arc", MACRO, "Block", "Polygon", "Hole", "Transform", "ApertureTwice", "PenNotCircle", "OffGrid",
-           "NegativeFile", "TooManyVertices", "NoOperation"}
+BOUNDED = {
+    "ClearPolarity",
+    "Arc",
+    MACRO,
+    "Block",
+    "Polygon",
+    "Hole",
+    "Transform",
+    "ApertureTwice",
+    "PenNotCircle",
+    "OffGrid",
+    "NegativeFile",
+    "TooManyVertices",
+    "NoOperation",
+}
 
 
 class Refusal(NamedTuple):
@@ -45,7 +60,7 @@ class Advice(NamedTuple):
 
 def of_line(line: str) -> Optional[Refusal]:
     """The refusal that a line of the program says, or None."""
-    found = re.fullmatch(LINE, line)        # few boards are refused, and reading patterns takes long
+    found = re.fullmatch(LINE, line)  # few boards are refused, and reading patterns takes long
     if not found:
         return None
     its = found.groupdict()

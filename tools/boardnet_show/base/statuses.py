@@ -37,5 +37,8 @@ def fault_of(path: str, fault: Exception) -> Stop:
         step = step.tb_next
     where = f"{step.tb_frame.f_code.co_filename.rsplit('/', 1)[-1]} line {step.tb_lineno}" if step else "no line"
     words = " ".join(f"{type(fault).__name__} {fault}".split())[:120]
-    return Stop(FAULT, f"{path}: a fault of `show` itself, which is no answer on the board ({words}, in {where}): "
-                       "please report it with this file")
+    return Stop(
+        FAULT,
+        f"{path}: a fault of `show` itself, which is no answer on the board ({words}, in {where}): "
+        "please report it with this file",
+    )

@@ -11,9 +11,9 @@ def printable(text: str) -> str:
 
 def numbered(code: int) -> str:
     """A character by its number; a byte of a name that is no UTF-8 by that."""
-    if 0xdc80 <= code <= 0xdcff:
+    if 0xDC80 <= code <= 0xDCFF:
         return f"\\x{code - 0xdc00:02x}"
-    return f"\\u{code:04x}" if code <= 0xffff else f"\\U{code:08x}"
+    return f"\\u{code:04x}" if code <= 0xFFFF else f"\\U{code:08x}"
 
 
 def with_ends(text: str) -> str:

@@ -4,7 +4,7 @@ import os
 import signal
 from typing import Any, Callable, Iterator, List, Optional, Sequence, TypeVar
 
-LARGE = 500_000     # bytes of what is worth a process
+LARGE = 500_000  # bytes of what is worth a process
 Item = TypeVar("Item")
 Made = TypeVar("Made")
 
@@ -21,8 +21,12 @@ def alone() -> None:
         signal.signal(number, signal.SIG_DFL)
 
 
-def mapped(work: Callable[[Item], Made], items: Sequence[Item], sizes: Sequence[int],
-           here: Optional[Callable[[Item], Made]] = None) -> Iterator[Made]:
+def mapped(
+    work: Callable[[Item], Made],
+    items: Sequence[Item],
+    sizes: Sequence[int],
+    here: Optional[Callable[[Item], Made]] = None,
+) -> Iterator[Made]:
     """`work` of each item, in order. It is a function of a module, so that processes know it. `here` is the same in
     this process, which does what is small and what failed elsewhere."""
     here = here or work
@@ -44,9 +48,10 @@ def mapped(work: Callable[[Item], Made], items: Sequence[Item], sizes: Sequence[
 
 def begun_elsewhere(work: Callable[[Item], Made], items: Sequence[Item], large: List[int], count: int) -> Any:
     """Processes with their work by number; None where there can be none."""
-    try:        # loading both takes longer than a small board
+    try:  # loading both takes longer than a small board
         from concurrent.futures import ProcessPoolExecutor
         from multiprocessing import current_process, get_context
+
         if current_process().daemon:
             return None
         pool = ProcessPoolExecutor(count, get_context("fork"), alone)

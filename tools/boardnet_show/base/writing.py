@@ -14,7 +14,7 @@ def write(path: str, text: Union[str, bytes]) -> None:
     data = text.encode("utf-8", "surrogateescape") if isinstance(text, str) else text
     try:
         if path == "-":
-            if sys.stdout is None:      # it was closed before the start
+            if sys.stdout is None:  # it was closed before the start
                 raise OSError(errno.EBADF, os.strerror(errno.EBADF))
             sys.stdout.buffer.write(data)
             sys.stdout.buffer.flush()

@@ -11,13 +11,14 @@ from boardnet_show.output.shown import Shown
 
 from .one_board import show
 
-ENOUGH = 65_536     # bytes of a file, which say what it is
+ENOUGH = 65_536  # bytes of a file, which say what it is
 MOST_JOBS = 64
 
 
 def kind_of(path: str) -> str:
     """What a plain file is, by its beginning; nothing where it cannot be read."""
-    from boardnet_show.intake import file_kinds     # most calls are of one board with a manifest
+    from boardnet_show.intake import file_kinds  # most calls are of one board with a manifest
+
     try:
         if not os.path.isfile(path):
             return ""
@@ -29,14 +30,22 @@ def kind_of(path: str) -> str:
 
 def has_board(folder: str) -> bool:
     """Whether files of a board lie in a folder: a manifest, or copper."""
-    return os.path.isfile(os.path.join(folder, "m.json")) or any(kind_of(os.path.join(folder, name)) == "gerber" for name in sorted(os.listdir(folder)))
+    return os.path.isfile(os.path.join(folder, "m.json")) or any(
+        kind_of(os.path.join(folder, name)) == "gerber" for name in sorted(os.listdir(folder))
+    )
 
 
 def is_sorted(names: Sequence[str], copper: str) -> bool:
     """Whether folders are those of one board, its copper in one and its drills or netlist in another."""
-    others = (os.path.join(name, each) for name in names if name != copper and os.path.isdir(name)
-              for each in sorted(os.listdir(name)))
-    return not os.path.exists(os.path.join(copper, "m.json")) and any(kind_of(it) in ("drill", "netlist") for it in others)
+    others = (
+        os.path.join(name, each)
+        for name in names
+        if name != copper and os.path.isdir(name)
+        for each in sorted(os.listdir(name))
+    )
+    return not os.path.exists(os.path.join(copper, "m.json")) and any(
+        kind_of(it) in ("drill", "netlist") for it in others
+    )
 
 
 def boards_in(path: str) -> List[str]:
@@ -49,7 +58,11 @@ def boards_in(path: str) -> List[str]:
         found = archives + [name for name in names if os.path.isdir(name) and has_board(name)]
         if len(found) == 1 and not archives and is_sorted(names, found[0]):
             return []
-        is_board = any(kind_of(name) in ("gerber", "drill", "netlist") for name in names if name not in archives) if found else False
+        is_board = (
+            any(kind_of(name) in ("gerber", "drill", "netlist") for name in names if name not in archives)
+            if found
+            else False
+        )
     except OSError:
         return []
     return [] if is_board else sorted(found)
@@ -86,7 +99,8 @@ def end_quietly() -> None:
 
 def judged_at_once(asked, program: Program) -> List[Shown]:
     """All boards in their order, some at once."""
-    import multiprocessing          # most calls have one board
+    import multiprocessing  # most calls have one board
+
     pool = multiprocessing.get_context("fork").Pool(min(asked.jobs, len(asked.paths)), end_quietly)
     try:
         judged = list(pool.imap(Job(asked, program), asked.paths))
@@ -94,7 +108,7 @@ def judged_at_once(asked, program: Program) -> List[Shown]:
         pool.terminate()
         raise
     else:
-        pool.close()        # a signal to a process that has only begun can be lost, and is then waited for without end
+        pool.close()  # a signal to a process that has only begun can be lost, and is then waited for without end
         return judged
     finally:
         pool.join()

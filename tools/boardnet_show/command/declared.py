@@ -30,7 +30,12 @@ class Declarations(NamedTuple):
 
     def sorted_files(self) -> Sorted:
         netlists = [its.netlist for its in self.files if its.netlist]
-        return Sorted(tuple(self.all_of("taken")), tuple(self.all_of("drilled")), netlists[-1] if netlists else "", any(its.has_no_drills for its in self.files))
+        return Sorted(
+            tuple(self.all_of("taken")),
+            tuple(self.all_of("drilled")),
+            netlists[-1] if netlists else "",
+            any(its.has_no_drills for its in self.files),
+        )
 
     def ties(self) -> List[Tuple[str, str]]:
         """Each tie with where it is declared."""
@@ -42,11 +47,13 @@ class Declarations(NamedTuple):
 
 # ---- options
 
+
 def value_of(text: str, source: str) -> Dict[str, Any]:
     """What an option declares: an object of JSON as in the file, or a word and then names with values, as `netlist
     moved=1.5,-2`."""
-    import json             # few boards have such an option
+    import json  # few boards have such an option
     import shlex
+
     try:
         if text.lstrip().startswith("{"):
             its = json.loads(text, object_pairs_hook=declaration_file.once, parse_float=str)
@@ -55,7 +62,9 @@ def value_of(text: str, source: str) -> Dict[str, Any]:
         pairs = [part.partition("=") for part in rest]
         return {"of": kind, **declaration_file.once([(name, option_value(name, value)) for name, _, value in pairs])}
     except (ValueError, RecursionError):
-        raise Stop(NOT_UNDERSTOOD, f"{source} {text}: it is no object of JSON, and no words as `netlist moved=1.5,-2`") from None
+        raise Stop(
+            NOT_UNDERSTOOD, f"{source} {text}: it is no object of JSON, and no words as `netlist moved=1.5,-2`"
+        ) from None
 
 
 def option_value(name: str, value: str) -> Any:
@@ -73,9 +82,13 @@ def of_options(words: Sequence[str]) -> Declared:
         value = value_of(text, OPTION)
         kind = value.get("of")
         if kind == "plated":
-            its = its._replace(drilled=(*its.drilled, reader.drilled({key: it for key, it in value.items() if key != "of"})))
+            its = its._replace(
+                drilled=(*its.drilled, reader.drilled({key: it for key, it in value.items() if key != "of"}))
+            )
         elif kind == "waiver":
-            its = its._replace(waivers=(*its.waivers, reader.waiver({key: it for key, it in value.items() if key != "of"})))
+            its = its._replace(
+                waivers=(*its.waivers, reader.waiver({key: it for key, it in value.items() if key != "of"}))
+            )
         else:
             its = its._replace(changes=(*its.changes, reader.change(digits_of_one(value))))
     return its
@@ -89,6 +102,7 @@ def digits_of_one(value: Dict[str, Any]) -> Dict[str, Any]:
 
 
 # ---- files
+
 
 def read(path: str, source: str) -> Declared:
     try:
@@ -105,7 +119,10 @@ def beside(path: str, home: str) -> Optional[str]:
     found = [inside] if os.path.isfile(inside) and not (os.path.isfile(path) and os.path.samefile(path, inside)) else []
     outside = package.beside_archive(path, DECLARATIONS) if package.is_archive(path) else None
     if outside and found:
-        raise Stop(NOT_UNDERSTOOD, f"there is a {DECLARATIONS} in the archive and one beside it: keep one of them, or name one by --declare")
+        raise Stop(
+            NOT_UNDERSTOOD,
+            f"there is a {DECLARATIONS} in the archive and one beside it: keep one of them, or name one by --declare",
+        )
     return outside or (found[0] if found else None)
 
 
@@ -125,6 +142,7 @@ def of(path: str, home: str, asked, taken: Sequence[Change] = ()) -> Optional[De
 
 # ---- what is made of it
 
+
 def of_files(files, its: Declared) -> Iterator[Declaration]:
     """What is declared of which file is what; stale where the files say so themselves, or there is a manifest."""
     for row in its.taken:
@@ -132,15 +150,21 @@ def of_files(files, its: Declared) -> Iterator[Declaration]:
     for row in its.drilled:
         yield Declaration(row, its.source, not files.is_made)
     if its.netlist:
-        yield Declaration(Taken(its.netlist, NETLIST), its.source, not files.is_made or files.manifest.netlist != its.netlist)
+        yield Declaration(
+            Taken(its.netlist, NETLIST), its.source, not files.is_made or files.manifest.netlist != its.netlist
+        )
     if its.has_no_drills:
         yield Declaration(NO_HOLES, its.source, not files.is_made or bool(files.manifest.drills))
 
 
 def digits_read(files, its: Declarations) -> List[Declaration]:
     """Reads the numbers of drill files as is declared, before what they may mean is looked for."""
-    return [declared_changes.make(files, change, each.source) for each in its.files for change in each.changes
-            if isinstance(change, DecimalsRead)]
+    return [
+        declared_changes.make(files, change, each.source)
+        for each in its.files
+        for change in each.changes
+        if isinstance(change, DecimalsRead)
+    ]
 
 
 def made(files, its: Declarations, digits: Sequence[Declaration]) -> List[Declaration]:
@@ -149,8 +173,11 @@ def made(files, its: Declarations, digits: Sequence[Declaration]) -> List[Declar
     rows = [Declaration(change, each.source, was_made=True) for each in its.files for change in each.made]
     rows += [row for each in its.files for row in of_files(files, each)]
     before = iter(digits)
-    return rows + [next(before) if isinstance(change, DecimalsRead) else declared_changes.make(files, change, each.source)
-                   for each in its.files for change in each.changes]
+    return rows + [
+        next(before) if isinstance(change, DecimalsRead) else declared_changes.make(files, change, each.source)
+        for each in its.files
+        for change in each.changes
+    ]
 
 
 def agreeing(hints: Sequence[Hint]) -> Tuple[Change, ...]:
@@ -161,8 +188,13 @@ def agreeing(hints: Sequence[Hint]) -> Tuple[Change, ...]:
 
 # ---- what is written
 
+
 def changes_of(seen: Explained, was_made: bool) -> Tuple[Change, ...]:
-    return tuple(it.what for it in seen.declared if it.was_made == was_made and not it.is_stale and not isinstance(it.what, (Taken, Drilled)))
+    return tuple(
+        it.what
+        for it in seen.declared
+        if it.was_made == was_made and not it.is_stale and not isinstance(it.what, (Taken, Drilled))
+    )
 
 
 def waivers_of(seen: Explained) -> Tuple[Waiver, ...]:
@@ -171,7 +203,9 @@ def waivers_of(seen: Explained) -> Tuple[Waiver, ...]:
 
 def kept_text(seen: Explained) -> str:
     """What is still declared of files that were kept: their changes are made, and their manifest says what they are."""
-    return declaration_file.file_text(Declared("", made=(*changes_of(seen, True), *changes_of(seen, False)), waivers=waivers_of(seen)))
+    return declaration_file.file_text(
+        Declared("", made=(*changes_of(seen, True), *changes_of(seen, False)), waivers=waivers_of(seen))
+    )
 
 
 def written_text(seen: Explained, asked) -> str:
@@ -179,6 +213,16 @@ def written_text(seen: Explained, asked) -> str:
     drilled = tuple(it.what for it in seen.declared if isinstance(it.what, Drilled) and not it.is_stale)
     said = {it.what for it in seen.declared if isinstance(it.what, Taken) and not it.is_stale}
     netlists = [it.file for it in said if it.what == NETLIST]
-    return declaration_file.file_text(Declared(
-        "", changes_of(seen, False), changes_of(seen, True), tuple(seen.taken), drilled, tuple(it.equation() for it in seen.ties.ties if it.is_asked),
-        waivers_of(seen), asked.netlist or (netlists[0] if netlists else ""), asked.no_drills or NO_HOLES in said))
+    return declaration_file.file_text(
+        Declared(
+            "",
+            changes_of(seen, False),
+            changes_of(seen, True),
+            tuple(seen.taken),
+            drilled,
+            tuple(it.equation() for it in seen.ties.ties if it.is_asked),
+            waivers_of(seen),
+            asked.netlist or (netlists[0] if netlists else ""),
+            asked.no_drills or NO_HOLES in said,
+        )
+    )

@@ -41,7 +41,7 @@ def words(given):
     parser.add_argument("--no-drills", action="store_true")
     parser.add_argument("--mend", action="store_true")
     if {"--help", "-h"} & set(given):
-        print(__doc__ or f"{USAGE}\n", end="")       # Python may be told to leave texts out
+        print(__doc__ or f"{USAGE}\n", end="")  # Python may be told to leave texts out
         sys.exit(0)
     return parser.parse_args(given)
 
@@ -67,14 +67,20 @@ def write(asked):
     for name, what, why in plan.guessed:
         say(f"{'taken' if asked.yes else 'would be taken'} as {what}: {shown(name)}: {why}")
     if plan.guessed and not asked.yes:
-        raise Refused("the attributes do not say all of this: if it is right, say --yes; else export Gerber X2 and XNC files with attributes, or write m.json by hand")
+        raise Refused(
+            "the attributes do not say all of this: if it is right, say --yes; else export Gerber X2 and XNC files with attributes, or write m.json by hand"
+        )
     plan.manifest = mended(folder, plan.manifest, asked)
     path = os.path.join(folder, "m.json")
     writing.write(path, plan.manifest_text())
     if not plan.has_points:
-        say(f"manifest: {plan.netlist} HAS NO TEST POINTS (no 317 and no 327 record): `check` will judge nothing and agree")
+        say(
+            f"manifest: {plan.netlist} HAS NO TEST POINTS (no 317 and no 327 record): `check` will judge nothing and agree"
+        )
     manifest = plan.manifest
-    print(f"{shown(path)}: {len(manifest['copper'])} copper, {len(manifest['drills'])} drill files, netlist {manifest['netlist']}")
+    print(
+        f"{shown(path)}: {len(manifest['copper'])} copper, {len(manifest['drills'])} drill files, netlist {manifest['netlist']}"
+    )
 
 
 def bytes_of(folder, name):
@@ -87,7 +93,9 @@ def mended(folder, manifest, asked):
     drills, made = [it["file"] for it in manifest["drills"]], {}
     read = lambda name: made.get(name) or bytes_of(folder, name)
     settling = drill_numbers.Settling(folder, lambda: list(map(read, manifest["copper"])))
-    for name, data, told in mends.of_files(lambda name: bytes_of(folder, name), manifest["copper"], drills, manifest["netlist"], settling):
+    for name, data, told in mends.of_files(
+        lambda name: bytes_of(folder, name), manifest["copper"], drills, manifest["netlist"], settling
+    ):
         made[name] = data
         for it in told:
             say(f"{'mended' if asked.mend else 'to be mended'}: {shown(it.words)}")
@@ -99,7 +107,9 @@ def mended(folder, manifest, asked):
     for name in made if asked.mend else ():
         writing.write(os.path.join(folder, copies[name]), made[name])
     if copies and not asked.mend:
-        say("manifest: `boardnet show` makes these mends; `boardnet manifest FOLDER --mend` writes mended copies, which `check` takes")
+        say(
+            "manifest: `boardnet show` makes these mends; `boardnet manifest FOLDER --mend` writes mended copies, which `check` takes"
+        )
     return mends.renamed(manifest, copies)
 
 

@@ -16,7 +16,8 @@ from boardnet_show.output.shown import Shown
 
 def shapes_of(program, told):
     """The shapes of the pieces, or None and why they are not known."""
-    from boardnet_show.judging import board_copper        # a board that agrees has no copper looked at
+    from boardnet_show.judging import board_copper  # a board that agrees has no copper looked at
+
     try:
         return board_copper.shapes_of_judged(program, told), ""
     except BadCopper as why:
@@ -59,7 +60,11 @@ def package_notes(files):
     if files.left_out:
         notes.append(f"left out, {len(files.left_out)} of the folder's files: " + "; ".join(files.left_out))
     notes += flattened_notes(sorted(files.flattened), files.outside)
-    passed_over = netlist_files.note(files.manifest.netlist, mending.read(files, files.manifest.netlist)) if files.manifest else ""
+    passed_over = (
+        netlist_files.note(files.manifest.netlist, mending.read(files, files.manifest.netlist))
+        if files.manifest
+        else ""
+    )
     return notes + ([passed_over] if passed_over else [])
 
 
@@ -71,14 +76,17 @@ def by_own_names(files, asked):
     if files.manifest.netlist and not asked.labels:
         files.own = own_names.made_before(files)
         return []
-    from boardnet_show.netlists import (        # most boards want neither, and loading takes longer than a small board
-        pad_names, pin_names
+    from boardnet_show.netlists import (  # most boards want neither, and loading takes longer than a small board
+        pad_names,
+        pin_names,
     )
+
     told = pad_names.use(files, asked.no_drills)
     return told + (pin_names.differences(files) if files.theirs else [])
 
 
 # ---- what is found on a judged board
+
 
 def looked_at(program, told, seen, wants_picture):
     """The findings of a judged board."""
@@ -90,19 +98,24 @@ def looked_at(program, told, seen, wants_picture):
     seen = seen._replace(board=board, reports=(told.report, told.report))
     if seen.answer.status or not told.report.agrees:
         from boardnet_show.findings import findings
+
         seen = seen._replace(findings=findings.all_findings(board), flood=findings.flood(told.report))
     nothing = nothing_judged.why_nothing(told.report) if seen.answer.status == 0 else ""
     if nothing:
         seen = seen._replace(answer=answers.nothing(nothing))
-    return seen.noted(*nothing_judged.unnamed_notes(board), *net_ties.lost(seen.ties, told.report), *([why] if why else []))
+    return seen.noted(
+        *nothing_judged.unnamed_notes(board), *net_ties.lost(seen.ties, told.report), *([why] if why else [])
+    )
 
 
 def bounded(program, told, seen, asked):
     """What bounds say of a board that is refused."""
     from boardnet_show.judging import two_bounds
+
     bounds = two_bounds.bounded(program, told, seen.ties)
     if bounds:
         from boardnet_show.judging import between_command
+
         bounds = between_command.answer_of_between(program, told, bounds, seen.ties, requested.wants_copper(asked))
         seen = seen._replace(bounds=bounds, answer=bounds.answer).noted(*bounds.notes)
         if bounds.sides:
@@ -117,9 +130,8 @@ def with_others(program, files, seen):
     refusal = seen.answer.refusal
     if seen.answer.status != REFUSED or not refusal or seen.answer.no_bounds or not files.manifest:
         return seen
-    from boardnet_show.judging import (        # few boards are refused
-        obstacles
-    )
+    from boardnet_show.judging import obstacles  # few boards are refused
+
     behind = (*obstacles.others(program, files, refusal), *seen.answer.behind)
     return seen._replace(answer=seen.answer._replace(behind=behind))
 
@@ -127,14 +139,22 @@ def with_others(program, files, seen):
 def looked_at_between(program, files, seen, asked):
     """The findings of a board between bounds, over the lower one."""
     from boardnet_show.findings import between_bounds, findings
+
     answer, low, high = files.between
     wants_picture = asked.page or asked.svg or asked.rdb
-    shapes, why = shapes_of(program, low) if answer.findings or wants_picture or requested.wants_copper(asked) else (None, "")
+    shapes, why = (
+        shapes_of(program, low) if answer.findings or wants_picture or requested.wants_copper(asked) else (None, "")
+    )
     named = labels_of(program, low) if seen.ties.shorts(low.report) else None
     program.progress.begin("looking for the places")
     board = between_bounds.board_of(low, answer.sides[0], shapes, named, seen.ties)
-    seen = seen._replace(audit=low.audit, reports=(low.report, high.report), board=board, findings=between_bounds.Findings(board).of(answer),
-                         flood=findings.flood(high.report))
+    seen = seen._replace(
+        audit=low.audit,
+        reports=(low.report, high.report),
+        board=board,
+        findings=between_bounds.Findings(board).of(answer),
+        flood=findings.flood(high.report),
+    )
     if wants_picture and shapes is not None:
         seen = seen._replace(wider=wider(program, files, board, high))
     return seen.noted(*nothing_judged.unnamed_notes(board), *([why] if why else []))
@@ -144,6 +164,7 @@ def wider(program, files, board, high):
     """Where the upper of two bounds is wider; nothing where its pieces are not known."""
     from boardnet_show.findings import between_bounds
     from boardnet_show.judging import upper_copper
+
     try:
         return between_bounds.wider(board, *upper_copper.above(program, high, files.sides))
     except BadCopper:
@@ -152,9 +173,8 @@ def wider(program, files, board, high):
 
 def hinted(program, told, seen):
     """What changed copies say, where a board is refused or differs."""
-    from boardnet_show.fitting import (        # most boards want none, and loading takes longer than a small board
-        hints
-    )
+    from boardnet_show.fitting import hints  # most boards want none, and loading takes longer than a small board
+
     found = hints.hints(program, told, seen.ties)
     findings = [it.without_suggestion() for it in seen.findings] if hints.explain(found) else seen.findings
     return seen._replace(hints=found, findings=findings)
@@ -168,14 +188,16 @@ def explained(program, told, seen, asked, signed):
         seen = bounded(program, told, seen, asked)
         seen = with_others(program, told.package, seen)
     if signed or asked.waive:
-        from . import waived            # few boards have waivers
+        from . import waived  # few boards have waivers
+
         seen = waived.with_waivers(program, told, seen, signed, asked)
     if told.status == 3 or seen.answer.status == 1:
         seen = hinted(program, told, seen)
     if seen.board and seen.answer.status in (0, 1, UNDECIDED):
-        from boardnet_show.bounds.files import (        # most boards stop here, and loading takes longer than a small board
-            widthless_contours
+        from boardnet_show.bounds.files import (  # most boards stop here, and loading takes longer than a small board
+            widthless_contours,
         )
+
         seen = seen.noted(*widthless_contours.notes(told.package))
     if seen.board:
         names, short = seen.board.report.names, seen.board.report.short_names
@@ -186,26 +208,37 @@ def explained(program, told, seen, asked, signed):
 def of_files(files, seen):
     """The same with what was made of the files first: mends, and a netlist of the copper's own names."""
     stale = sum(it.is_stale for it in seen.declared) + len(seen.stale)
-    answer = seen.answer._replace(declared=len(seen.declared), waived=len(seen.waived), stale=stale, mends=len(files.mends),
-                                  advice=mending.way_out(files, seen.answer.refusal),
-                                  is_by_own_names=bool(files.own) and seen.answer.status in own_names.ANSWERS, is_trial=building.is_trial())
+    answer = seen.answer._replace(
+        declared=len(seen.declared),
+        waived=len(seen.waived),
+        stale=stale,
+        mends=len(files.mends),
+        advice=mending.way_out(files, seen.answer.refusal),
+        is_by_own_names=bool(files.own) and seen.answer.status in own_names.ANSWERS,
+        is_trial=building.is_trial(),
+    )
     notes = [f"mended: {it.words}" for it in files.mends]
     if seen.declared or seen.waived or seen.stale:
         from boardnet_show.output.sentences import declarations
+
         notes = declarations.notes(seen) + notes
     return seen._replace(answer=answer, mends=files.mends, notes=[*notes, *seen.notes])
 
 
 # ---- one board
 
+
 def declarations_of(path, asked, taken):
     """What reads all that is declared of a PATH whose files are in a folder; `taken` are changes by hints."""
+
     def read(home):
         beside = os.path.join(home, package.DECLARATIONS)
         if not (taken or asked.declare or getattr(asked, "with") or os.path.exists(beside) or package.is_archive(path)):
             return None
-        from . import declared          # most boards have none, and loading takes longer than a small board
+        from . import declared  # most boards have none, and loading takes longer than a small board
+
         return declared.of(path, home, asked, taken)
+
     return read
 
 
@@ -218,6 +251,7 @@ def mended_and_changed(files, its, asked, progress):
     is_declared = its and files.manifest
     if is_declared:
         from . import declared
+
         digits = declared.digits_read(files, its)
     mending.mend(files, progress, asked.yes, sorted_by(its).taken)
     return declared.made(files, its, digits) if is_declared else []
@@ -232,7 +266,7 @@ def agrees_without(path, asked, program, scratch, its, ties):
         by_own_names(files, asked)
         mending.mend(files, program.progress, asked.yes, its.sorted_files().taken)
         agrees = ties.answer(judged.judge(program, files)).status == 0
-    except Stop:            # they are not judged so
+    except Stop:  # they are not judged so
         agrees = False
     return ["what is declared does not fit these files any more: without its changes they agree"] if agrees else []
 
@@ -251,6 +285,7 @@ def keep(files, seen, folder):
         files.put(package.TIES, seen.ties.file_text().encode())
     if seen.declared or seen.waived or seen.stale:
         from . import declared
+
         files.put(package.DECLARATIONS, declared.kept_text(seen).encode())
     package.keep(files, seen.report, folder)
 
@@ -260,6 +295,7 @@ def show(path, asked, program, scratch):
     shown = shown_once(path, asked, program, os.path.join(scratch, "first"), ())
     if asked.take_hints and shown.hints:
         from . import declared
+
         taken = declared.agreeing(shown.hints)
         if taken:
             return shown_once(path, asked, program, os.path.join(scratch, "taken"), taken)
@@ -283,8 +319,11 @@ def shown_once(path, asked, program, scratch, taken):
         said = mended_and_changed(files, its, asked, program.progress)
         shown = shown._replace(seen=shown.seen._replace(declared=said, taken=files.taken))
         told = judged.judge(program, files)
-        shown = shown._replace(seen=shown.seen._replace(answer=ties.answer(told), audit=told.audit, report=told.text or b"",
-                                                        notes=own + package_notes(files)))
+        shown = shown._replace(
+            seen=shown.seen._replace(
+                answer=ties.answer(told), audit=told.audit, report=told.text or b"", notes=own + package_notes(files)
+            )
+        )
         shown = shown._replace(seen=explained(program, told, shown.seen, asked, its.waivers() if its else ()))
         if shown.status == 1 and any(it.files for it in shown.seen.declared):
             shown = shown._replace(seen=shown.seen.noted(*agrees_without(path, asked, program, scratch, its, ties)))
@@ -296,5 +335,7 @@ def shown_once(path, asked, program, scratch, taken):
     except Exception as fault:
         stop = fault_of(path, fault)
         shown = blank if stop.status == FAULT else shown
-        shown = shown._replace(seen=shown.seen._replace(answer=answers.stopped(stop)), requested=shown.requested._replace(besides=()))
+        shown = shown._replace(
+            seen=shown.seen._replace(answer=answers.stopped(stop)), requested=shown.requested._replace(besides=())
+        )
     return shown

@@ -1,9 +1,40 @@
 """The caller's words as they are written, before anything is asked of them."""
 from types import SimpleNamespace
 
-FLAGS = ("-q", "--all", "--labels", "--yes", "--no-drills", "--no-cuts", "--audit-board", "--take-hints", "--help", "-h")
-WITH_VALUES = ("--page", "--svg", "--at", "--json", "--junit", "--sarif", "--rdb", "--format", "--keep", "--netlist", "--ipc", "--like", "--gaps", "--necks",
-               "--record", "--verify", "--declare", "--write-declarations", "--author", "--jobs")
+FLAGS = (
+    "-q",
+    "--all",
+    "--labels",
+    "--yes",
+    "--no-drills",
+    "--no-cuts",
+    "--audit-board",
+    "--take-hints",
+    "--help",
+    "-h",
+)
+WITH_VALUES = (
+    "--page",
+    "--svg",
+    "--at",
+    "--json",
+    "--junit",
+    "--sarif",
+    "--rdb",
+    "--format",
+    "--keep",
+    "--netlist",
+    "--ipc",
+    "--like",
+    "--gaps",
+    "--necks",
+    "--record",
+    "--verify",
+    "--declare",
+    "--write-declarations",
+    "--author",
+    "--jobs",
+)
 OFTEN = ("--tie", "--with", "--waive")
 USAGE = "boardnet show PATH.. [OPTION ..]; boardnet show --help prints all"
 
@@ -45,6 +76,7 @@ def plain(given):
 
 def parser():
     import argparse
+
     made = argparse.ArgumentParser(prog="boardnet show", add_help=False, allow_abbrev=False, usage=USAGE)
     made.add_argument("paths", metavar="PATH", nargs="*")
     for name in FLAGS:

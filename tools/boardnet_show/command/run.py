@@ -49,9 +49,13 @@ def words(given):
             options.wrong(f"--{name.replace('_', '-')} is for one PATH")
     if asked.gaps is not None:
         from boardnet_show.extras import spacing
-        asked.gaps = spacing.asked_distance(asked.gaps) or options.wrong(f"--gaps wants {LENGTH}, over 0 and at most 10 mm, with at most seven decimals")
+
+        asked.gaps = spacing.asked_distance(asked.gaps) or options.wrong(
+            f"--gaps wants {LENGTH}, over 0 and at most 10 mm, with at most seven decimals"
+        )
     if asked.necks is not None:
         from boardnet_show.extras import spacing
+
         asked.necks = spacing.asked_width(asked.necks)
         if asked.necks is None:
             options.wrong(f"--necks wants {LENGTH}, from 0 to 10 mm, with at most seven decimals")
@@ -74,6 +78,7 @@ def printed(asked, all_shown):
     """What is printed."""
     if asked.format == "github":
         from boardnet_show.output import annotations
+
         rows = [row for shown in all_shown for row in annotations.rows(shown)]
     elif asked.q:
         rows = [row for shown in all_shown for row in text_lines.quiet(shown)] + total_of(all_shown)
@@ -94,23 +99,29 @@ def forms(asked, all_shown):
     first = all_shown[0]
     if asked.json:
         from boardnet_show.output import json_form
+
         yield asked.json, json_form.json_text(all_shown)
     if asked.junit:
         from boardnet_show.output import junit
+
         yield asked.junit, junit.junit_text(all_shown)
     if asked.sarif:
         from boardnet_show.output import sarif
+
         yield asked.sarif, sarif.sarif_text(all_shown)
     if asked.rdb:
         from boardnet_show.output import rdb
+
         yield asked.rdb, rdb.marker_database(first)
     if asked.ipc:
         yield asked.ipc, first.requested.tester and first.requested.tester.text
     if asked.record:
         from boardnet_show.extras import record
+
         yield asked.record, first.requested.record and record.record_text(first.requested.record)
     if asked.write_declarations:
         from . import declared
+
         yield asked.write_declarations, declared.written_text(first.seen, asked)
     if asked.page and len(all_shown) > 1:
         yield from pages(asked, all_shown)
@@ -121,7 +132,12 @@ def forms(asked, all_shown):
 def pages(asked, all_shown):
     """The page of each board whose copper is known, and the list of all."""
     from boardnet_show.output import batch_page, page
-    names = {shown.path: name for shown, name in zip(all_shown, batch_page.page_names(asked.page, all_shown).values()) if shown.board and shown.board.shapes}
+
+    names = {
+        shown.path: name
+        for shown, name in zip(all_shown, batch_page.page_names(asked.page, all_shown).values())
+        if shown.board and shown.board.shapes
+    }
     for shown in all_shown:
         if shown.path in names:
             yield names[shown.path], page.page_html(shown)
@@ -132,12 +148,16 @@ def pictures(asked, shown):
     if not shown.board or shown.board.shapes is None:
         if asked.page:
             from boardnet_show.output import record_page
+
             yield asked.page, shown.requested.record and record_page.page(shown)
         if asked.svg:
             yield asked.svg, None
-        print(f"boardnet: no picture is drawn, since the copper of {printable(shown.path)} is not known", file=sys.stderr)
+        print(
+            f"boardnet: no picture is drawn, since the copper of {printable(shown.path)} is not known", file=sys.stderr
+        )
         return
     from boardnet_show.output import page, svg
+
     if asked.page:
         yield asked.page, page.page_html(shown)
     if asked.svg:

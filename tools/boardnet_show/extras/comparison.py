@@ -61,7 +61,9 @@ class Move:
     """How places of the other board become places of this one, by the records of its netlist before and after."""
 
     def __init__(self, before, after):
-        pairs = [((a.x, a.y), (b.x, b.y)) for a, b in zip(before, after)] if before is not after else []     # kept records are the same
+        pairs = (
+            [((a.x, a.y), (b.x, b.y)) for a, b in zip(before, after)] if before is not after else []
+        )  # kept records are the same
         for _, form in FORMS:
             shifts = {tuple(v - w for v, w in zip(here, form(*there))) for there, here in pairs}
             if len(shifts) == 1:
@@ -107,7 +109,9 @@ class Other:
         piece = self.nearest_piece(net, gap.layer, place)
         if piece is None:
             return "", []
-        return f"there {self.board.source(piece)} is near that place, {self.board.copper_place(place, gap.layer)}", [(*place, gap.layer)]
+        return f"there {self.board.source(piece)} is near that place, {self.board.copper_place(place, gap.layer)}", [
+            (*place, gap.layer)
+        ]
 
     def parts(self, first, second, layer):
         """What is told of two nets that this board joins: how far apart they are there on that layer, and where."""
@@ -116,8 +120,10 @@ class Other:
             return "", []
         distance, a, b = least(self.lines, layer, *nets)
         place = gap_of_lines(a[:2], b[:2], layer).place
-        told = (f"there they are {millimetres(distance // STEP * STEP)} mm apart on {self.board.copper_place(place, layer)}, between "
-                f"{self.board.source(a[2])} and {self.board.source(b[2])}")
+        told = (
+            f"there they are {millimetres(distance // STEP * STEP)} mm apart on {self.board.copper_place(place, layer)}, between "
+            f"{self.board.source(a[2])} and {self.board.source(b[2])}"
+        )
         return told, [(*place, layer)]
 
 
@@ -137,7 +143,15 @@ def difference(board, other, finding):
         piece = other.row(records[0]).place.pieces[0]
         there = f"there {other.board.source(piece)} has it"
     kind = KINDS[finding.kind]
-    return Difference(f"{kind}-{finding.number}", kind, finding.sure is not False, f"{finding.name}: {finding.sentence()}", there, here, places + [other.point(record) for record in records[:FEW]])
+    return Difference(
+        f"{kind}-{finding.number}",
+        kind,
+        finding.sure is not False,
+        f"{finding.name}: {finding.sentence()}",
+        there,
+        here,
+        places + [other.point(record) for record in records[:FEW]],
+    )
 
 
 def differences(program, shapes, answer, made, other_text):
@@ -185,7 +199,10 @@ def reference(program, path, asked, scratch, board):
 
 def counts_words(its):
     """How many differences there are of each kind, those that there are."""
-    counts = [(sum(it.kind == kind for it in its), word) for kind, word in (("parted", "parted net"), ("joined", "joined net"), ("missing", "missing pad"))]
+    counts = [
+        (sum(it.kind == kind for it in its), word)
+        for kind, word in (("parted", "parted net"), ("joined", "joined net"), ("missing", "missing pad"))
+    ]
     return ", ".join(counted(count, word) for count, word in counts if count)
 
 
@@ -204,5 +221,11 @@ def requested(program, told, seen, asked, scratch):
     untouched = made.netlist.untouched()
     line = counts_words(its) if its else f"joins what {'it' if made.is_whole else 'its lower bound'} joins"
     line += f"; not compared: {untouched}" if untouched else ""
-    beside = outcome(f"like {asked.like}", sure, doubt, f"like {asked.like}: {line}", tuple((it.name(), it.sentence(), it.places) for it in its))
+    beside = outcome(
+        f"like {asked.like}",
+        sure,
+        doubt,
+        f"like {asked.like}: {line}",
+        tuple((it.name(), it.sentence(), it.places) for it in its),
+    )
     return Requested([beside], like=Likeness(asked.like, beside.status, line, placed, its, untouched))

@@ -56,7 +56,11 @@ def finding(nets, number, spacing, distance="", sure=None, others=()):
     """Two nets on a layer that are too close, and the pins near the place. Between bounds `distance` is in words, and a net and a piece
     that the lower board lacks are None, with the piece's source among the `others`."""
     board, known = nets.board, [net for net in spacing.nets if net is not None]
-    whats = spoken(LEFT_OUT if net is None else nets.word(net) for net in spacing.nets) if known else "two parts of " + LEFT_OUT
+    whats = (
+        spoken(LEFT_OUT if net is None else nets.word(net) for net in spacing.nets)
+        if known
+        else "two parts of " + LEFT_OUT
+    )
     sources = [others[k] if piece is None else board.source(piece) for k, piece in enumerate(spacing.pieces)]
     pins = [point for point in (nets.near(net, spacing.place) for net in known) if point is not None]
     near = f"; near {spoken(map(board.pin, pins))}" if pins else ""
@@ -89,7 +93,9 @@ def of_bounds(program, told, board, u):
     """The gaps of a board between two, of which `board` is the lower one."""
     high, nets = with_copper(program, told.package.between[2], told.package.sides.sources[1]), Nets(board)
     its = gaps_between_bounds.gaps(program, board, high, u)
-    return [finding(nets, number, it, words, sure, others) for number, (sure, it, words, others) in enumerate(its)], rule(u)
+    return [
+        finding(nets, number, it, words, sure, others) for number, (sure, it, words, others) in enumerate(its)
+    ], rule(u)
 
 
 def requested(program, judged, board, u):
@@ -101,5 +107,7 @@ def requested(program, judged, board, u):
         return Requested([lacking(GAPS, f"gaps are not known: {why}")])
     possible = sum(it.sure is False for it in its)
     count = len(its) - possible
-    told = f"{counted(count, 'gap') if count else 'no gap'} under {millimetres(u)} mm" + (f" and {counted(possible, 'possible one')}" if possible else "")
+    told = f"{counted(count, 'gap') if count else 'no gap'} under {millimetres(u)} mm" + (
+        f" and {counted(possible, 'possible one')}" if possible else ""
+    )
     return Requested([found(GAPS, its, told)], its, [words], count)

@@ -62,8 +62,15 @@ class Parts:
         """The lower pieces that have a place of an upper one, or one of whose places it has."""
         box, layer = self.high.touching.box(piece), self.high.report.sources[piece][3]
         first = self.high.shapes.places(piece)[0]
-        return [it for it in self.below.meeting(box, layer) if self.low.touching.holds(it, first) or any(
-            box[0] <= x <= box[2] and box[1] <= y <= box[3] and self.high.touching.holds(piece, (x, y)) for x, y in self.low.shapes.places(it))]
+        return [
+            it
+            for it in self.below.meeting(box, layer)
+            if self.low.touching.holds(it, first)
+            or any(
+                box[0] <= x <= box[2] and box[1] <= y <= box[3] and self.high.touching.holds(piece, (x, y))
+                for x, y in self.low.shapes.places(it)
+            )
+        ]
 
     def lower(self, piece, place):
         """The lower piece of an upper one's command that is nearest to a place, None where that is left out."""
@@ -86,13 +93,18 @@ class Parts:
 def close(board, parts, layer, u):
     """Each two parts of a net whose pieces on a layer have boxes closer than u, with all those pairs of pieces."""
     pieces = [piece for piece in parts if board.report.sources[piece][3] <= layer <= board.report.sources[piece][4]]
-    boxes = [(left - u // 2 - 1, low - u // 2 - 1, right + u // 2 + 1, high + u // 2 + 1) for left, low, right, high in map(board.touching.box, pieces)]
+    boxes = [
+        (left - u // 2 - 1, low - u // 2 - 1, right + u // 2 + 1, high + u // 2 + 1)
+        for left, low, right, high in map(board.touching.box, pieces)
+    ]
     found = defaultdict(list)
     for i, j in [(k, k) for k in range(len(pieces))] + box_grid.pairs(boxes):
         for a in parts[pieces[i]]:
             for b in parts[pieces[j]]:
                 if a != b:
-                    found[frozenset((a, b))].append((pieces[i], pieces[j]) if str(a) < str(b) else (pieces[j], pieces[i]))
+                    found[frozenset((a, b))].append(
+                        (pieces[i], pieces[j]) if str(a) < str(b) else (pieces[j], pieces[i])
+                    )
     return {tuple(sorted(pair, key=str)): its for pair, its in found.items()}
 
 
@@ -112,7 +124,11 @@ def joined(both, low_lines, u):
         for layer in range(1, board.manifest.layers + 1):
             for pair, pieces in close(board, parts, layer, u).items():
                 touch = next(((p, q) for p, q in pieces if p == q or board.touching.touch(p, q)), None)
-                it = Spacing(layer, pair, 0, board.touching.touching_place(*touch), touch) if touch else spacing(lines, layer, pair)
+                it = (
+                    Spacing(layer, pair, 0, board.touching.touching_place(*touch), touch)
+                    if touch
+                    else spacing(lines, layer, pair)
+                )
                 if it.distance < u:
                     below = spacing(low_lines, layer, pair) if all(isinstance(part, int) for part in pair) else None
                     yield below or it, bool(below)
@@ -130,10 +146,14 @@ def gaps(program, low, high, u):
             certain[it.layer, nets] = it
 
     def below(above):
-        sides = sorted(((both.lower(piece, above.place), high.source(piece)) for piece in above.pieces), key=lambda side: side[0] is None)
+        sides = sorted(
+            ((both.lower(piece, above.place), high.source(piece)) for piece in above.pieces),
+            key=lambda side: side[0] is None,
+        )
         pieces, sources = zip(*sides)
         nets = tuple(None if piece is None else low.report.net_of[piece] for piece in pieces)
         return above._replace(nets=nets, pieces=pieces), sources
+
     for at, it in certain.items():
         least_above = f"at least {upper[at].at_least()} and " if at in upper else ""
         yield True, it, f"are {least_above}at most {it.at_most()} mm apart", ()
@@ -141,4 +161,9 @@ def gaps(program, low, high, u):
         if at not in certain:
             yield (False, *below(it)[:1], f"are at least {it.at_least()} mm apart", below(it)[1])
     for it, is_below in joined(both, low_lines, u):
-        yield (False, it, f"are joined, or at most {it.at_most()} mm apart,", ()) if is_below else (False, below(it)[0], "are joined, or apart, perhaps by nothing,", below(it)[1])
+        yield (False, it, f"are joined, or at most {it.at_most()} mm apart,", ()) if is_below else (
+            False,
+            below(it)[0],
+            "are joined, or apart, perhaps by nothing,",
+            below(it)[1],
+        )

@@ -23,7 +23,14 @@ RECORD = "record"
 TOP = os.path.dirname(TOOLS)
 FEW = 8
 # What is compared beside files and reports, with the words for it.
-COMPARED = (("status", "the status"), ("line", "the answer"), ("mends", "the mends"), ("ties", "the ties"), ("declared", "what is declared"), ("hints", "the hints"))
+COMPARED = (
+    ("status", "the status"),
+    ("line", "the answer"),
+    ("mends", "the mends"),
+    ("ties", "the ties"),
+    ("declared", "what is declared"),
+    ("hints", "the hints"),
+)
 
 
 def sum_of(data):
@@ -41,6 +48,7 @@ def sum_of_path(path):
 
 # ---- what is recorded
 
+
 @lru_cache()
 def version_text():
     """What `--version` prints, of an installed program or of a checkout."""
@@ -50,7 +58,12 @@ def version_text():
     except OSError:
         pass
     try:
-        told = subprocess.run([os.path.join(TOP, "boardnet"), "--version"], stdin=subprocess.DEVNULL, stdout=subprocess.PIPE, stderr=subprocess.DEVNULL)
+        told = subprocess.run(
+            [os.path.join(TOP, "boardnet"), "--version"],
+            stdin=subprocess.DEVNULL,
+            stdout=subprocess.PIPE,
+            stderr=subprocess.DEVNULL,
+        )
         return told.stdout.decode("utf-8", "replace")
     except OSError:
         return ""
@@ -58,8 +71,13 @@ def version_text():
 
 def of_program(program):
     said = dict(line.partition(" ")[::2] for line in version_text().splitlines() if " " in line)
-    return {"version": said.get("boardnet"), "commit": said.get("commit"), "toolchain": said.get("toolchain"),
-            "sources": said.get("sources"), "program": sum_of_path(program.path)}
+    return {
+        "version": said.get("boardnet"),
+        "commit": said.get("commit"),
+        "toolchain": said.get("toolchain"),
+        "sources": said.get("sources"),
+        "program": sum_of_path(program.path),
+    }
 
 
 def roles(package):
@@ -67,7 +85,7 @@ def roles(package):
     told = package.manifest
     found = {package.name: "manifest"}
     for name in told.names() if told else ():
-        found[name] = "netlist" if name == told.netlist else "drills" if name in told.files[told.layers:] else "copper"
+        found[name] = "netlist" if name == told.netlist else "drills" if name in told.files[told.layers :] else "copper"
     return found
 
 
@@ -82,19 +100,36 @@ def files_of(told):
     package, between = told.package, [(word, its.package) for word, its in packages(told) if word != "board"]
     for name, role in roles(package).items():
         came = package.came.get(name)
-        yield {"name": name, "role": role, "came": came and sum_of_path(came), "judged": sum_of_path(package.path(name)),
-               **{word: sum_of_path(its.path(name)) for word, its in between}}
+        yield {
+            "name": name,
+            "role": role,
+            "came": came and sum_of_path(came),
+            "judged": sum_of_path(package.path(name)),
+            **{word: sum_of_path(its.path(name)) for word, its in between},
+        }
 
 
 def of(program, told, seen, its):
     """The record of a board, whatever became of it; `its` is what was asked for besides."""
-    reports = [{"of": word, "line": its.line, "audit": its.audit, "sha256": sum_of(its.text), "text": its.text.decode("ascii")} for word, its in packages(told)]
+    reports = [
+        {"of": word, "line": its.line, "audit": its.audit, "sha256": sum_of(its.text), "text": its.text.decode("ascii")}
+        for word, its in packages(told)
+    ]
     return {
-        "boardnet_record": FORM, "date": datetime.datetime.now(datetime.timezone.utc).strftime("%Y-%m-%dT%H:%M:%SZ"), "board": seen.title,
-        "program": of_program(program), "status": seen.answer.status, "line": answers.line(seen.answer),
-        "beside": answers.whole_line(seen.answer, [it.words for it in its.besides]), "files": list(files_of(told)),
-        "mends": [it.words for it in told.package.mends], "ties": seen.ties.file_text().splitlines(), "declared": declarations.notes(seen),
-        "hints": [hints.words(hint) for hint in seen.hints], "notes": [*seen.notes, *its.notes], "reports": reports,
+        "boardnet_record": FORM,
+        "date": datetime.datetime.now(datetime.timezone.utc).strftime("%Y-%m-%dT%H:%M:%SZ"),
+        "board": seen.title,
+        "program": of_program(program),
+        "status": seen.answer.status,
+        "line": answers.line(seen.answer),
+        "beside": answers.whole_line(seen.answer, [it.words for it in its.besides]),
+        "files": list(files_of(told)),
+        "mends": [it.words for it in told.package.mends],
+        "ties": seen.ties.file_text().splitlines(),
+        "declared": declarations.notes(seen),
+        "hints": [hints.words(hint) for hint in seen.hints],
+        "notes": [*seen.notes, *its.notes],
+        "reports": reports,
     }
 
 
@@ -103,6 +138,7 @@ def record_text(record):
 
 
 # ---- verification
+
 
 def once(pairs):
     """An object whose names differ: a reader and a program might take another one of two."""
@@ -133,7 +169,11 @@ def listed(record, key):
 def repeated(record, key, of):
     """What a list says of one thing twice: the second of two may hide the first."""
     names = [str(it.get(of)) for it in listed(record, key)]
-    yield from (f"the record has {counted(names.count(name), 'entry', 'entries')} of {name} under {key}" for name in dict.fromkeys(names) if names.count(name) > 1)
+    yield from (
+        f"the record has {counted(names.count(name), 'entry', 'entries')} of {name} under {key}"
+        for name in dict.fromkeys(names)
+        if names.count(name) > 1
+    )
 
 
 def file_differences(record, now):
@@ -145,7 +185,9 @@ def file_differences(record, now):
             continue
         for key in ("came", "judged", "lower", "upper"):
             if old[name].get(key) != new[name].get(key):
-                how = {"came": "is another file", "judged": "was judged as another text"}.get(key, f"has another {key} bound")
+                how = {"came": "is another file", "judged": "was judged as another text"}.get(
+                    key, f"has another {key} bound"
+                )
                 yield f"{name} {how}: SHA-256 {old[name].get(key)} in the record, {new[name].get(key)} here"
                 break
 
@@ -187,7 +229,13 @@ def differences(program, told, record, now):
 
 
 def told_of(value):
-    return spoken([str(it) for it in value], FEW) if isinstance(value, list) and value else "none" if value in ([], None) else str(value)
+    return (
+        spoken([str(it) for it in value], FEW)
+        if isinstance(value, list) and value
+        else "none"
+        if value in ([], None)
+        else str(value)
+    )
 
 
 def judged_as(told):
@@ -204,11 +252,17 @@ def verify(program, told, seen, its, path):
         unlike = list(differences(program, told, record, now))
     except Stop as why:
         return Requested([lacking(RECORD, f"not verified: {why}")])
-    other = {key: value for key, value in now["program"].items() if not isinstance(record.get("program"), dict) or record["program"].get(key) != value}
+    other = {
+        key: value
+        for key, value in now["program"].items()
+        if not isinstance(record.get("program"), dict) or record["program"].get(key) != value
+    }
     others = ", ".join(f"{key} {value}" for key, value in other.items())
     notes = [f"the record of {record.get('date')} is by another program: now {others}"] if other else []
     notes += [f"unlike the record: {words}" for words in unlike]
     passes = f"its report passes the audit on {judged_as(told)}"
     same = f"the record is of these files, and {passes if packages(told) else 'neither it nor today has a report'}"
     words = f"unlike the record in {counted(len(unlike), 'point')}" if unlike else same
-    return Requested([outcome(RECORD, len(unlike), 0, words, tuple(("record", each, ()) for each in unlike))], notes=notes)
+    return Requested(
+        [outcome(RECORD, len(unlike), 0, words, tuple(("record", each, ()) for each in unlike))], notes=notes
+    )

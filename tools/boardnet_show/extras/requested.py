@@ -19,24 +19,32 @@ def made(program, judged, seen: Explained, asked, scratch: str) -> Requested:
     its = Requested()
     for step in steps(program, judged, seen, asked, scratch):
         its = its.joined(step(its))
-    return its._replace(findings=with_short_names(its.findings, seen.board.report.names, seen.board.report.short_names)) if its.findings else its
+    return (
+        its._replace(findings=with_short_names(its.findings, seen.board.report.names, seen.board.report.short_names))
+        if its.findings
+        else its
+    )
 
 
 def steps(program, judged, seen: Explained, asked, scratch: str) -> Iterator[Callable[[Requested], Requested]]:
     """What makes each of them of those before it."""
     if seen.board and seen.answer.status in (0, 1, UNDECIDED):
         from .as_made import looks
+
         yield lambda _: looks.requested(program, judged, seen, asked)
     if asked.gaps:
         from . import gaps
+
         yield lambda _: gaps.requested(program, judged, seen.board, asked.gaps)
     if asked.like:
         from . import comparison
+
         yield lambda _: comparison.requested(program, judged, seen, asked, scratch)
     if asked.ipc:
         yield lambda its: netlist(program, judged, seen, its)
     if asked.record or asked.verify:
         from . import record
+
         if asked.record:
             yield lambda its: Requested(record=record.of(program, judged, seen, its))
         if asked.verify:
@@ -46,7 +54,10 @@ def steps(program, judged, seen: Explained, asked, scratch: str) -> Iterator[Cal
 def netlist(program, judged, seen: Explained, before: Requested) -> Requested:
     """The netlist for a tester, with the nets that are too close where they were found before."""
     from boardnet_show.netlists import tester
+
     close = [tuple(it.nets) for it in before.findings if it.kind == GAP and len(it.nets) == 2]
     its = tester.made(program, judged, seen.title, seen.board, adjacent=None if before.gap_count is None else close)
-    lacks = lacking("netlist for a tester", "no netlist for a tester", tuple(("netlist", words, ()) for words in its.lines))
+    lacks = lacking(
+        "netlist for a tester", "no netlist for a tester", tuple(("netlist", words, ()) for words in its.lines)
+    )
     return Requested([lacks] if its.text is None else [], tester=its)

@@ -17,9 +17,9 @@ from boardnet_show.geometry.segments import box_of_line
 
 # How lengths may be written; the millimetre where none is.
 UNITS = {"mm": MM, "mil": INCH // 1000, "in": INCH}
-STEP = 1_000        # distances are told in tenths of a micrometre
+STEP = 1_000  # distances are told in tenths of a micrometre
 MOST = 100_000_000  # 10 mm, the most that the program takes
-FEW = 64            # so many pairs of lines are looked at one by one
+FEW = 64  # so many pairs of lines are looked at one by one
 
 
 class Spacing(NamedTuple):
@@ -42,7 +42,7 @@ class Spacing(NamedTuple):
 def asked_width(text):
     """A width as u: a number of millimetres, or with its unit (`6mil`, `0.15mm`, `0.006in`); None where it is none that can be asked for."""
     unit = next((it for it in UNITS if text.endswith(it)), "")
-    head, _, tail = text[:len(text) - len(unit)].partition(".")
+    head, _, tail = text[: len(text) - len(unit)].partition(".")
     if not (head + tail).isascii() or not (head + tail).isdigit() or len(tail) > 7 or len(head) > 3:
         return None
     u, rest = divmod(int(head + tail) * UNITS.get(unit, MM), 10 ** len(tail))
@@ -80,8 +80,12 @@ class Lines:
         if key not in self.found:
             radius, touching = self.board.shapes.radius, self.board.touching
             spans = touching.spans
-            rows = [(line, max(radius[piece], 0), piece) for piece in self.pieces[net] if spans[piece][0] <= layer <= spans[piece][1]
-                    for line in touching.lines(piece)]
+            rows = [
+                (line, max(radius[piece], 0), piece)
+                for piece in self.pieces[net]
+                if spans[piece][0] <= layer <= spans[piece][1]
+                for line in touching.lines(piece)
+            ]
             boxes = [box_of_line(*line, r) for line, r, _ in rows]
             self.found[key] = rows, boxes
         return self.found[key]
@@ -153,7 +157,7 @@ def spacings(program, board, u):
     """The pairs of nets that are closer than u, in the order of layers and nets; and how many the program lists."""
     rows, lines, found = listed(program, board.package, u), Lines(board), []
     for layer, low, high, *_ in rows:
-        distance, a, b = least(lines, layer, low, high, u + 10)     # the program lists by whole nanometres
+        distance, a, b = least(lines, layer, low, high, u + 10)  # the program lists by whole nanometres
         # What is rounded down to less than a whole number is less than it.
         if distance < u:
             place = nearest_copper.gap_of_lines(a[:2], b[:2], layer).place

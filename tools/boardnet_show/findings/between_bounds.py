@@ -13,9 +13,11 @@ from .findings import Opens, open_clues
 from .shorts import findings as shorts_of
 
 MICROMETRE = 10_000
-MOST = 400          # pieces of a command that are looked at one by one
-NOTE = ("The board lies between two bounds, since some of its copper is outside the profile. The lower one is shown; where the upper one is "
-        "over a micrometre wider, it is outlined by dashes. What is not certain is called undecided.")
+MOST = 400  # pieces of a command that are looked at one by one
+NOTE = (
+    "The board lies between two bounds, since some of its copper is outside the profile. The lower one is shown; where the upper one is "
+    "over a micrometre wider, it is outlined by dashes. What is not certain is called undecided."
+)
 
 
 def board_of(low, sources, shapes, labels=None, ties=None):
@@ -30,7 +32,7 @@ class Findings:
     def __init__(self, board):
         self.board, self.opens, self.counts = board, Opens(board), Counter()
         self.shorts = {it.nets[0]: it for it in shorts_of(board)}
-        self.points = defaultdict(list)         # by net and name
+        self.points = defaultdict(list)  # by net and name
         for point, (_, _, name, net) in enumerate(board.report.points):
             self.points[net, name].append(point)
 
@@ -42,13 +44,24 @@ class Findings:
         """One of them; its places are told by its points."""
         number, board = self.counts[kind], self.board
         self.counts[kind] += 1
-        points = [*points[1::-1], *points[2:]] if kind == OPEN else points        # the part that stands apart first
+        points = [*points[1::-1], *points[2:]] if kind == OPEN else points  # the part that stands apart first
         nets = list(dict.fromkeys(board.report.points[point][3] for point in points))
         names = list(dict.fromkeys(board.name_of(point) for point in points))
-        found = Finding(kind, number, " and ".join(map(board.name, names[:3])), words + ".", list(points), nets=nets, names=names, sure=sure)
+        found = Finding(
+            kind,
+            number,
+            " and ".join(map(board.name, names[:3])),
+            words + ".",
+            list(points),
+            nets=nets,
+            names=names,
+            sure=sure,
+        )
         known = self.shorts.get(nets[0]) if kind == SHORT and sure else None
         if known:
-            return found._replace(clues=known.clues, meets=known.meets, sides=known.sides, is_labelled=known.is_labelled)
+            return found._replace(
+                clues=known.clues, meets=known.meets, sides=known.sides, is_labelled=known.is_labelled
+            )
         return self.with_gap(found)
 
     def with_gap(self, finding):
@@ -57,12 +70,18 @@ class Findings:
         if kind == MISSING or len(nets) < 2 or -1 in nets[:2]:
             return finding
         parts = [sorted(point for name in finding.names for point in self.points.get((net, name), ())) for net in nets]
-        gap = (self.opens.gap(nets[1], nets[0], finding.points[0]) if kind == OPEN else
-               self.opens.copper.gap(nets[0], nets[1]) if self.board.shapes else None)
+        gap = (
+            self.opens.gap(nets[1], nets[0], finding.points[0])
+            if kind == OPEN
+            else self.opens.copper.gap(nets[0], nets[1])
+            if self.board.shapes
+            else None
+        )
         return finding._replace(gap=gap, clues=open_clues(self.board, gap), parts=parts if kind == OPEN else [])
 
 
 # ---- where the upper board is wider
+
 
 def wider(low, shapes, sources):
     """[(layer, corners)]: what the upper board has beyond the lower one by more than a micrometre, command by command; of the upper one
@@ -77,19 +96,23 @@ def wider(low, shapes, sources):
         layer, ours = sources[pieces[0]][3], below[key]
         is_same = len(ours) == len(pieces) and all(low.shapes.has(p, shapes, q) for p, q in zip(ours, pieces))
         if not is_same and sources[pieces[0]][4] == layer:
-            found += [(layer, corners) for corners in beyond([*map(low.shapes.solid, ours)], [*map(shapes.solid, pieces)])]
+            found += [
+                (layer, corners) for corners in beyond([*map(low.shapes.solid, ours)], [*map(shapes.solid, pieces)])
+            ]
     return found
 
 
 def beyond(low, high):
     """Areas of the one that lie further than a micrometre from the other, most of whose pieces have their like at the same place."""
-    left = [piece for k, piece in enumerate(high) if not any(near(piece, other) for other in (*low[k:k + 1], *low))]
+    left = [piece for k, piece in enumerate(high) if not any(near(piece, other) for other in (*low[k : k + 1], *low))]
     if not left:
         return []
     try:
         if len(low) + len(left) > MOST:
             raise Refused("too many pieces")
-        items = [(True, polygon(piece, True)) for piece in left] + [(False, polygon(part, False)) for piece in low for part in grown(piece)]
+        items = [(True, polygon(piece, True)) for piece in left] + [
+            (False, polygon(part, False)) for piece in low for part in grown(piece)
+        ]
         return [corners for corners, _ in Sweep([it for it in items if it[1]], False).out]
     except Refused:
         return [polygon(piece, True) for piece in left]

@@ -10,16 +10,17 @@ from boardnet_show.formats.report import Report
 from boardnet_show.intake.package import Package
 from boardnet_show.judging.net_ties import Ties
 
-if TYPE_CHECKING:       # most boards have no copper looked at
+if TYPE_CHECKING:  # most boards have no copper looked at
     from boardnet_show.geometry.shapes import Shapes
 
 Spot = Tuple[int, int]
 
 
 def touching(shapes: "Shapes", report: Report) -> Any:
-    from boardnet_show.geometry.touching import (        # a board that agrees wants none of it, and loading takes longer than a small board
-        Touching
+    from boardnet_show.geometry.touching import (  # a board that agrees wants none of it, and loading takes longer than a small board
+        Touching,
     )
+
     return Touching(shapes, [source[3:] for source in report.sources])
 
 
@@ -27,8 +28,15 @@ class Board:
     """`shapes` is None where the copper is not known, `labels` (names of pieces by the files' own labels) where
     there are none."""
 
-    def __init__(self, package: Package, report: Report, records: Sequence[Any], shapes: "Optional[Shapes]", labels: Optional[Dict[int, str]],
-                 ties: Optional[Ties]) -> None:
+    def __init__(
+        self,
+        package: Package,
+        report: Report,
+        records: Sequence[Any],
+        shapes: "Optional[Shapes]",
+        labels: Optional[Dict[int, str]],
+        ties: Optional[Ties],
+    ) -> None:
         self.package, self.manifest, self.report = package, package.manifest, report
         self.records, self.labels, self.ties = records, labels or {}, ties or Ties()
         # Of any type: who asks for copper knows whether there is some.
@@ -95,7 +103,9 @@ class Board:
 
     def point_words(self, point: int) -> str:
         """A point with its layer and place."""
-        return f"{self.pin(point)} ({self.manifest.layer_word(self.layer(point))}, {self.place_words(self.spot(point))})"
+        return (
+            f"{self.pin(point)} ({self.manifest.layer_word(self.layer(point))}, {self.place_words(self.spot(point))})"
+        )
 
     # ---- places and pieces
 

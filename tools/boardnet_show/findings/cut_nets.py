@@ -18,7 +18,7 @@ Line = Tuple[Spot, Spot]
 # A place with its layer, and a radius, in u.
 Disc = Tuple[Tuple[int, int, int], int]
 Node = Tuple[int, int]
-SURE = 10           # u: so much smaller a place is taken, and so much wider a line, for the rounding of both
+SURE = 10  # u: so much smaller a place is taken, and so much wider a line, for the rounding of both
 
 
 def outside(line: Line, r: int, discs: Sequence[Disc]) -> List[Line]:
@@ -43,10 +43,10 @@ def within(a: Spot, d: Spot, radius: int) -> Tuple[float, float]:
     squared, ahead, off = d[0] ** 2 + d[1] ** 2, a[0] * d[0] + a[1] * d[1], a[0] ** 2 + a[1] ** 2 - max(radius, 0) ** 2
     if radius <= 0 or squared == 0:
         return (0.0, 1.0) if radius > 0 and off <= 0 else (2.0, 2.0)
-    under = ahead ** 2 - squared * off
+    under = ahead**2 - squared * off
     if under <= 0:
         return 2.0, 2.0
-    root = under ** 0.5
+    root = under**0.5
     return max(0.0, (-ahead - root) / squared), min(1.0, (-ahead + root) / squared)
 
 
@@ -137,7 +137,11 @@ class Cut:
         names = set()
         for spot, name in self.points.get(piece, ()):
             r = self.radius(piece)
-            on = [k for k, lines in enumerate(self.lines[piece]) if len(self.lines[piece]) == 1 or segments_within(*lines[0], spot, spot, r)]
+            on = [
+                k
+                for k, lines in enumerate(self.lines[piece])
+                if len(self.lines[piece]) == 1 or segments_within(*lines[0], spot, spot, r)
+            ]
             if not on or number in on:
                 names.add(name)
         return names
@@ -149,6 +153,12 @@ class Cut:
 
     def is_explained(self) -> bool:
         """Whether all places where the names meet are among these, and no copper that is left may join two names."""
-        spots = [((*meet.place, meet.layer), discs) for meet in self.meets for discs in [self.discs_of(meet.layer, meet.layer)]]
-        near = all(any((x - a) ** 2 + (y - b) ** 2 <= radius ** 2 for (a, b, _), radius in discs) for (x, y, _), discs in spots)
+        spots = [
+            ((*meet.place, meet.layer), discs)
+            for meet in self.meets
+            for discs in [self.discs_of(meet.layer, meet.layer)]
+        ]
+        near = all(
+            any((x - a) ** 2 + (y - b) ** 2 <= radius**2 for (a, b, _), radius in discs) for (x, y, _), discs in spots
+        )
         return bool(self.meets) and self.count == len(self.meets) and near and not any(map(self.joins, self.homes()))

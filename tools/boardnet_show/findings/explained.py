@@ -11,7 +11,7 @@ from .board import Board
 from .finding import GAP, Finding
 from .waivers import Waived, Waiver
 
-if TYPE_CHECKING:       # most boards have no bounds, and loading takes longer than a small board
+if TYPE_CHECKING:  # most boards have no bounds, and loading takes longer than a small board
     from boardnet_show.judging.two_bounds import Bounded
 
 

@@ -67,8 +67,10 @@ def with_short_names(findings: Sequence[Finding], names: Sequence[str], short: D
     if not short:
         return findings
     told = ((it, [names[number] for number in it.names if names[number] in short]) for it in findings)
-    return [it._replace(clues=[*it.clues, *(Clue(KNOWN, f"The netlist has {short[name]} for {name}.") for name in whole)])
-            for it, whole in told]
+    return [
+        it._replace(clues=[*it.clues, *(Clue(KNOWN, f"The netlist has {short[name]} for {name}.") for name in whole)])
+        for it, whole in told
+    ]
 
 
 def doubt(finding: Finding) -> str:

@@ -6,6 +6,7 @@ from . import shorts
 from .finding import MISSING, OPEN, SUGGESTED, Clue, Finding
 from .nearest_copper import NearestCopper, NearestPoints, Stacked
 
+
 class Opens:
     """Each open: a part of a name that stands apart from the name's home."""
 
@@ -31,7 +32,18 @@ class Opens:
         told = f"{board.point_words(here)} is not joined to {board.point_words(there)}{away}; {board.spoken_name(name)} is in {self.parts[name]} parts, "
         told += f"here {extent(board, parts[0])}, there {extent(board, parts[1])}."
         gap = self.gap(home, other, here)
-        return Finding(OPEN, number, board.name(name), told, [here, there], nets=[other, home], names=[name], clues=open_clues(board, gap), parts=parts, gap=gap)
+        return Finding(
+            OPEN,
+            number,
+            board.name(name),
+            told,
+            [here, there],
+            nets=[other, home],
+            names=[name],
+            clues=open_clues(board, gap),
+            parts=parts,
+            gap=gap,
+        )
 
     def all(self):
         return [self.finding(number, *it) for number, it in enumerate(self.board.report.opens)]
@@ -55,7 +67,15 @@ class Opens:
         nets = [board.report.points[point][3] for point in (here, there)]
         gap = self.gap(nets[1], nets[0], here) if min(nets) >= 0 else None
         told = f"{one} and {other} are declared to be tied ({tie.source}) and no copper joins them: {board.point_words(here)} and {board.point_words(there)} are nearest."
-        its = Finding(OPEN, number, tie.equation(), told, [here, there], names=[board.name_of(here), board.name_of(there)], gap=gap)
+        its = Finding(
+            OPEN,
+            number,
+            tie.equation(),
+            told,
+            [here, there],
+            names=[board.name_of(here), board.name_of(there)],
+            gap=gap,
+        )
         if min(nets) < 0:
             return its
         on_nets = [[point for point in part if board.report.points[point][3] == net] for part, net in zip(parts, nets)]
@@ -70,10 +90,19 @@ def extent(board, members):
 
 def open_clues(board, gap):
     if gap is None:
-        return [Clue(SUGGESTED, "the two parts have no copper on one layer; look for a hole that should join them.")] if board.shapes else []
+        return (
+            [Clue(SUGGESTED, "the two parts have no copper on one layer; look for a hole that should join them.")]
+            if board.shapes
+            else []
+        )
     where = board.copper_place(gap.place, gap.layer)
     if gap.below:
-        return [Clue(SUGGESTED, f"a hole is missing where both parts have copper, on {where} and on {board.manifest.layer_word(gap.below)}.")]
+        return [
+            Clue(
+                SUGGESTED,
+                f"a hole is missing where both parts have copper, on {where} and on {board.manifest.layer_word(gap.below)}.",
+            )
+        ]
     return [Clue(SUGGESTED, f"their copper comes nearest, {wording.at_most(max(gap.distance, 0))} mm, on {where}.")]
 
 
@@ -97,5 +126,7 @@ def flood(report):
     bare, points = len(report.bare), len(report.points)
     if bare < 4 or 2 * bare <= points:
         return ""
-    return (f"{bare} of {points} test points lie beside the copper. Such a flood has one cause: the netlist and the copper count from other "
-            "origins or in other units, layers are in another order, or the netlist is of another board. See to that first.")
+    return (
+        f"{bare} of {points} test points lie beside the copper. Such a flood has one cause: the netlist and the copper count from other "
+        "origins or in other units, layers are in another order, or the netlist is of another board. See to that first."
+    )

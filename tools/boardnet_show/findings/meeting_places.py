@@ -84,8 +84,12 @@ class Net:
                 if piece in labels:
                     names.setdefault(labels[piece], Counter())[self.board.name(self.board.name_of(point))] += 1
         likely = {label: min(found, key=lambda name: (-found[name], name)) for label, found in names.items()}
-        return {piece: self.board.ties.side(likely.get(label, label)) if self.board.ties.is_tied_name(likely.get(label, label)) else label
-                for piece, label in labels.items()}
+        return {
+            piece: self.board.ties.side(likely.get(label, label))
+            if self.board.ties.is_tied_name(likely.get(label, label))
+            else label
+            for piece, label in labels.items()
+        }
 
     def by_points(self):
         """The names of pieces by the points on them, and the pieces that carry points of several names."""
@@ -160,7 +164,9 @@ class Net:
             for other in sorted(self.graph.near[piece]):
                 names = self.sides.get(piece), self.sides.get(other)
                 if piece < other and None not in names and names[0] != names[1]:
-                    found.setdefault(tuple(sorted(names)), []).append((piece, other) if names[0] < names[1] else (other, piece))
+                    found.setdefault(tuple(sorted(names)), []).append(
+                        (piece, other) if names[0] < names[1] else (other, piece)
+                    )
         return found
 
     def direct(self):
@@ -183,7 +189,16 @@ class Net:
         inner = least_cuts.way(self.graph, [into], {out}, set(part)) if part else []
         inner = [piece for piece in inner if piece not in (head[-1], tail[0])]
         place, layer = self.meeting_place(p, q, inner or ([into] if part else []), names)
-        return Meet(names, sorted(part), (p, q), place, layer, list(dict.fromkeys([*head, *inner, *tail])), len(head) - 1, len(head) + len(inner))
+        return Meet(
+            names,
+            sorted(part),
+            (p, q),
+            place,
+            layer,
+            list(dict.fromkeys([*head, *inner, *tail])),
+            len(head) - 1,
+            len(head) + len(inner),
+        )
 
     def meeting_place(self, p, q, inner, names):
         """Where to look: the middle of where the one piece between them touches both, or where two pieces touch; of one piece alone between
@@ -205,5 +220,9 @@ class Net:
                 spots.setdefault(self.board.side_of(self.board.name_of(point)), self.board.spot(point))
         left, low, right, high = touching.box(piece)
         found = [spots[name] for name in names if name in spots]
-        tried = [((left + right) // 2, (low + high) // 2), *([nearest_places.middle(*found)] if len(found) > 1 else []), *found]
+        tried = [
+            ((left + right) // 2, (low + high) // 2),
+            *([nearest_places.middle(*found)] if len(found) > 1 else []),
+            *found,
+        ]
         return next((spot for spot in tried if touching.holds(piece, spot)), None) or touching.middle(piece)

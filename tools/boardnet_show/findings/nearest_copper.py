@@ -86,8 +86,12 @@ class NearestCopper:
         """The lines of a net on a layer, each with its radius, and the tree of their boxes."""
         if (net, layer) not in self.rows:
             touching, sources, radius = self.board.touching, self.board.report.sources, self.board.shapes.radius
-            lines = [(line, max(radius[piece], 0)) for piece in self.board.pieces_of[net]
-                     if sources[piece][3] <= layer <= sources[piece][4] for line in touching.lines(piece)]
+            lines = [
+                (line, max(radius[piece], 0))
+                for piece in self.board.pieces_of[net]
+                if sources[piece][3] <= layer <= sources[piece][4]
+                for line in touching.lines(piece)
+            ]
             boxes = [box_of_line(*line, r) for line, r in lines]
             self.rows[net, layer] = lines, Tree(boxes) if lines else None
         return self.rows[net, layer]
@@ -98,8 +102,10 @@ class NearestCopper:
         for layer in range(1, self.board.manifest.layers + 1):
             (first, first_tree), (second, second_tree) = self.lines(ours, layer), self.lines(theirs, layer)
             if first and second:
+
                 def measure(i, j):
                     return gap_of_lines(first[i], second[j], layer)
+
                 best = nearest(first_tree, second_tree, measure, best)
         return best
 
@@ -107,6 +113,6 @@ class NearestCopper:
 def gap_of_lines(first, second, layer):
     (ours, r), (theirs, s) = first, second
     squared, near, far = nearest_places.between(ours, theirs)
-    length = squared ** 0.5
+    length = squared**0.5
     here, there = nearest_places.towards(near, far, r, length), nearest_places.towards(far, near, s, length)
     return Gap(length - r - s, nearest_places.middle(here, there), layer)

@@ -21,8 +21,19 @@ def findings(board):
         joined = Net(board, net) if board.shapes else None
         meets = joined.meets(budget) if joined else []
         clues = [*meet_clues(board, joined, meets)] if meets else by_branch(board, branches)
-        yield Finding(SHORT, number, heading, told, points, nets=[net], names=numbers, clues=clues, meets=meets, sides=joined.sides if joined else {},
-                      is_labelled=bool(joined and joined.is_labelled))
+        yield Finding(
+            SHORT,
+            number,
+            heading,
+            told,
+            points,
+            nets=[net],
+            names=numbers,
+            clues=clues,
+            meets=meets,
+            sides=joined.sides if joined else {},
+            is_labelled=bool(joined and joined.is_labelled),
+        )
 
 
 def sides(board, branches, said):
@@ -35,7 +46,8 @@ def sides(board, branches, said):
 
 def tie_clues(board, joined, meets):
     """Which tie would declare what meets in one footprint, once for each two names."""
-    import shlex            # few shorts have such a place
+    import shlex  # few shorts have such a place
+
     told = {}
     for meet in meets:
         found = joined.footprint(meet)
@@ -44,14 +56,19 @@ def tie_clues(board, joined, meets):
             told.setdefault("=".join(names), (found[0], NO_NET in names))
     for names, (component, is_unnamed) in list(told.items())[:MOST_TOLD]:
         if not is_unnamed:
-            link = "=" if names.startswith("-") else " "        # so that a name as -12V is taken for no option
-            yield Clue(SUGGESTED, f"both have pins of {component} there; where it is to join them, --tie{link}{shlex.quote(names)} declares it.")
+            link = "=" if names.startswith("-") else " "  # so that a name as -12V is taken for no option
+            yield Clue(
+                SUGGESTED,
+                f"both have pins of {component} there; where it is to join them, --tie{link}{shlex.quote(names)} declares it.",
+            )
 
 
 def meet_clues(board, joined, meets):
     """A sentence for each place, the first few."""
     if not joined.is_labelled and joined.labels:
-        yield Clue(KNOWN, f"All its labelled copper says {joined.labels[0]}: the netlist's names differ from the files' own.")
+        yield Clue(
+            KNOWN, f"All its labelled copper says {joined.labels[0]}: the netlist's names differ from the files' own."
+        )
     why = LABELLED if joined.is_labelled else SUGGESTED
     yield from (Clue(why, f"{meet_words(board, meet)}.") for meet in meets[:MOST_TOLD])
     if joined.count > MOST_TOLD:
@@ -67,19 +84,33 @@ def meet_words(board, meet):
     sources = list(dict.fromkeys(map(board.source, meet.between)))
     many = len(meet.between)
     are = "is one piece" if many == 1 else f"are {many} pieces" if len(sources) > 1 else f"makes {many} pieces"
-    ends = f", between {board.source(first)} and {board.source(second)}" if board.source(first) != board.source(second) else ""
+    ends = (
+        f", between {board.source(first)} and {board.source(second)}"
+        if board.source(first) != board.source(second)
+        else ""
+    )
     return f"{one} and {other} meet on {where}; {wording.spoken(sources, 4)} {are} that could be either's{ends}"
 
 
 def by_branch(board, branches):
     """Where the copper is not known, or was too much to look through: the paths of the report, piece by piece."""
     found = []
-    for name, _, pieces in branches[1:1 + MOST_TOLD]:
+    for name, _, pieces in branches[1 : 1 + MOST_TOLD]:
         if len(pieces) > 1:
-            found.append(Clue(KNOWN, f"{board.spoken_name(name)} reaches the others over {wording.spoken([board.source(piece) for piece in pieces], 8)}."))
+            found.append(
+                Clue(
+                    KNOWN,
+                    f"{board.spoken_name(name)} reaches the others over {wording.spoken([board.source(piece) for piece in pieces], 8)}.",
+                )
+            )
         step = label_step(board, pieces)
         if step:
-            found.append(Clue(LABELLED, f"{board.source(step[0])} of {board.labels[step[0]]} reaches {board.source(step[1])} of {board.labels[step[1]]}."))
+            found.append(
+                Clue(
+                    LABELLED,
+                    f"{board.source(step[0])} of {board.labels[step[0]]} reaches {board.source(step[1])} of {board.labels[step[1]]}.",
+                )
+            )
     return found
 
 

@@ -14,8 +14,8 @@ from .board import Board
 from .finding import MISSING, OPEN, SHORT, Finding
 
 KINDS = (OPEN, SHORT, MISSING)
-NEAR = 50_000               # 5 micrometres: two roundings of a netlist's place
-WITHIN = 10_000_000         # the radius of a short's place where the waiver says none, and the most that it may say
+NEAR = 50_000  # 5 micrometres: two roundings of a netlist's place
+WITHIN = 10_000_000  # the radius of a short's place where the waiver says none, and the most that it may say
 MOST_WITHIN = 50_000_000
 
 Place = Tuple[int, int, int]
@@ -45,6 +45,7 @@ class Waived(NamedTuple):
 
 # ---- what a waiver of a finding would say
 
+
 class Pins:
     """The pins of findings, by the points of each name."""
 
@@ -57,18 +58,31 @@ class Pins:
 
     def component_pin(self, point: int) -> str:
         record = self.board.record(point)
-        return f"{record.component}-{record.pin}" if record and record.component and record.pin and record.component != "VIA" else ""
+        return (
+            f"{record.component}-{record.pin}"
+            if record and record.component and record.pin and record.component != "VIA"
+            else ""
+        )
 
     def pin(self, point: int) -> str:
         """A point by its part and pin where no other one has these, else with its place: a pin may have several
         pads."""
         pin, (x, y) = self.component_pin(point), self.board.spot(point)
-        return pin if pin and self.counts[pin] == 1 else f"{pin}@{millimetres(x)},{millimetres(y)},{self.board.layer(point)}"
+        return (
+            pin
+            if pin and self.counts[pin] == 1
+            else f"{pin}@{millimetres(x)},{millimetres(y)},{self.board.layer(point)}"
+        )
 
     def part(self, finding: Finding, point: int) -> FrozenSet[str]:
         """The pins of a finding's names that copper joins to one of its points."""
         net = self.report.points[point][3]
-        points = [other for name in finding.names for other in self.of_name.get(name, ()) if self.report.points[other][3] == net]
+        points = [
+            other
+            for name in finding.names
+            for other in self.of_name.get(name, ())
+            if self.report.points[other][3] == net
+        ]
         return frozenset(self.pin(other) for other in points) if net >= 0 else frozenset([self.pin(point)])
 
     def of(self, finding: Finding) -> Tuple[FrozenSet[str], ...]:
@@ -93,8 +107,9 @@ def places_of(board: Board, finding: Finding) -> List[Place]:
 
 # ---- whether one is of a finding
 
+
 def is_near(one: Place, other: Place, most: int) -> bool:
-    return one[2] == other[2] and (one[0] - other[0]) ** 2 + (one[1] - other[1]) ** 2 <= most ** 2
+    return one[2] == other[2] and (one[0] - other[0]) ** 2 + (one[1] - other[1]) ** 2 <= most**2
 
 
 def explains(board: Board, finding: Finding, waivers: Sequence[Waiver]) -> bool:
@@ -102,9 +117,8 @@ def explains(board: Board, finding: Finding, waivers: Sequence[Waiver]) -> bool:
     nets = sorted({board.report.points[point][3] for point in finding.points} - {-1})
     if not waivers or board.shapes is None or not nets:
         return False
-    from .cut_nets import (        # few boards have such waivers
-        Cut
-    )
+    from .cut_nets import Cut  # few boards have such waivers
+
     discs = [(place, waiver.within) for waiver in waivers for place in waiver.places]
     return all(Cut(board, net, discs).is_explained() for net in nets)
 
@@ -135,14 +149,22 @@ class Waivers:
             return False
         if finding.kind == SHORT:
             return True
-        if finding.kind == MISSING and not any(is_near(place, it, NEAR) for place in waiver.places for it in places_of(self.low, finding)):
+        if finding.kind == MISSING and not any(
+            is_near(place, it, NEAR) for place in waiver.places for it in places_of(self.low, finding)
+        ):
             return False
         return tuple(sorted(waiver.pins, key=sorted)) == self.pins[bool(finding.sure)].of(finding)
 
     def of(self, finding: Finding) -> Optional[Waiver]:
         """The waiver of a finding, or None; each but those of shorts is of one finding alone."""
-        known = [k for k, it in enumerate(self.waivers) if self.is_of(it, finding) and (finding.kind == SHORT or k not in self.used)]
-        if finding.kind == SHORT and not all(explains(board, finding, [self.waivers[k] for k in known]) for board in (self.low, self.high)):
+        known = [
+            k
+            for k, it in enumerate(self.waivers)
+            if self.is_of(it, finding) and (finding.kind == SHORT or k not in self.used)
+        ]
+        if finding.kind == SHORT and not all(
+            explains(board, finding, [self.waivers[k] for k in known]) for board in (self.low, self.high)
+        ):
             return None
         self.used.update(known if finding.kind == SHORT else known[:1])
         return self.waivers[known[0]] if known else None

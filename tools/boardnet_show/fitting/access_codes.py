@@ -18,7 +18,8 @@ class Spans:
 
     def __init__(self, package: Package) -> None:
         self.holes: List[Tuple[int, int, Set[Tuple[int, int]]]] = [
-            (first, last, near_cells(places(package.read(name)))) for name, first, last in package.manifest.drills]
+            (first, last, near_cells(places(package.read(name)))) for name, first, last in package.manifest.drills
+        ]
 
     def at(self, x: int, y: int) -> List[int]:
         reached = (range(first, last + 1) for first, last, cells in self.holes if is_near(cells, x, y))
@@ -33,6 +34,7 @@ def via_layers(package: Package, unit: int) -> Optional[LayerOf]:
         found = spans.at(place.x * unit, place.y * unit) if place.is_through else []
         wanted = {place.access} if place.access else {1, last}
         return found[0] if found and not wanted <= set(found) else None
+
     return layer
 
 
@@ -56,6 +58,7 @@ def changed_codes(data: bytes, layer_of: LayerOf) -> Tuple[bytes, int]:
         layer = layer_of(ipc356.place_of(line))
         count += layer is not None
         return line if layer is None else ipc356.with_access(line, layer)
+
     return ipc356.changed(data, change), count
 
 

@@ -16,7 +16,16 @@ from boardnet_show.formats.units import MM
 from boardnet_show.intake.package import Drilled, Taken
 
 from . import access_codes
-from .changes import Change, CodesRead, CopperPlaced, DecimalsRead, DigitsRead, DrillsPlaced, LayersOrdered, NetlistPlaced
+from .changes import (
+    Change,
+    CodesRead,
+    CopperPlaced,
+    DecimalsRead,
+    DigitsRead,
+    DrillsPlaced,
+    LayersOrdered,
+    NetlistPlaced,
+)
 from .placement import FORMS
 
 FORM = 1
@@ -65,7 +74,10 @@ class Reader:
         return dict(value)
 
     def texts(self, value: Any, what: str) -> Tuple[str, ...]:
-        self.need(isinstance(value, list) and bool(value) and all(isinstance(it, str) and it for it in value), f"{what} is no list of names")
+        self.need(
+            isinstance(value, list) and bool(value) and all(isinstance(it, str) and it for it in value),
+            f"{what} is no list of names",
+        )
         return tuple(value)
 
     def words(self, value: Any, what: str) -> str:
@@ -76,7 +88,10 @@ class Reader:
         """A length in millimetres, exactly."""
         text = value if isinstance(value, str) else json.dumps(value)
         found = re.fullmatch(r"(-?)(\d{1,4})(?:\.(\d{1,7}))?", text)
-        self.need(bool(found) and not isinstance(value, bool), f"{text[:40]} is no length in millimetres with at most seven decimals")
+        self.need(
+            bool(found) and not isinstance(value, bool),
+            f"{text[:40]} is no length in millimetres with at most seven decimals",
+        )
         sign, whole, part = found.groups() if found else ("", "0", "")
         return (-1 if sign else 1) * (int(whole) * MM + int((part or "").ljust(7, "0")))
 
@@ -85,7 +100,10 @@ class Reader:
         return self.length(value[0]), self.length(value[1])
 
     def whole(self, value: Any, least: int, most: int, what: str) -> int:
-        self.need(isinstance(value, int) and not isinstance(value, bool) and least <= value <= most, f"{what} is no whole number from {least} to {most}")
+        self.need(
+            isinstance(value, int) and not isinstance(value, bool) and least <= value <= most,
+            f"{what} is no whole number from {least} to {most}",
+        )
         return int(value)
 
     # ---- changes
@@ -135,7 +153,14 @@ class Reader:
         return CodesRead(its["rule"], 0, 0)
 
     def change(self, value: Any) -> Change:
-        of: Tuple[Callable[[Any], Change], ...] = (self.netlist, self.drills, self.copper, self.layers, self.digits, self.codes)
+        of: Tuple[Callable[[Any], Change], ...] = (
+            self.netlist,
+            self.drills,
+            self.copper,
+            self.layers,
+            self.digits,
+            self.codes,
+        )
         kind = value.get("of") if isinstance(value, dict) else None
         self.need(kind in CHANGES, f"a change is `of` one of {', '.join(CHANGES)}")
         return of[CHANGES.index(str(kind))](value)
@@ -167,12 +192,30 @@ class Reader:
         self.need(bool(DATE.fullmatch(str(its["date"]))), "`date` is no day as 2026-12-01")
         pins, places = its.get("pins", []), its.get("places", [])
         self.need(isinstance(pins, list) and isinstance(places, list), "`pins` or `places` is no list")
-        self.need(bool(pins) if its["kind"] == OPEN else bool(places), f"a waiver of a finding of the kind {its['kind']} has its {'pins' if its['kind'] == OPEN else 'places'}")
-        self.need(its["kind"] != MISSING or len(places) == len(pins) == 1, "a waiver of a missing point has one pin and one place")
+        self.need(
+            bool(pins) if its["kind"] == OPEN else bool(places),
+            f"a waiver of a finding of the kind {its['kind']} has its {'pins' if its['kind'] == OPEN else 'places'}",
+        )
+        self.need(
+            its["kind"] != MISSING or len(places) == len(pins) == 1,
+            "a waiver of a missing point has one pin and one place",
+        )
         within = self.length(its["within"]) if "within" in its else WITHIN
-        self.need(0 < within <= MOST_WITHIN and (its["kind"] == SHORT or "within" not in its), "`within` is over 0 and at most 5 mm, of a short")
-        return Waiver(its["kind"], self.texts(its["names"], "`names`"), self.words(its["reason"], "`reason`"), self.words(its["author"], "`author`"), its["date"],
-                      tuple(frozenset(self.texts(it, "`pins`")) for it in pins), tuple(map(self.spot, places)), within, self.source)
+        self.need(
+            0 < within <= MOST_WITHIN and (its["kind"] == SHORT or "within" not in its),
+            "`within` is over 0 and at most 5 mm, of a short",
+        )
+        return Waiver(
+            its["kind"],
+            self.texts(its["names"], "`names`"),
+            self.words(its["reason"], "`reason`"),
+            self.words(its["author"], "`author`"),
+            its["date"],
+            tuple(frozenset(self.texts(it, "`pins`")) for it in pins),
+            tuple(map(self.spot, places)),
+            within,
+            self.source,
+        )
 
     def all_of(self, value: Any, key: str, of: Callable[[Any], Any]) -> Tuple[Any, ...]:
         its = value.get(key, [])
@@ -183,7 +226,13 @@ class Reader:
         its = self.fields(value, ("boardnet", *KEYS, "netlist", "no_drills"), ("boardnet",))
         self.need(its["boardnet"] == FORM and not isinstance(its["boardnet"], bool), f"its form is not {FORM}")
         of: Dict[str, Callable[[Any], Any]] = {
-            "changes": self.change, "made": self.change, "taken": self.taken, "plated": self.drilled, "ties": self.tie, "waivers": self.waiver}
+            "changes": self.change,
+            "made": self.change,
+            "taken": self.taken,
+            "plated": self.drilled,
+            "ties": self.tie,
+            "waivers": self.waiver,
+        }
         self.need(its.get("no_drills", True) is True, "`no_drills` is not true")
         netlist = self.words(its["netlist"], "`netlist`") if "netlist" in its else ""
         changes, made, taken, drilled, ties, waivers = (self.all_of(its, key, of[key]) for key in KEYS)
@@ -208,27 +257,45 @@ def of_bytes(data: bytes, source: str) -> Declared:
 
 # ---- back
 
+
 def millimetres(u: int) -> Any:
     """A length as JSON has it: its decimal text is exact."""
     return u / MM if u % MM else u // MM
 
 
 def placed_values(turn: int, by: Tuple[int, int]) -> Dict[str, Any]:
-    return {**({"turn": TURNS[turn]} if turn else {}), **({"moved": [*map(millimetres, by)]} if tuple(by) != (0, 0) else {})}
+    return {
+        **({"turn": TURNS[turn]} if turn else {}),
+        **({"moved": [*map(millimetres, by)]} if tuple(by) != (0, 0) else {}),
+    }
 
 
 def change_values(change: Change) -> Dict[str, Any]:
     if isinstance(change, NetlistPlaced):
         unit = {code: word for word, code in UNITS.items()}
-        return {"of": "netlist", **({"unit": unit[change.unit]} if change.unit else {}), **placed_values(change.turn, change.by)}
+        return {
+            "of": "netlist",
+            **({"unit": unit[change.unit]} if change.unit else {}),
+            **placed_values(change.turn, change.by),
+        }
     if isinstance(change, DrillsPlaced):
-        return {"of": "drills", **({} if change.are_all else {"files": list(change.files)}), **placed_values(change.turn, change.by)}
+        return {
+            "of": "drills",
+            **({} if change.are_all else {"files": list(change.files)}),
+            **placed_values(change.turn, change.by),
+        }
     if isinstance(change, CopperPlaced):
         return {"of": "copper", **placed_values(change.turn, change.by)}
     if isinstance(change, LayersOrdered):
         return {"of": "layers", "order": list(change.order)}
     if isinstance(change, DecimalsRead):
-        return {"of": "digits", "files": [{"file": it.file, "decimals": it.decimals, **({"digits": it.width} if it.width else {})} for it in change.files]}
+        return {
+            "of": "digits",
+            "files": [
+                {"file": it.file, "decimals": it.decimals, **({"digits": it.width} if it.width else {})}
+                for it in change.files
+            ],
+        }
     return {"of": "codes", "rule": change.rule}
 
 
@@ -245,10 +312,13 @@ def waiver_values(waiver: Waiver) -> Dict[str, Any]:
 
 def values(declared: Declared) -> Dict[str, Any]:
     rows: Dict[str, List[Any]] = {
-        "changes": [*map(change_values, declared.changes)], "made": [*map(change_values, declared.made)],
+        "changes": [*map(change_values, declared.changes)],
+        "made": [*map(change_values, declared.made)],
         "taken": [{"file": it.file, "as": it.what} for it in declared.taken],
         "plated": [{"file": it.file, "from": it.first, "to": it.last} for it in declared.drilled],
-        "ties": [text.split("=") for text in declared.ties], "waivers": [*map(waiver_values, declared.waivers)]}
+        "ties": [text.split("=") for text in declared.ties],
+        "waivers": [*map(waiver_values, declared.waivers)],
+    }
     more: Dict[str, Any] = {"netlist": declared.netlist} if declared.netlist else {}
     if declared.has_no_drills:
         more["no_drills"] = True

@@ -9,7 +9,7 @@ from .layer_order import is_near, near_cells
 from .placement import records, text_of, unit_of
 
 DECIMALS = range(2, 6)
-MOST = 8            # readings that are tried
+MOST = 8  # readings that are tried
 
 
 class Reading(NamedTuple):
@@ -39,13 +39,14 @@ def readings(data: bytes) -> List[Reading]:
 
 def with_point(data: bytes, reading: Reading) -> bytes:
     """The file with points, and its unit line without a word on zeros."""
+
     def pointed(number: bytes) -> bytes:
         if b"." in number:
             return number
         digits = number.lstrip(b"+-")
-        sign = number[:len(number) - len(digits)]
+        sign = number[: len(number) - len(digits)]
         digits = digits.ljust(reading.width, b"0") if reading.width else digits.rjust(reading.decimals + 1, b"0")
-        return sign + digits[:-reading.decimals] + b"." + digits[-reading.decimals:]
+        return sign + digits[: -reading.decimals] + b"." + digits[-reading.decimals :]
 
     raw = data.split(b"\n")
     for line in lines(data):
@@ -91,8 +92,11 @@ def likeliest(by_file):
     beginnings."""
     best = [(0, (), ())]
     for its in by_file:
-        longer = [(off - fit.on, (*before, place), (*chosen, fit))
-                  for off, before, chosen in best for place, fit in enumerate(its)]
+        longer = [
+            (off - fit.on, (*before, place), (*chosen, fit))
+            for off, before, chosen in best
+            for place, fit in enumerate(its)
+        ]
         best = sorted(longer, key=lambda row: row[:2])[:MOST]
     return [chosen for _, _, chosen in best]
 

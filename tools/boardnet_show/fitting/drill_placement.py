@@ -15,8 +15,8 @@ from .changes import CopperPlaced, DrillsPlaced
 from .layer_order import is_near, near_cells
 from .placement import ENOUGH, FORMS, MANY, SAMPLE, all_flashes, moved, records, text_of, unit_of, vote
 
-STEP = 10_000           # a micrometre: what shifts of holes are rounded to
-TRIED = 4               # shifts of one file
+STEP = 10_000  # a micrometre: what shifts of holes are rounded to
+TRIED = 4  # shifts of one file
 # The form that takes a form back, by its number.
 BACK = (0, 1, 2, 3, 5, 4, 6, 7)
 
@@ -24,6 +24,7 @@ Form = Callable[[Q, Q], Tuple[Q, Q]]
 
 
 # ---- a drill file, moved
+
 
 class Moved:
     """A drill file in millimetres with all places through a form and moved by whole u, each coordinate written out."""
@@ -40,7 +41,7 @@ class Moved:
                 size = round(Q(record.sizes()[0].decode()) * unit)
                 raw[line.number - 1] = record.name + b"C" + decimal_millimetres(size).encode()
             elif line.part == HEADER and isinstance(record, Unit):
-                raw[line.number - 1] = b"METRIC" + line.text[len(record.name):]
+                raw[line.number - 1] = b"METRIC" + line.text[len(record.name) :]
         self.data = b"\n".join(raw)
 
     def moved(self, place: Place) -> Place:
@@ -59,6 +60,7 @@ def drill_moved(data: bytes, form: Form, by: Tuple[int, int]) -> Optional[bytes]
 
 # ---- how holes lie on pads
 
+
 class Holes:
     """The holes of each drill file and the centres of pads of a package."""
 
@@ -67,16 +69,21 @@ class Holes:
         self.of = {name: sorted(set(places(package.read(name)))) for name, _, _ in package.manifest.drills}
         cells = near_cells(self.pads)
         # Files of which at most half of the holes lie on the middle of a pad.
-        self.off = [name for name, holes in self.of.items()
-                    if holes and self.pads and 2 * sum(is_near(cells, *hole) for hole in holes) <= len(holes)]
+        self.off = [
+            name
+            for name, holes in self.of.items()
+            if holes and self.pads and 2 * sum(is_near(cells, *hole) for hole in holes) <= len(holes)
+        ]
 
     def candidates(self, names):
         """(form, shift in u) that bring most holes of these files onto pads, the likeliest first."""
         holes = sorted({hole for name in names for hole in self.of[name]})
-        sample, centres, found = holes[::max(1, len(holes) // SAMPLE)][:SAMPLE], sorted(self.pads), []
+        sample, centres, found = holes[:: max(1, len(holes) // SAMPLE)][:SAMPLE], sorted(self.pads), []
         for turn, (_, form) in enumerate(FORMS if len(centres) <= MANY else FORMS[:1]):
-            found += [(-Q(n, len(sample)), turn > 0, turn, tuple(v * STEP for v in by))
-                      for n, by in vote(sample, centres, form, STEP)]
+            found += [
+                (-Q(n, len(sample)), turn > 0, turn, tuple(v * STEP for v in by))
+                for n, by in vote(sample, centres, form, STEP)
+            ]
             if -min(found)[0] > ENOUGH:
                 break
         return [(turn, by) for _, _, turn, by in sorted(found) if (turn, by) != (0, (0, 0))][:TRIED]
@@ -96,6 +103,7 @@ def moved_drills(holes, names):
 
 
 # ---- the copper, moved: where netlist and drills fit each other, both go the other way
+
 
 def fit_each_other(package, holes):
     """Whether most through points lie on holes."""

@@ -19,9 +19,9 @@ from .changes import Change, NowherePlaced
 from .layer_order import as_labelled, layerings
 from .placement import placements
 
-TRIED = 4           # placements that are checked, at most
+TRIED = 4  # placements that are checked, at most
 NOWHERE = "no placement"
-UPSIDE_DOWN = 2     # the turn of `placement.FORMS` that a tool's setting makes
+UPSIDE_DOWN = 2  # the turn of `placement.FORMS` that a tool's setting makes
 
 
 class Hint(NamedTuple):
@@ -66,7 +66,11 @@ class Trial(NamedTuple):
 
     def is_wanting(self) -> bool:
         """So much is wrong that something else than the copper may be."""
-        return self.report is not None and self.status != 0 and (self.is_misplaced() or self.rank()[1] * 3 > len(self.report.names) + 3)
+        return (
+            self.report is not None
+            and self.status != 0
+            and (self.is_misplaced() or self.rank()[1] * 3 > len(self.report.names) + 3)
+        )
 
     def is_refused_for(self, kind: str) -> bool:
         return any(it.kind == kind for it in self.refusals)
@@ -88,12 +92,11 @@ class Trials:
         """The answer on a judged package, by bounds where it is refused for its copper."""
         if told.report or not told.refusal or not told.refusal.has_bounds():
             return self.plain(told, changes)
-        from boardnet_show.geometry import (        # few boards want them, and loading takes longer than a small board
-            exact
+        from boardnet_show.geometry import exact  # few boards want them, and loading takes longer than a small board
+        from boardnet_show.judging import (  # few boards want them, and loading takes longer than a small board
+            two_bounds,
         )
-        from boardnet_show.judging import (        # few boards want them, and loading takes longer than a small board
-            two_bounds
-        )
+
         try:
             both, _, high = two_bounds.judge(self.program, told.package, self.ties)
         except exact.Refused as why:
@@ -103,7 +106,14 @@ class Trials:
         return Trial(told.package, both.answer, high.report, self.ties, (told.refusal,), changes)
 
     def plain(self, told, changes):
-        return Trial(told.package, self.ties.answer(told), told.report, self.ties, (told.refusal,) if told.refusal else (), changes)
+        return Trial(
+            told.package,
+            self.ties.answer(told),
+            told.report,
+            self.ties,
+            (told.refusal,) if told.refusal else (),
+            changes,
+        )
 
     def of(self, base, change, files=None, manifest=None):
         """The answer on a copy of what was tried before, with other files or another manifest."""
@@ -122,6 +132,7 @@ def decimals(trials, base):
     """Every reading of numbers without a point that fits, with its answer; where no hole says which fits, those that
     agree."""
     from .drill_decimals import implied
+
     for change, files, on in implied(base.package):
         answer = trials.of(base, change, files)
         if answer.report and (on or answer.status == 0):
@@ -191,7 +202,9 @@ def drills(trials, base):
 def each_alone(trials, base, holes):
     for name in holes.off[:TRIED] if len(holes.off) > 1 else ():
         left = trials.holes(base.package)
-        for found, answer in best(trials, base, "drills", drill_placement.moved_drills(left, [name]), [name]) if name in left.off else ():
+        for found, answer in (
+            best(trials, base, "drills", drill_placement.moved_drills(left, [name]), [name]) if name in left.off else ()
+        ):
             yield found, answer
             base = answer
 
@@ -201,7 +214,13 @@ def copper(trials, base):
     if base.is_misplaced() and base.package.manifest.drills:
         holes = trials.holes(base.package)
         if holes.off and drill_placement.fit_each_other(base.package, holes):
-            yield from best(trials, base, "copper", drill_placement.moved_copper(base.package, holes), base.package.manifest.copper[:1])
+            yield from best(
+                trials,
+                base,
+                "copper",
+                drill_placement.moved_copper(base.package, holes),
+                base.package.manifest.copper[:1],
+            )
 
 
 def best_placement(trials, base):
@@ -210,7 +229,10 @@ def best_placement(trials, base):
     for (change, files), _ in zip(placements(base.package, without), range(TRIED)):
         answer = trials.of(base, change, files)
         if answer.report and (found is None or answer.rank() < found[1].rank()):
-            found = hint("placement", answer, setting(base.package, "placement", base.package.manifest.copper[:1])), answer
+            found = (
+                hint("placement", answer, setting(base.package, "placement", base.package.manifest.copper[:1])),
+                answer,
+            )
         if answer.status == 0:
             break
     return found
@@ -288,5 +310,5 @@ def hints(program, told, ties=Ties()):
     try:
         found.extend(all_hints(program, told, ties))
     except (Stop, OSError, ValueError):
-        pass    # a hint changes no status: what was found so far is told
+        pass  # a hint changes no status: what was found so far is told
     return found

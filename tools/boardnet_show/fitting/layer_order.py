@@ -5,7 +5,7 @@ from boardnet_show.intake import own_declarations
 from .changes import POINTS, SAID, LayersOrdered
 from .placement import flashes
 
-NEAR = 50_000       # 5 micrometres: two roundings of a netlist's place
+NEAR = 50_000  # 5 micrometres: two roundings of a netlist's place
 
 
 def near_cells(spots):
@@ -20,8 +20,10 @@ def scores(package, surface, unit):
     """For the first and the last layer, how many of its surface points have a pad of each file."""
     layers = package.manifest.layers
     cells = [near_cells(flashes(package, k)) for k in range(layers)]
-    return [[sum(is_near(cells[k], r.x * unit, r.y * unit) for r in surface if r.access == access) for k in range(layers)]
-            for access in (1, layers)]
+    return [
+        [sum(is_near(cells[k], r.x * unit, r.y * unit) for r in surface if r.access == access) for k in range(layers)]
+        for access in (1, layers)
+    ]
 
 
 def reordered(manifest, order):
@@ -38,7 +40,9 @@ def layerings(package):
     if layers < 2 or unit is None or not surface:
         return
     top, bottom = scores(package, surface, unit)
-    best = max((top[a] + bottom[b], a == 0, b == layers - 1, a, b) for a in range(layers) for b in range(layers) if a != b)
+    best = max(
+        (top[a] + bottom[b], a == 0, b == layers - 1, a, b) for a in range(layers) for b in range(layers) if a != b
+    )
     total, *_, first, last = best
     if total <= top[0] + bottom[-1]:
         return

@@ -17,18 +17,26 @@ from boardnet_show.intake.evidence import pad_middles
 
 from .changes import NetlistPlaced
 
-SAMPLE = 40             # records that vote
-FEW, MANY = 8, 20_000   # centres
-ENOUGH = Q(3, 4)        # of the votes: no other centres are asked
-MOST_VOTED = 6          # cells of shifts that are looked at
-WIDE = 1 << 45          # more than twice what a shift has in units
+SAMPLE = 40  # records that vote
+FEW, MANY = 8, 20_000  # centres
+ENOUGH = Q(3, 4)  # of the votes: no other centres are asked
+MOST_VOTED = 6  # cells of shifts that are looked at
+WIDE = 1 << 45  # more than twice what a shift has in units
 Form = Callable[[int, int], Tuple[int, int]]
-FORMS = [("", lambda x, y: (x, y)), ("mirrored left to right", lambda x, y: (-x, y)), ("mirrored upside down", lambda x, y: (x, -y)),
-         ("turned by half", lambda x, y: (-x, -y)), ("turned by a quarter", lambda x, y: (-y, x)), ("turned by three quarters", lambda x, y: (y, -x)),
-         ("mirrored and turned by a quarter", lambda x, y: (y, x)), ("mirrored and turned by three quarters", lambda x, y: (-y, -x))]
+FORMS = [
+    ("", lambda x, y: (x, y)),
+    ("mirrored left to right", lambda x, y: (-x, y)),
+    ("mirrored upside down", lambda x, y: (x, -y)),
+    ("turned by half", lambda x, y: (-x, -y)),
+    ("turned by a quarter", lambda x, y: (-y, x)),
+    ("turned by three quarters", lambda x, y: (y, -x)),
+    ("mirrored and turned by a quarter", lambda x, y: (y, x)),
+    ("mirrored and turned by three quarters", lambda x, y: (-y, -x)),
+]
 
 
 # ---- netlists
+
 
 def text_of(package, name):
     return package.read(name).decode("latin-1")
@@ -49,12 +57,14 @@ class Outside(Exception):
 
 def moved(text: str, form: Form, by: Sequence[int]) -> Optional[str]:
     """The netlist with all places through a form and moved by whole units; None where six digits do not hold them."""
+
     def change(line: bytes) -> bytes:
         place = ipc356.place_of(line)
         x, y = (v + d for v, d in zip(form(place.x, place.y), by))
         if max(abs(x), abs(y)) > ipc356.MOST:
             raise Outside
         return ipc356.with_place(line, x, y)
+
     try:
         return ipc356.changed(text.encode("latin-1"), change).decode("latin-1")
     except Outside:
@@ -62,6 +72,7 @@ def moved(text: str, form: Form, by: Sequence[int]) -> Optional[str]:
 
 
 # ---- centres
+
 
 def flashes(package, index):
     """Centres of the flashes of a copper file, in u: found once for all changed copies that have the file, too."""
@@ -80,7 +91,9 @@ def voters(package, text, without):
     """Places of records with centres that they may lie on: through points and holes, else all points and all centres.
     The holes of some drill files have no vote."""
     told = records(text)
-    holes = sorted({spot for name, _, _ in package.manifest.drills if name not in without for spot in places(package.read(name))})
+    holes = sorted(
+        {spot for name, _, _ in package.manifest.drills if name not in without for spot in places(package.read(name))}
+    )
     through = sorted({(r.x, r.y) for r in told if r.is_through})
     enough = min(len(through), len(holes)) >= FEW
     if enough:
@@ -92,6 +105,7 @@ def voters(package, text, without):
 
 # ---- votes
 
+
 def middle(counts):
     values = sorted(counts.elements())
     return values[len(values) // 2]
@@ -102,7 +116,9 @@ def vote(sample, centres, form, unit):
     turned = [form(x, y) for x, y in sample]
     votes = counted(turned, centres, unit)
     around = lambda c: sum(votes[coded(c[0] + i, c[1] + j)] for i in (0, 1) for j in (0, 1))
-    best = sorted(((around(cell), cell) for cell in most_voted(votes, turned, centres, unit)), key=lambda v: (-v[0], v[1]))
+    best = sorted(
+        ((around(cell), cell) for cell in most_voted(votes, turned, centres, unit)), key=lambda v: (-v[0], v[1])
+    )
     near = Near(centres, 2 * unit)
     for n, cell in best[:2]:
         yield n, settled(turned, near, cell, unit)
@@ -155,8 +171,13 @@ class Near:
     def within(self, x, y):
         """Those less than a side right of a place and above it."""
         across, up = x // self.side, y // self.side
-        return [(cx, cy) for i in (0, 1) for j in (0, 1) for cx, cy in self.squares.get((across + i, up + j), ())
-                if 0 <= cx - x < self.side and 0 <= cy - y < self.side]
+        return [
+            (cx, cy)
+            for i in (0, 1)
+            for j in (0, 1)
+            for cx, cy in self.squares.get((across + i, up + j), ())
+            if 0 <= cx - x < self.side and 0 <= cy - y < self.side
+        ]
 
 
 def settled(turned, near, cell, unit):
@@ -173,11 +194,14 @@ def votes(package, text, declared, without=()):
     """((less the share of the votes, changes), (other unit, form, shift)), over both units and eight forms."""
     found = []
     for places, centres in voters(package, text, without):
-        sample = places[::max(1, len(places) // SAMPLE)][:SAMPLE]
+        sample = places[:: max(1, len(places) // SAMPLE)][:SAMPLE]
         for other, unit in enumerate((declared, sum(UNIT_WORDS) - declared)):
             for turn, (_, form) in enumerate(FORMS):
                 here = [(x * unit, y * unit) for x, y in sample]
-                found += [((-Q(n, len(sample)), other + (turn > 0) + (by != (0, 0))), (other, turn, by)) for n, by in vote(here, centres, form, unit)]
+                found += [
+                    ((-Q(n, len(sample)), other + (turn > 0) + (by != (0, 0))), (other, turn, by))
+                    for n, by in vote(here, centres, form, unit)
+                ]
         if found and -min(found)[0][0] > ENOUGH:
             break
     return sorted(found)

@@ -112,7 +112,7 @@ def negatives(data: bytes) -> List[Attribute]:
 def has_names(data: bytes, name: bytes, field: int = 1) -> bool:
     """Whether a file has an attribute of objects of this name, as `.N`, with something in a field behind it."""
     found = (it for it in of_file(data, b"TO" + name) if it.kind == b"TO" and it.is_named(name))
-    return any(b"".join(it.fields[field:field + 1]).strip() for it in found)
+    return any(b"".join(it.fields[field : field + 1]).strip() for it in found)
 
 
 def written(data: bytes) -> bytes:
@@ -121,6 +121,6 @@ def written(data: bytes) -> bytes:
     for it in holding(data, b"#@!"):
         said = b"" if it.inside else said_by(it.text)
         if said:
-            parts += [data[at:it.start], b"%" + said + b"*%"]
+            parts += [data[at : it.start], b"%" + said + b"*%"]
             at = it.end + 1
     return b"".join([*parts, data[at:]])

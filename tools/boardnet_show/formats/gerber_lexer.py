@@ -12,8 +12,9 @@ from typing import Dict, Iterable, Iterator, List, NamedTuple, Optional, Sequenc
 # Mode, x, y, centre and code of an operation, each with what stands behind its letter; a centre with its letters.
 Parts = Tuple[Optional[bytes], Optional[bytes], Optional[bytes], bytes, Optional[bytes]]
 
-OPERATION_PARTS = (rb"(?:G0?([123]))?(?:X([+-]?[0-9]{1,13}))?(?:Y([+-]?[0-9]{1,13}))?((?:[IJ][+-]?[0-9]{1,13})*)"
-                   rb"(?:D0?([123]))?")
+OPERATION_PARTS = (
+    rb"(?:G0?([123]))?(?:X([+-]?[0-9]{1,13}))?(?:Y([+-]?[0-9]{1,13}))?((?:[IJ][+-]?[0-9]{1,13})*)" rb"(?:D0?([123]))?"
+)
 OPERATION = re.compile(OPERATION_PARTS)
 # An operation, a percent sign, or a word and its star. It matches everywhere, so that what has no star is looked at
 # once.
@@ -21,18 +22,19 @@ TOKEN = re.compile(rb"[\t\n\r ]*(?:(" + OPERATION_PARTS + rb")\*|(%)|([^*%]*)(\*
 DECIMAL = rb"[+-]?(?:[0-9]+\.?[0-9]*|\.[0-9]+)"
 PLACED = re.compile(rb"[\t\n\r ]*X[+-]?[0-9]{1,13}Y[+-]?[0-9]{1,13}D0?[12]\*")
 # Words that most files have most: a place with its code, and an aperture.
-PLAIN_WORDS = re.compile(rb"(?:[\t\n\r ]*(?:(?:X[+-]?[0-9]{1,13})?(?:Y[+-]?[0-9]{1,13})?D0?[123]"
-                         rb"|D[1-9][0-9]{1,8})\*){2,500}")
+PLAIN_WORDS = re.compile(
+    rb"(?:[\t\n\r ]*(?:(?:X[+-]?[0-9]{1,13})?(?:Y[+-]?[0-9]{1,13})?D0?[123]" rb"|D[1-9][0-9]{1,8})\*){2,500}"
+)
 PLAIN_WORD = re.compile(rb"(?:(?:X([+-]?[0-9]+))?(?:Y([+-]?[0-9]+))?D0?([123])|D([0-9]+))\*")
-NUMBERS = bytes.maketrans(b"XYD*", b"    ")    # words of X, Y and D become their numbers
+NUMBERS = bytes.maketrans(b"XYD*", b"    ")  # words of X, Y and D become their numbers
 BLANKS = b"\t\n\r "
 FILE_ENDS = (b"M02*", b"M2*")
-MOST_DIGITS = 100           # of a decimal
+MOST_DIGITS = 100  # of a decimal
 MOST_COORDINATE_DIGITS = 13
-FEW = 40                    # bytes that are taken word by word
+FEW = 40  # bytes that are taken word by word
 DRAW_CODE, MOVE_CODE = 1, 2
 ARC_WORD, QUADRANTS_WORD = re.compile(rb"G0?[23](?![0-9])"), re.compile(rb"G7[45]\*")
-NEW = tuple.__new__         # of a named tuple: without a call of Python for each word
+NEW = tuple.__new__  # of a named tuple: without a call of Python for each word
 
 
 class Broken(Exception):
@@ -106,7 +108,7 @@ def tokens(data: bytes, runs: bool = False, plain: bool = False) -> Iterator[Tok
             parts = (mode, x, y, centre, code) if not inside and (x or y or code or centre) else None
             yield NEW(Word, (end - 1 - len(text), end - 1, text, inside, first, parts))
             first = False
-            if in_region and runs and not inside and end >= looked:     # what is no run is looked at once
+            if in_region and runs and not inside and end >= looked:  # what is no run is looked at once
                 looked = next_general(data, end)
                 run = run_of(data, end, looked) if looked - end > FEW else None
                 if run:
@@ -140,12 +142,17 @@ def lines_of(data: bytes, ends: bytes) -> Optional[Tuple[List[int], List[int], L
     """The same of lines alone, whose codes have two digits, as nearly all files have them: faster than an expression
     over all of them."""
     many, draw, move = data.count(b"*"), b"D01*" + ends + b"X", b"D02*" + ends + b"X"
-    if (data.translate(None, b"-0123456789") + ends != (b"XYD*" + ends) * many
-            or data.count(draw) + data.count(move) != many - 1):
+    if (
+        data.translate(None, b"-0123456789") + ends != (b"XYD*" + ends) * many
+        or data.count(draw) + data.count(move) != many - 1
+    ):
         return None
-    parts = data[1:-len(b"D01*")].replace(draw, b" ").replace(move, b" ").replace(b"Y", b" ").split()
-    if (data[-len(b"D01*"):] not in (b"D01*", b"D02*") or len(parts) != 2 * many
-            or max(map(len, parts)) > MOST_COORDINATE_DIGITS):
+    parts = data[1 : -len(b"D01*")].replace(draw, b" ").replace(move, b" ").replace(b"Y", b" ").split()
+    if (
+        data[-len(b"D01*") :] not in (b"D01*", b"D02*")
+        or len(parts) != 2 * many
+        or max(map(len, parts)) > MOST_COORDINATE_DIGITS
+    ):
         return None
     try:
         values = [*map(int, parts)]
@@ -192,6 +199,7 @@ def nth_word(data: bytes, number: int) -> Optional[Word]:
 
 # ---- some of the words
 
+
 def pairs(data: bytes) -> Iterator[Word]:
     """Each word in a pair of percent signs: what stands between pairs is not looked at."""
     at = 0
@@ -214,7 +222,7 @@ def pairs(data: bytes) -> Iterator[Word]:
 def is_at_word(data: bytes, at: int) -> bool:
     """Whether a word may begin at a byte: nothing but blanks is between it and a star, a percent sign or the
     beginning."""
-    return data[max(data.rfind(b"*", 0, at), data.rfind(b"%", 0, at)) + 1:at].strip(BLANKS) == b""
+    return data[max(data.rfind(b"*", 0, at), data.rfind(b"%", 0, at)) + 1 : at].strip(BLANKS) == b""
 
 
 def last(data: bytes) -> int:
@@ -293,6 +301,7 @@ def may_lack_quadrants(data: bytes) -> bool:
 
 
 # ---- numbers
+
 
 def in_u(decimal: bytes, scale: int) -> Optional[int]:
     """A decimal times a scale, None where that is no whole number, or of more digits than any length has."""

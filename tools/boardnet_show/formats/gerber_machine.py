@@ -42,8 +42,8 @@ MODES = {b"1": STRAIGHT, b"2": CLOCKWISE, b"3": ANTICLOCKWISE}
 MODE_WORDS = {b"G%s%d" % (zero, mode): mode for mode in Mode for zero in (b"0", b"")}
 ENDS = (b"M02", b"M2")
 MOST_OBJECTS = 400_000
-MOST_EDGES = 100_000        # of a contour, in the profile
-MOST_WIDE = 5 * 10 ** 8     # u of an aperture's smaller side: 50 mm
+MOST_EDGES = 100_000  # of a contour, in the profile
+MOST_WIDE = 5 * 10**8  # u of an aperture's smaller side: 50 mm
 LEAST_APERTURE = 10
 CENTRE = re.compile(rb"(?:I([+-]?[0-9]+))?(?:J([+-]?[0-9]+))?")
 SELECTION = re.compile(rb"(?:G54)?D([0-9]{2,9})")
@@ -243,7 +243,7 @@ class Machine:
 
     def broken(self, data: bytes, broken: Broken) -> None:
         """The file is not cut into words."""
-        is_inside = b"*" in data[broken.end:]
+        is_inside = b"*" in data[broken.end :]
         raise Unread(f"a broken word at byte {broken.start}" if is_inside else "a word without an end")
 
     def attribute(self, text: str) -> None:

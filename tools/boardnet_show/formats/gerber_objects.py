@@ -10,12 +10,10 @@ from boardnet_show.base.statuses import BadCopper
 from boardnet_show.geometry.exact import DECIMAL, Refused
 
 from .gerber_lexer import Plain, Run
-from .gerber_machine import (
-    CODES, DRAW, FLASH, MOST_OBJECTS, MOVE, Code, Machine, Spot, definition_of, steps_of
-)
+from .gerber_machine import CODES, DRAW, FLASH, MOST_OBJECTS, MOVE, Code, Machine, Spot, definition_of, steps_of
 from .macro_expressions import Expression, compact
 
-PRIMITIVES = {1: (2,), 20: (2,), 21: (2, 3)}     # where a primitive has its sizes; without one it makes nothing
+PRIMITIVES = {1: (2,), 20: (2,), 21: (2, 3)}  # where a primitive has its sizes; without one it makes nothing
 
 
 class Object(NamedTuple):
@@ -113,7 +111,7 @@ class Walk(Machine):
                 line = [Expression(part, variables).value() for part in (parts[3:7] if is_line else "0011")]
                 count += all(sizes) and line[:2] != line[2:]
         except (Refused, ValueError, IndexError, ZeroDivisionError):
-            return 1    # of a macro that `flatten` refuses: bounds have their own sources
+            return 1  # of a macro that `flatten` refuses: bounds have their own sources
         return count
 
     def select(self, number: int, text: bytes) -> None:
@@ -199,13 +197,19 @@ class Walk(Machine):
 
     def repeat(self, block: Block) -> None:
         # Copies of nothing are none, however many: `check` takes them.
-        once = [it for it in self.objects[block.first:] if it.pieces]
+        once = [it for it in self.objects[block.first :] if it.pieces]
         if len(once) * block.columns * block.rows > MOST_OBJECTS:
             raise BadCopper("it has too many copies of blocks")
-        self.objects[block.first:] = [
-            it._replace(copy=i * block.rows + j, place=(it.place[0] + i * block.x, it.place[1] + j * block.y))
-            for i in range(block.columns) for j in range(block.rows) for it in once
-        ] if once else []
+        self.objects[block.first :] = (
+            [
+                it._replace(copy=i * block.rows + j, place=(it.place[0] + i * block.x, it.place[1] + j * block.y))
+                for i in range(block.columns)
+                for j in range(block.rows)
+                for it in once
+            ]
+            if once
+            else []
+        )
 
 
 def objects_of(data: bytes) -> List[Object]:

@@ -22,5 +22,11 @@ def indented(value: Any, line: str = "\n") -> str:
         return json.dumps(value)
     inner = line + " "
     if isinstance(value, dict):
-        return "{" + inner + ("," + inner).join([f"{quoted(whole(key))}: {indented(it, inner)}" for key, it in value.items()]) + line + "}"
+        return (
+            "{"
+            + inner
+            + ("," + inner).join([f"{quoted(whole(key))}: {indented(it, inner)}" for key, it in value.items()])
+            + line
+            + "}"
+        )
     return "[" + inner + ("," + inner).join([indented(it, inner) for it in value]) + line + "]"

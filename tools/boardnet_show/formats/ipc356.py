@@ -11,14 +11,14 @@ from .units import CODES, CUSTOM
 # ---- columns
 
 CODE, NAME, COMPONENT, PIN, PLATING = slice(0, 3), slice(3, 17), slice(20, 26), slice(27, 31), slice(37, 38)
-DIAMETER = slice(32, 37)        # with its letter
-PIN_COLUMNS, LAYER, PLACE = slice(20, 31), slice(38, 41), slice(38, 57)     # with dash and letters
+DIAMETER = slice(32, 37)  # with its letter
+PIN_COLUMNS, LAYER, PLACE = slice(20, 31), slice(38, 41), slice(38, 57)  # with dash and letters
 ACCESS, X, Y = slice(39, 41), slice(41, 49), slice(49, 57)
 MASK_COLUMNS = slice(71, 80)
 NAME_WIDTH, COMPONENT_WIDTH, PIN_WIDTH = 14, 6, 4
-MOST = 999_999      # what the six digits of a place hold
-MOST_SIZE = 9_999   # what the four digits of a size hold
-FULL = 72           # columns of a parameter's line whose name may be cut
+MOST = 999_999  # what the six digits of a place hold
+MOST_SIZE = 9_999  # what the four digits of a size hold
+FULL = 72  # columns of a parameter's line whose name may be cut
 
 THROUGH, SURFACE, VIA, TOOLING, ADJACENT, END = b"317", b"327", b"307", b"367", b"379", b"999"
 TEST_RECORDS = (THROUGH, SURFACE)
@@ -94,6 +94,7 @@ class AliasLine(NamedTuple):
 
 # ---- reading
 
+
 def is_netlist(data: bytes) -> bool:
     """Whether bytes look like a netlist: two of a record, a unit and an end."""
     if ANY_RECORD.search(data):
@@ -155,7 +156,7 @@ def masks(data: bytes) -> Tuple[str, ...]:
 def pin_of(line: bytes, before: bytes) -> Tuple[str, str]:
     """Component and pin of a record, by its columns or whole by a comment before it."""
     if before.startswith(PIN_COMMENT.encode()):
-        fields = before[len(PIN_COMMENT):].decode("utf-8", "replace").rstrip("\r").split(",")
+        fields = before[len(PIN_COMMENT) :].decode("utf-8", "replace").rstrip("\r").split(",")
         if len(fields) == 2:
             return fields[0], fields[1]
     return printable(line[COMPONENT]), printable(line[PIN])
@@ -178,8 +179,10 @@ def has_access(line: bytes) -> bool:
 
 def has_coordinates(line: bytes) -> bool:
     """Whether the columns of both coordinates have a letter, a sign or a blank, and a number."""
-    return all(line[its][:1] == letter and line[its][1:2] in (b" ", b"\t", b"+", b"-") and has_digits(line[its][2:], 6)
-               for its, letter in ((X, b"X"), (Y, b"Y")))
+    return all(
+        line[its][:1] == letter and line[its][1:2] in (b" ", b"\t", b"+", b"-") and has_digits(line[its][2:], 6)
+        for its, letter in ((X, b"X"), (Y, b"Y"))
+    )
 
 
 def place_of(line: bytes) -> Place:
@@ -204,6 +207,7 @@ def places(data: bytes) -> List[Place]:
 
 
 # ---- names
+
 
 def name_of(line: bytes) -> bytes:
     """The name in the columns of a test record; nothing where they are blank or end within them."""
@@ -266,21 +270,22 @@ def spoken(names: Sequence[str], whole: Dict[str, str]) -> List[str]:
 
 # ---- changed copies
 
+
 def changed(data: bytes, change: Callable[[bytes], bytes]) -> bytes:
     """The netlist with each test record that has all its columns as it is changed."""
     return b"".join(change(line) if has_place(line) else line for line in data.splitlines(keepends=True))
 
 
 def with_name(line: bytes, name: bytes) -> bytes:
-    return line[:NAME.start] + name.ljust(NAME_WIDTH) + line[NAME.stop:]
+    return line[: NAME.start] + name.ljust(NAME_WIDTH) + line[NAME.stop :]
 
 
 def with_access(line: bytes, layer: int) -> bytes:
-    return line[:ACCESS.start] + b"%02d" % layer + line[ACCESS.stop:]
+    return line[: ACCESS.start] + b"%02d" % layer + line[ACCESS.stop :]
 
 
 def with_place(line: bytes, x: int, y: int) -> bytes:
-    return line[:X.start] + place_columns(x, y).encode() + line[Y.stop:]
+    return line[: X.start] + place_columns(x, y).encode() + line[Y.stop :]
 
 
 def in_other_unit(data: bytes) -> bytes:
@@ -289,6 +294,7 @@ def in_other_unit(data: bytes) -> bytes:
 
 
 # ---- writing
+
 
 class Size(NamedTuple):
     """A pad's sizes along the axes, in the netlist's unit; a height of 0 is that of a round one."""
@@ -338,7 +344,7 @@ def span_line(first: int, last: int) -> str:
 def adjacent_lines(name: str, others: Sequence[str]) -> Iterator[str]:
     """That other nets are beside a net: four names in a line."""
     for at in range(0, len(others), 4):
-        fields = [name if at == 0 else "", *others[at:at + 4]]
+        fields = [name if at == 0 else "", *others[at : at + 4]]
         yield (ADJACENT if at == 0 else b"079").decode() + " ".join(f"{it:<{NAME_WIDTH}}" for it in fields).rstrip()
 
 

@@ -10,16 +10,28 @@ from .gerber_lexer import holding
 Place = Tuple[str, int]
 
 # Names that have a side and are no copper.
-NO_COPPER = re.compile(r"mask|paste|silk|legend|outline|assy|assembly|courtyard|adhes|drill|boundary|keep[ _-]?out|"
-                       # Short words stand alone: a board may be called hedgehog.
-                       r"resist(?!or)|(?<![a-z])(?:court|fab|fabrication|edge|keep|mechanical)(?![a-z])|"
-                       r"\.gt[spo]$|\.gb[spo]$|\.gm\d*$|\.gko$|\.(?:pl|st|cr)[cs]$|\.dim$", re.I)    # the last of Eagle
-TOP = re.compile(r"f[._]cu|\.gtl$|\.cmp$|\.top$|(?:^|[._ -])(?:top|front|component)(?:[._ -]|$)|"
-                 r"top[._ -]?(?:copper|layer)|copper[._ -]?top", re.I)
-BOTTOM = re.compile(r"b[._]cu|\.gbl$|\.sol$|\.bot$|(?:^|[._ -])(?:bot|bottom|back|solder)(?:[._ -]|$)|"
-                    r"bot(?:tom)?[._ -]?(?:copper|layer)|copper[._ -]?bot", re.I)
-INNER = re.compile(r"in(\d+)[._]cu|\.g(\d+)$|\.gl(\d+)$|inner[._ -]?(?:layer)?[._ -]?(\d+)|intern.*?(\d+)(?:\.\w+)?$|"
-                   r"mid[._ -]?(?:layer)?[._ -]?(\d+)|\.in(\d+)$|\.(?:ly|l)(\d+)$", re.I)
+NO_COPPER = re.compile(
+    r"mask|paste|silk|legend|outline|assy|assembly|courtyard|adhes|drill|boundary|keep[ _-]?out|"
+    # Short words stand alone: a board may be called hedgehog.
+    r"resist(?!or)|(?<![a-z])(?:court|fab|fabrication|edge|keep|mechanical)(?![a-z])|"
+    r"\.gt[spo]$|\.gb[spo]$|\.gm\d*$|\.gko$|\.(?:pl|st|cr)[cs]$|\.dim$",
+    re.I,
+)  # the last of Eagle
+TOP = re.compile(
+    r"f[._]cu|\.gtl$|\.cmp$|\.top$|(?:^|[._ -])(?:top|front|component)(?:[._ -]|$)|"
+    r"top[._ -]?(?:copper|layer)|copper[._ -]?top",
+    re.I,
+)
+BOTTOM = re.compile(
+    r"b[._]cu|\.gbl$|\.sol$|\.bot$|(?:^|[._ -])(?:bot|bottom|back|solder)(?:[._ -]|$)|"
+    r"bot(?:tom)?[._ -]?(?:copper|layer)|copper[._ -]?bot",
+    re.I,
+)
+INNER = re.compile(
+    r"in(\d+)[._]cu|\.g(\d+)$|\.gl(\d+)$|inner[._ -]?(?:layer)?[._ -]?(\d+)|intern.*?(\d+)(?:\.\w+)?$|"
+    r"mid[._ -]?(?:layer)?[._ -]?(\d+)|\.in(\d+)$|\.(?:ly|l)(\d+)$",
+    re.I,
+)
 # What the numbers of INNER count: inner layers from 1, those or layers of the board, groups of pcb-rnd and layers of
 # Eagle, which have gaps.
 INNER_KINDS = ("inner from 1", "inner from 1", "inner", "inner", "intern", "inner from 1", "inner from 1", "eagle")
@@ -27,23 +39,29 @@ PLANE = re.compile(r"\.gp(\d+)$", re.I)
 # A layer's name of gEDA pcb, which writes a file for each group of layers.
 GROUP = re.compile(r"group_?(\d+)$", re.I)
 # The number of a layer of the board; in the second form a side may stand behind it, or before.
-NUMBERED = re.compile(r"(?:^|[._ -])(?:l|layer)[._ -]?0*([1-9]\d?)(?:[._ -]|$)|"
-                      r"etch[._ -]?layer[._ -]?0*([1-9]\d?)|^art0*([1-9]\d?)\.pho$", re.I)
-SIDED = re.compile(r"(?:^|[._ -]|etch[._ -]?)(?:(top|bot(?:tom)?)[._ -])?(?:l|layer)[._ -]?0*[1-9]\d?"
-                   r"(?:[._ -]?(top|bot(?:tom)?))?(?:[._ -]|$)", re.I)
-HEAD = 4096     # bytes of a file in which its comments are looked for
+NUMBERED = re.compile(
+    r"(?:^|[._ -])(?:l|layer)[._ -]?0*([1-9]\d?)(?:[._ -]|$)|"
+    r"etch[._ -]?layer[._ -]?0*([1-9]\d?)|^art0*([1-9]\d?)\.pho$",
+    re.I,
+)
+SIDED = re.compile(
+    r"(?:^|[._ -]|etch[._ -]?)(?:(top|bot(?:tom)?)[._ -])?(?:l|layer)[._ -]?0*[1-9]\d?"
+    r"(?:[._ -]?(top|bot(?:tom)?))?(?:[._ -]|$)",
+    re.I,
+)
+HEAD = 4096  # bytes of a file in which its comments are looked for
 FILM = re.compile(rb"G04[ \t]*Film[ \t]+Name[ \t]*:[ \t]*(.*?)[ \t]*")
 LAYER = re.compile(rb"G04[ \t]*Layer[ \t]*:[ \t]*(.*?)[ \t]*")
 TITLE = re.compile(rb"G04[ \t]*Title[ \t]*:[^\r\n]*,[ \t]*([^,]*?)[ \t]*")
 NEGATIVE_FILM = re.compile(rb"G04[ \t]*Mode[ \t]*:[ \t]*Negative[ \t]*", re.I)
-ETCHED = ("ETCH", "CONDUCTOR")      # Allegro's classes of copper
+ETCHED = ("ETCH", "CONDUCTOR")  # Allegro's classes of copper
 
 
 class Source(Enum):
     """Where a name stands, in words."""
 
     LAYER_NAME = "its layer name is {}"
-    ETCH = "its comment says Layer: {}"         # of copper, be it known which layer or not
+    ETCH = "its comment says Layer: {}"  # of copper, be it known which layer or not
     FILM = "its comment says Film Name: {}"
     LAYER = "its comment says the layer {}"
     TITLE = "its comment says Title: {}"

@@ -5,7 +5,7 @@ from typing import Dict, List, Optional, Tuple
 
 from boardnet_show.geometry.exact import Refused, decimal, limited
 
-MOST_DEEP = 64          # brackets in one another
+MOST_DEEP = 64  # brackets in one another
 TOKEN = re.compile(r"\$(\d{1,9})|(\d+\.?\d*|\.\d+)|([-+xX/()])")
 BLANK_INSIDE = re.compile(r"[$.0-9]\s+[.0-9]")
 

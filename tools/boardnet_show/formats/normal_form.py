@@ -13,10 +13,13 @@ from .gerber_lexer import NUMBERS, lines_of
 from .units import MM
 
 # Of the normal form: choices, strokes and small regions; a definition, and the other words; the corners of a region.
-PIECES = re.compile(rb"(?:X-?[0-9]+Y-?[0-9]+D02\*\nX-?[0-9]+Y-?[0-9]+D01\*\n|D[0-9]+\*\n|"
-                    rb"G36\*\n(?:X-?[0-9]+Y-?[0-9]+D0[12]\*\n){1,40}G37\*\n){1,500}")
-PIECE = re.compile(rb"X(-?[0-9]+)Y(-?[0-9]+)D02\*\nX(-?[0-9]+)Y(-?[0-9]+)D01\*\n|D([0-9]+)\*\n|"
-                   rb"G36\*\n([^G]+)G37\*\n")
+PIECES = re.compile(
+    rb"(?:X-?[0-9]+Y-?[0-9]+D02\*\nX-?[0-9]+Y-?[0-9]+D01\*\n|D[0-9]+\*\n|"
+    rb"G36\*\n(?:X-?[0-9]+Y-?[0-9]+D0[12]\*\n){1,40}G37\*\n){1,500}"
+)
+PIECE = re.compile(
+    rb"X(-?[0-9]+)Y(-?[0-9]+)D02\*\nX(-?[0-9]+)Y(-?[0-9]+)D01\*\n|D([0-9]+)\*\n|" rb"G36\*\n([^G]+)G37\*\n"
+)
 PART = re.compile(rb"%ADD([0-9]+)C,([0-9.]+)\*%\n|(?:M02\*|%FSLAX47Y47\*%|%MOMM\*%)\n")
 REGION, REGION_END = b"G36*\n", b"G37*\n"
 NOT_NORMAL = "the flattened copper is not in its normal form"
@@ -60,7 +63,7 @@ class Flat:
                 radii.append(self.radius)
             else:
                 around = numbers(corners)
-                xs += around[-3:-2] + around[3:-3:3]        # the last corner is the first
+                xs += around[-3:-2] + around[3:-3:3]  # the last corner is the first
                 ys += around[-2:-1] + around[4:-3:3]
                 radii.append(AREA)
             starts.append(first + len(xs))
@@ -80,11 +83,11 @@ class Flat:
 
     def region(self, text: bytes, at: int) -> int:
         end = text.find(REGION_END, at)
-        corners = lines_of(text[at:end - 1], b"\n") if end >= 0 else None
+        corners = lines_of(text[at : end - 1], b"\n") if end >= 0 else None
         if not corners:
             raise BadCopper(NOT_NORMAL)
         xs, ys, _ = corners
-        self.shapes.add_area(xs[-1:] + xs[1:-1], ys[-1:] + ys[1:-1])        # the last corner is the first
+        self.shapes.add_area(xs[-1:] + xs[1:-1], ys[-1:] + ys[1:-1])  # the last corner is the first
         return end + len(REGION_END)
 
 

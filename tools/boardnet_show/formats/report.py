@@ -31,11 +31,15 @@ class Report:
         self.net_of, self.parent = nets_of(tuple(islice(self.rows, self.nets)), self.pieces, self.nets)
         self.names = [next(self.rows).split(" ", 2)[2] for _ in range(self.count("names"))]
         _, record, layer, name, net = columns(*self.rows_of("points"), "point", 5)
-        self.points = [*zip(map(int, record), map(int, layer), map(int, name), (-1 if it == "-" else int(it) for it in net))]
+        self.points = [
+            *zip(map(int, record), map(int, layer), map(int, name), (-1 if it == "-" else int(it) for it in net))
+        ]
         self.opens = [self.numbers("open") for _ in range(self.count("opens"))]
         self.shorts = [self.short() for _ in range(self.count("shorts"))]
         self.bare = [self.numbers("bare")[0] for _ in range(self.count("missing"))]
-        self.spots, self.sources = numbered(*self.rows_of("spots"), "spot", 3), numbered(*self.rows_of("sources"), "source", 6)
+        self.spots, self.sources = numbered(*self.rows_of("spots"), "spot", 3), numbered(
+            *self.rows_of("sources"), "source", 6
+        )
         if len(self.sources) != self.pieces or len(self.spots) != len(self.points):
             raise ValueError
         self.agrees = {"agrees": True, "differs": False}[next(self.rows)]
@@ -66,6 +70,7 @@ class Report:
 
 # What follows is kept for the reports that were read last: copper that is judged anew with another netlist has the same nets and sources.
 
+
 @lru_cache(maxsize=2)
 def nets_of(rows, pieces, nets):
     """Net and parent of each piece, by the rows of the nets."""
@@ -75,7 +80,7 @@ def nets_of(rows, pieces, nets):
     for row in rows:
         _, number, first, *twigs = row.split(" ")
         number, its = int(number), [*map(int, ":".join(twigs).split(":"))] if twigs else []
-        if ":" in first or len(its) != 2 * len(twigs):      # the one without a parent is not the first
+        if ":" in first or len(its) != 2 * len(twigs):  # the one without a parent is not the first
             parts = [(twig if ":" in twig else f"{twig}:-1").split(":") for twig in [first, *twigs]]
             its = [int(part) for piece, parent in parts for part in (piece, parent)]
         else:
@@ -88,7 +93,7 @@ def nets_of(rows, pieces, nets):
 def columns(count, rows, head, width):
     """The columns of rows that all have so many words behind their head, without the head."""
     parts = rows.split(" ") if count else []
-    found = [parts[k::width + 1] for k in range(width + 1)]
+    found = [parts[k :: width + 1] for k in range(width + 1)]
     if len(parts) != count * (width + 1) or set(found[0]) - {head}:
         raise ValueError
     return found[1:]

@@ -11,9 +11,9 @@ from .exact import Refused, ceil_root, floor_root
 from .pieces import Capsule, Corners, Number, Spot
 from .segments import cross, dot
 
-SAGITTA = 3600      # a chord leaves its arc by about 0.36 micrometres at most
+SAGITTA = 3600  # a chord leaves its arc by about 0.36 micrometres at most
 Bounds = Tuple[List[Capsule], List[Capsule]]
-UNLIKE = 64         # or by so small a part of what its ends are unlike in their distances from the centre
+UNLIKE = 64  # or by so small a part of what its ends are unlike in their distances from the centre
 
 
 def directions(centre: Spot, start: Spot, end: Spot, is_whole: bool) -> Corners:
@@ -53,14 +53,16 @@ def axis_points(centre: Spot, start: Spot, end: Spot, radius: int, is_whole: boo
     return [start, *(scaled(centre, d, radius) for d in directions(centre, start, end, is_whole or start == end)), end]
 
 
-def arc_points(centre: Spot, start: Spot, end: Spot, radius: int, is_whole: bool = False,
-               sagitta: int = SAGITTA) -> Corners:
+def arc_points(
+    centre: Spot, start: Spot, end: Spot, radius: int, is_whole: bool = False, sagitta: int = SAGITTA
+) -> Corners:
     """A chain of spots near the circle from start to end, neighbours at most about two sagittas' chord apart. A
     guess. Equal ends are the whole circle."""
     apart = min(radius * sagitta, radius * radius // 4)
     axes = axis_points(centre, start, end, radius, is_whole)
-    keys = [p for k, p in enumerate(axes)
-            if k in (0, len(axes) - 1) or min(dot(p, start, start), dot(p, end, end)) > apart]
+    keys = [
+        p for k, p in enumerate(axes) if k in (0, len(axes) - 1) or min(dot(p, start, start), dot(p, end, end)) > apart
+    ]
     out = [start]
     for p, q in zip(keys, keys[1:]):
         halve(centre, p, q, radius, out, 0, sagitta)
@@ -177,7 +179,7 @@ class Arc:
         d = (b[0] - a[0], b[1] - a[1])
         self.n = 2 * (d[0] ** 2 + d[1] ** 2) or 1
         shift = dot(centre, b, b) - dot(centre, a, a)
-        self.c = tuple(centre[k] * self.n + shift * d[k] for k in (0, 1))       # times n
+        self.c = tuple(centre[k] * self.n + shift * d[k] for k in (0, 1))  # times n
         self.a, self.b = a, b
         self.chain, _ = arc_chain(centre, a, b)
         self.square = self.off2(a)
@@ -217,7 +219,7 @@ class Arc:
         ends = ((chain[0], chain[1]), (chain[-1], chain[-2]))
         if not self.runs(chain) or any(self.goes_towards(p, q) for p, q in ends):
             return False
-        least = self.square * self.n ** 2
+        least = self.square * self.n**2
         return all(self.turn(p, q) ** 2 >= least * dot(p, q, q) for p, q in zip(chain[1:-1], chain[2:-1]))
 
     def goes_towards(self, p: Spot, q: Spot) -> bool:
@@ -236,9 +238,9 @@ class Arc:
         """How far chain and circle are apart at most, rounded up, and 1 at least."""
         most = 1
         for p, q in zip(chain, chain[1:]):
-            low = floor_root(Q(self.turn(p, q) ** 2, self.n ** 4 * dot(p, q, q)))
-            far = ceil_root(Q(max(self.off2(p), self.off2(q)), self.n ** 2))
-            radius = floor_root(Q(self.square, self.n ** 2))
+            low = floor_root(Q(self.turn(p, q) ** 2, self.n**4 * dot(p, q, q)))
+            far = ceil_root(Q(max(self.off2(p), self.off2(q)), self.n**2))
+            radius = floor_root(Q(self.square, self.n**2))
             most = max(most, radius + 1 - low, far - radius)
         return most
 

@@ -44,8 +44,12 @@ def holding(boxes: Sequence[Box], spots: Sequence[Spot]) -> Iterator[Pair]:
     for i, box in enumerate(boxes):
         left, low, right, high = (v // size for v in box)
         if (right - left + 1) * (high - low + 1) <= MOST_SQUARES:
-            near = sorted(k for across in range(left, right + 1) for up in range(low, high + 1)
-                          for k in squares.get((across, up), ()))
+            near = sorted(
+                k
+                for across in range(left, right + 1)
+                for up in range(low, high + 1)
+                for k in squares.get((across, up), ())
+            )
         else:
             tree = tree or Tree([spot * 2 for spot in spots])
             near = sorted(tree.meeting(box))
@@ -76,7 +80,12 @@ def pairs_of_small(boxes: Sequence[Box], small: List[int], size: int) -> List[Pa
             a = boxes[i]
             for j in members[:at]:
                 b = boxes[j]
-                if a[0] <= b[2] and b[0] <= a[2] and a[1] <= b[3] and b[1] <= a[3] and \
-                        (max(a[0], b[0]) // size, max(a[1], b[1]) // size) == square:
+                if (
+                    a[0] <= b[2]
+                    and b[0] <= a[2]
+                    and a[1] <= b[3]
+                    and b[1] <= a[3]
+                    and (max(a[0], b[0]) // size, max(a[1], b[1]) // size) == square
+                ):
                     found.append((i, j))
     return found

@@ -7,7 +7,7 @@ from .pieces import Box
 FAN = 16
 # As many pairs of boxes are looked at in a search for the nearest two.
 MOST_LOOKS = 200_000
-Node = Tuple[int, int]      # level and number
+Node = Tuple[int, int]  # level and number
 
 
 def cover(boxes: Sequence[Box]) -> Box:
@@ -20,7 +20,7 @@ def packed(boxes: Sequence[Box]) -> List[int]:
     order = sorted(range(len(boxes)), key=lambda k: boxes[k][0] + boxes[k][2])
     strip = FAN * max(1, int((len(boxes) / FAN) ** 0.5))
     for at in range(0, len(order), strip):
-        order[at:at + strip] = sorted(order[at:at + strip], key=lambda k: boxes[k][1] + boxes[k][3])
+        order[at : at + strip] = sorted(order[at : at + strip], key=lambda k: boxes[k][1] + boxes[k][3])
     return order
 
 
@@ -39,7 +39,7 @@ class Tree:
         self.levels = [[boxes[k] for k in self.order]]
         while len(self.levels[-1]) > 1:
             below = self.levels[-1]
-            self.levels.append([cover(below[k:k + FAN]) for k in range(0, len(below), FAN)])
+            self.levels.append([cover(below[k : k + FAN]) for k in range(0, len(below), FAN)])
 
     def meeting(self, box: Box) -> List[int]:
         """The numbers of the boxes that meet a box."""
@@ -49,8 +49,9 @@ class Tree:
             row = self.levels[level]
             if level < len(self.levels) - 1:
                 nodes = [k for node in nodes for k in range(node * FAN, min(node * FAN + FAN, len(row)))]
-            nodes = [k for k in nodes
-                     if row[k][0] <= right and row[k][2] >= left and row[k][1] <= high and row[k][3] >= low]
+            nodes = [
+                k for k in nodes if row[k][0] <= right and row[k][2] >= left and row[k][1] <= high and row[k][3] >= low
+            ]
         return [self.order[k] for k in nodes]
 
     def children(self, level: int, node: int) -> List[Node]:
@@ -61,9 +62,11 @@ def nearest(first: Tree, second: Tree, measure: Callable[[int, int], Any], best:
     """The least that `measure(i, j)` gives, a distance and more behind it, for box i of one tree and j of another.
 
     A distance is at least that of the boxes. What is not less than `best` is not looked at, and after MOST_LOOKS the
-    answer is what was found so far. """
+    answer is what was found so far."""
+
     def entry(a: Node, b: Node) -> Tuple[int, Node, Node]:
         return apart(first.levels[a[0]][a[1]], second.levels[b[0]][b[1]]), a, b
+
     heap = [entry((len(first.levels) - 1, 0), (len(second.levels) - 1, 0))]
     for _ in range(MOST_LOOKS):
         if not heap:

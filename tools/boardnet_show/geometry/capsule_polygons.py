@@ -106,8 +106,10 @@ def ring(centre: Spot, chain: Corners, high: int) -> Optional[Tuple[List[Corners
     if low < 1000:
         return None
     off = [(x - centre[0], y - centre[1]) for x, y in (out(p, low - 2) for p in fine)]
-    sides = [[(p[0] + s * x, p[1] + s * y) if s > 0 or low < reach else centre for p, (x, y) in zip(links, off)]
-             for s in (1, -1)]
+    sides = [
+        [(p[0] + s * x, p[1] + s * y) if s > 0 or low < reach else centre for p, (x, y) in zip(links, off)]
+        for s in (1, -1)
+    ]
     step = max(dot(p, q, q) for p, q in zip(fine, fine[1:]))
     tops = [out(p, wide + step // (4 * wide) + 8) for p in fine]
     feet = [out(p, slim - 2) if slim > 2 else centre for p in fine]

@@ -31,8 +31,24 @@ class Strand:
     The edge's number is that of its first corner along the contour, by which it goes `up` or down; `top` is the
     corner at its upper end."""
 
-    __slots__ = ("x1", "y1", "x2", "y2", "dx", "dy", "low", "high", "edge", "up", "top", "number", "odd",
-                 "before", "after", "chain")
+    __slots__ = (
+        "x1",
+        "y1",
+        "x2",
+        "y2",
+        "dx",
+        "dy",
+        "low",
+        "high",
+        "edge",
+        "up",
+        "top",
+        "number",
+        "odd",
+        "before",
+        "after",
+        "chain",
+    )
 
     x1: Any
     y1: Any
@@ -91,13 +107,13 @@ class ContourSweep:
         self.turn = 1 if sum(x * y2 - x2 * y for x, y, x2, y2 in zip(xs, ys, xs[1:], ys[1:])) > 0 else -1
         self.found: List[Tuple[int, int]] = []
         self.events: List[Event] = []
-        self.edges: List[int] = []                  # by number, the edge with which a strand starts
-        self.flat: List[bool] = []                  # whether the next strand lies along it
-        self.odd: List[bool] = []                   # whether the gap right of it is copper
-        self.passed = [-1] * self.n                 # by corner, the strand that goes on there with another edge
-        self.same: Dict[int, List[int]] = {}        # by corner, all at its place where there are several
+        self.edges: List[int] = []  # by number, the edge with which a strand starts
+        self.flat: List[bool] = []  # whether the next strand lies along it
+        self.odd: List[bool] = []  # whether the gap right of it is copper
+        self.passed = [-1] * self.n  # by corner, the strand that goes on there with another edge
+        self.same: Dict[int, List[int]] = {}  # by corner, all at its place where there are several
         self.left, self.right, self.crossings = border(-inf), border(inf), 0
-        self.tops = [self.left] * self.n            # by corner, the strand whose edge comes up to it
+        self.tops = [self.left] * self.n  # by corner, the strand whose edge comes up to it
         self.status: List[Strand] = []
         self.heap: List[Tuple[Any, Any]] = []
         self.sweep()
@@ -130,8 +146,12 @@ class ContourSweep:
         """The strand of a corner goes on with another edge; False where another one is met there."""
         s = self.tops[k]
         a, b = s.before, s.after
-        if (a.high >= x and (x - a.x1) * a.dy <= (y - a.y1) * a.dx
-                or b.low <= x and (x - b.x1) * b.dy >= (y - b.y1) * b.dx):
+        if (
+            a.high >= x
+            and (x - a.x1) * a.dy <= (y - a.y1) * a.dx
+            or b.low <= x
+            and (x - b.x1) * b.dy >= (y - b.y1) * b.dx
+        ):
             return False
         self.passed[k] = s.number
         if s.odd:
@@ -269,8 +289,11 @@ class ContourSweep:
         chord.reach(x1, y1, x2, y2)
         # Beside a strand that a chord meets on its right the cover changes there; it does so in copper, which one
         # part has.
-        changes = [(number, (self.ys[k], self.xs[k])) for k, number in ((k, self.passed[k]) for k in (i, j))
-                   if number >= 0 and self.odd[number]]
+        changes = [
+            (number, (self.ys[k], self.xs[k]))
+            for k, number in ((k, self.passed[k]) for k in (i, j))
+            if number >= 0 and self.odd[number]
+        ]
         changed = {number for number, _ in changes}
         covers: List[int] = []
         for event in self.events:

@@ -9,11 +9,11 @@ from .pieces import Interval, Number, Point, Spot
 from typing import Optional
 
 DECIMAL = re.compile(r"[+-]?(\d+\.?\d*|\.\d+)")
-MOST_DIGITS = 60        # of a number in a file
-MOST_BITS = 1000        # of a number that macros reckon
-PI = Q(314159265358979323846264338327950288419716939937510, 10 ** 50)   # cut: the next digits are 58..
+MOST_DIGITS = 60  # of a number in a file
+MOST_BITS = 1000  # of a number that macros reckon
+PI = Q(314159265358979323846264338327950288419716939937510, 10**50)  # cut: the next digits are 58..
 FIX = 1 << 120
-ULPS = 200      # of FIX: more than all cuts of a series of 40 terms
+ULPS = 200  # of FIX: more than all cuts of a series of 40 terms
 
 
 class Refused(Exception):
@@ -21,6 +21,7 @@ class Refused(Exception):
 
 
 # ---- numbers of files
+
 
 def decimal(text: str) -> Optional[Q]:
     """A decimal as a fraction; None where it is none."""
@@ -39,10 +40,11 @@ def limited(q: Q) -> Q:
 
 # ---- roots
 
+
 def root_up(q: Number) -> Q:
     """A fraction that is at least the square root of q, and 0 for 0."""
     q = Q(q)
-    return Q(0) if q == 0 else Q(isqrt(-(-q.numerator * 10 ** 12 // q.denominator)) + 1, 10 ** 6)
+    return Q(0) if q == 0 else Q(isqrt(-(-q.numerator * 10**12 // q.denominator)) + 1, 10**6)
 
 
 def floor_root(q: Number) -> int:
@@ -58,11 +60,12 @@ def ceil_root(q: Number) -> int:
 def root(q: Q) -> Interval:
     """An interval that holds the square root of q; one number where the root is a fraction that twenty decimals
     show."""
-    low = Q(isqrt(q.numerator * 10 ** 40 // q.denominator), 10 ** 20)
-    return (low, low) if low * low == q else (low, low + Q(1, 10 ** 20))
+    low = Q(isqrt(q.numerator * 10**40 // q.denominator), 10**20)
+    return (low, low) if low * low == q else (low, low + Q(1, 10**20))
 
 
 # ---- intervals: (low, high)
+
 
 def exact(q: Number) -> Interval:
     return Q(q), Q(q)
@@ -108,6 +111,7 @@ def cos_sin(degrees: Number) -> Tuple[Interval, Interval]:
 
 
 # ---- places of intervals: (x, y)
+
 
 def pointed(spot: Spot) -> Point:
     """A whole place as one of intervals."""

@@ -2,7 +2,7 @@
 an area is a contour with its inside."""
 from typing import TYPE_CHECKING, Any, List, Literal, Tuple, Union
 
-if TYPE_CHECKING:       # loading it takes longer than a small board has
+if TYPE_CHECKING:  # loading it takes longer than a small board has
     from fractions import Fraction
 
 Spot = Tuple[int, int]
@@ -13,7 +13,7 @@ Area = Tuple[Literal["area"], Corners]
 Piece = Union[Capsule, Area]
 # What stands for something on the lower side and on the upper one.
 Both = Tuple[List[Piece], List[Piece]]
-Box = Tuple[int, int, int, int]             # left, low, right, high
+Box = Tuple[int, int, int, int]  # left, low, right, high
 # What holds a number that is no whole one, and a place.
 Number = Union[int, "Fraction"]
 Interval = Tuple["Fraction", "Fraction"]

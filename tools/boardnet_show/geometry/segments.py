@@ -41,8 +41,13 @@ def segments_cross(a: Spot, b: Spot, c: Spot, d: Spot) -> bool:
 
 def segments_within(a: Spot, b: Spot, c: Spot, d: Spot, r: int) -> bool:
     """Whether two segments come within r of each other: an end is within r of the other, or they cross."""
-    return (point_within(a, c, d, r) or point_within(b, c, d, r) or point_within(c, a, b, r) or point_within(d, a, b, r)
-            or segments_cross(a, b, c, d))
+    return (
+        point_within(a, c, d, r)
+        or point_within(b, c, d, r)
+        or point_within(c, a, b, r)
+        or point_within(d, a, b, r)
+        or segments_cross(a, b, c, d)
+    )
 
 
 def odd_inside(corners: Corners, p: Spot) -> bool:
@@ -118,7 +123,7 @@ class Bands:
 def place_beside(chain: Corners, outwards: bool) -> Spot:
     """A place half a u beside the middle of the longest edge of the chain, times 2^21: where its sliver lies."""
     p, q = max(zip(chain, chain[1:]), key=lambda e: dot(e[0], e[1], e[1]))
-    normal = (q[1] - p[1], p[0] - q[0])                 # away from the centre, since the chain runs counterclockwise
+    normal = (q[1] - p[1], p[0] - q[0])  # away from the centre, since the chain runs counterclockwise
     if not outwards:
         normal = (-normal[0], -normal[1])
     most = max(abs(normal[0]), abs(normal[1]))

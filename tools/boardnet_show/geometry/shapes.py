@@ -45,7 +45,7 @@ class Shapes:
             self.boxes += others.boxes[first:past]
         shift = len(self.x) - a
         self.radius += others.radius[first:past]
-        self.start.extend(at + shift for at in others.start[first + 1:past + 1])
+        self.start.extend(at + shift for at in others.start[first + 1 : past + 1])
         self.x += others.x[a:b]
         self.y += others.y[a:b]
 
@@ -95,7 +95,7 @@ class Shapes:
     def boxes_from(self, first: int) -> List[Box]:
         """The boxes of all pieces from one on."""
         found = []
-        for r, a, b in zip(self.radius[first:], self.start[first:], self.start[first + 1:]):
+        for r, a, b in zip(self.radius[first:], self.start[first:], self.start[first + 1 :]):
             if b - a == 1:
                 x, y = self.x[a], self.y[a]
                 found.append((x - r, y - r, x + r, y + r))

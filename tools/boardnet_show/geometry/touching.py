@@ -8,10 +8,11 @@ from .segments import box_of_line, cross, point_within, segments_within
 from .shapes import Shapes
 
 FEW_EDGES = 24
-Nearest = Tuple[float, nearest_places.Place, nearest_places.Place]      # a distance, squared, and its places
-MOST_PAIRS = 100_000    # lines of two pieces that are all compared
-AROUND = sorted(((x, y) for x in range(-2, 3) for y in range(-2, 3)),
-                key=lambda step: (step[0] ** 2 + step[1] ** 2, step))
+Nearest = Tuple[float, nearest_places.Place, nearest_places.Place]  # a distance, squared, and its places
+MOST_PAIRS = 100_000  # lines of two pieces that are all compared
+AROUND = sorted(
+    ((x, y) for x in range(-2, 3) for y in range(-2, 3)), key=lambda step: (step[0] ** 2 + step[1] ** 2, step)
+)
 
 
 def common(a: Box, b: Box) -> Optional[Box]:
@@ -48,8 +49,14 @@ class Touching:
         """The lines of a piece whose boxes meet a box."""
         lines = self.lines(piece)
         if len(lines) <= FEW_EDGES:
-            return [(p, q) for p, q in lines if max(p[0], q[0]) >= box[0] and min(p[0], q[0]) <= box[2]
-                    and max(p[1], q[1]) >= box[1] and min(p[1], q[1]) <= box[3]]
+            return [
+                (p, q)
+                for p, q in lines
+                if max(p[0], q[0]) >= box[0]
+                and min(p[0], q[0]) <= box[2]
+                and max(p[1], q[1]) >= box[1]
+                and min(p[1], q[1]) <= box[3]
+            ]
         if piece not in self.trees:
             self.trees[piece] = Tree([box_of_line(p, q, 0) for p, q in lines])
         return [lines[k] for k in self.trees[piece].meeting(box)]
@@ -99,14 +106,14 @@ class Touching:
 
     def touching_place(self, p: int, q: int) -> Spot:
         """A place in both of two touching pieces; where no whole one is found, in one of them and near the other."""
-        box = common(self.box(p), self.box(q)) or self.box(p)     # they touch, so they share one
+        box = common(self.box(p), self.box(q)) or self.box(p)  # they touch, so they share one
         for inner, outer in ((p, q), (q, p)):
             for x, y in self.shapes.places(inner)[:60]:
                 if box[0] <= x <= box[2] and box[1] <= y <= box[3] and self.holds(outer, (x, y)):
                     return x, y
         r = max(self.shapes.radius[p], 0), max(self.shapes.radius[q], 0)
         squared, here, there = self.nearest_lines(p, q, box, sum(r))
-        between = nearest_places.towards(here, there, squared ** 0.5 * r[0] / (sum(r) or 1), squared ** 0.5)
+        between = nearest_places.towards(here, there, squared**0.5 * r[0] / (sum(r) or 1), squared**0.5)
         return self.held((round(between[0]), round(between[1])), p, q)
 
     def nearest_lines(self, p: int, q: int, box: Box, r: int) -> Nearest:

@@ -6,7 +6,7 @@ as far as it bends towards it; each corner seen is the other end of a diagonal, 
 So every diagonal meets the border at its ends alone."""
 from typing import Any, Callable, Optional
 
-Told = Callable[[int, int], None]      # takes the two corners of a diagonal; -1 is a place that is no corner
+Told = Callable[[int, int], None]  # takes the two corners of a diagonal; -1 is a place that is no corner
 
 
 class Node:

@@ -16,10 +16,14 @@ def files_of(archive):
         if not name or entry.is_dir() or entry.filename.startswith("__MACOSX/"):
             continue
         if name in found or name in (".", ".."):
-            raise Refused(f"the archive has two files of the name {shown(name)}, or one of no lawful name: unpack it by hand")
+            raise Refused(
+                f"the archive has two files of the name {shown(name)}, or one of no lawful name: unpack it by hand"
+            )
         found[name] = entry
     if len(found) > MOST_FILES or sum(entry.file_size for entry in found.values()) > MOST_IN_ALL:
-        raise Refused("the archive has over 1000 files, or over a gigabyte of them: unpack by hand what belongs to the board")
+        raise Refused(
+            "the archive has over 1000 files, or over a gigabyte of them: unpack by hand what belongs to the board"
+        )
     return found
 
 
@@ -30,7 +34,9 @@ def link_files(path: str, folder: str) -> None:
         folders[:] = sorted(name for name in folders if not name.startswith((".", "__MACOSX")))
         for name in sorted(name for name in names if not name.startswith(".")):
             if name in found:
-                raise Refused(f"the folders in it have two files of the name {shown(name)}: give the folder of one board")
+                raise Refused(
+                    f"the folders in it have two files of the name {shown(name)}: give the folder of one board"
+                )
             found[name] = os.path.abspath(os.path.join(home, name))
         if len(found) > MOST_FILES:
             raise Refused(f"the folders in it have over {MOST_FILES} files: give the folder of one board")
@@ -42,12 +48,17 @@ def link_files(path: str, folder: str) -> None:
 def is_damage(error):
     """Whether an archive is at fault, and not the system: each way of packing raises errors of its own, bzip2 a system's one without
     a number, and a place before the file's beginning is a wrong argument."""
-    return error.errno in (None, errno.EINVAL) if isinstance(error, OSError) else not isinstance(error, (Refused, MemoryError))
+    return (
+        error.errno in (None, errno.EINVAL)
+        if isinstance(error, OSError)
+        else not isinstance(error, (Refused, MemoryError))
+    )
 
 
 def extract(path, folder):
     """Writes the archive's files to a new folder; where that fails, there is no folder."""
-    import zipfile          # most boards come in no archive, and loading takes long
+    import zipfile  # most boards come in no archive, and loading takes long
+
     try:
         with zipfile.ZipFile(path) as archive:
             found = files_of(archive)
@@ -56,6 +67,7 @@ def extract(path, folder):
                 write(archive, found, folder)
             except BaseException:
                 import shutil
+
                 shutil.rmtree(folder, ignore_errors=True)
                 raise
     except Exception as error:

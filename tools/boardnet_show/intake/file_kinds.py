@@ -3,7 +3,11 @@ import re
 
 from boardnet_show.formats import ipc356
 
-MARKS = ((b"\xef\xbb\xbf", "a byte order mark"), (b"\xff\xfe", "a byte order mark of UTF-16"), (b"\xfe\xff", "a byte order mark of UTF-16"))
+MARKS = (
+    (b"\xef\xbb\xbf", "a byte order mark"),
+    (b"\xff\xfe", "a byte order mark of UTF-16"),
+    (b"\xfe\xff", "a byte order mark of UTF-16"),
+)
 GERBER = re.compile(rb"%(?:FS|MO|AD|TF|LN|IN|AM|LP)|^G04|^G0?1\*", re.M)
 DRILL = re.compile(rb"\A(?:[ \t\r]*(?:;[^\n]*|%[ \t\r]*)?\n)*[ \t]*M48")
 HOLE = re.compile(rb"^[ \t]*[XY][+-]?[0-9.]+", re.M)
@@ -59,6 +63,7 @@ def kind_of(text):
     if GERBER.search(text.lstrip()[:65536]) and b"*" in text:
         return "gerber"
     if HOLE.search(text):
-        from boardnet_show.formats.drills.drill_headers import is_drilled   # few files have no `M48`
+        from boardnet_show.formats.drills.drill_headers import is_drilled  # few files have no `M48`
+
         return "drill" if is_drilled(text) else "other"
     return "other"

@@ -66,7 +66,9 @@ class Package:
 
     def add_gerber(self, name, data):
         said = copper_layers.functions_of(data)
-        self.has_names = self.has_names or gerber_attributes.has_names(data, b".P") or gerber_attributes.has_names(data, b".N")
+        self.has_names = (
+            self.has_names or gerber_attributes.has_names(data, b".P") or gerber_attributes.has_names(data, b".N")
+        )
         if not said:
             guess = copper_layers.guess_of(name, data)
             if guess:
@@ -99,12 +101,21 @@ class Package:
             layers = copper_layers.judge(self.layers)
             for name, _, why in self.guesses:
                 if not self.is_whole(layers):
-                    raise Refused(f"{name} looks like copper ({why}) and has no attribute, while other layers have one: export all as Gerber X2")
-                self.leave_out(name, f"it looks like copper ({why}), but the layers that say what they are make a whole board without it")
+                    raise Refused(
+                        f"{name} looks like copper ({why}) and has no attribute, while other layers have one: export all as Gerber X2"
+                    )
+                self.leave_out(
+                    name,
+                    f"it looks like copper ({why}), but the layers that say what they are make a whole board without it",
+                )
         if self.board_layers not in (None, len(layers)):
-            raise Refused(f"the job file speaks of {self.board_layers} copper layers, and there are {len(layers)}: export every copper layer")
+            raise Refused(
+                f"the job file speaks of {self.board_layers} copper layers, and there are {len(layers)}: export every copper layer"
+            )
         if len([it for it in self.origins if it is not None]) > 1:
-            raise Refused(f"{' and '.join(self.origins.values())} count from different origins (TF.SameCoordinates): export all layers at once")
+            raise Refused(
+                f"{' and '.join(self.origins.values())} count from different origins (TF.SameCoordinates): export all layers at once"
+            )
         return layers
 
     def is_whole(self, layers):
@@ -118,7 +129,9 @@ class Package:
             if not found:
                 raise Refused(f"{name} is declared to have plated holes, and is no drill file here that may have some")
             if not found.why and found.span != (first, last):
-                raise Refused(f"{name} is declared to span layers {first} to {last}, and says itself that it spans {found.span[0]} to {found.span[1]}")
+                raise Refused(
+                    f"{name} is declared to span layers {first} to {last}, and says itself that it spans {found.span[0]} to {found.span[1]}"
+                )
             if found.span == (0, 0):
                 raise Refused(f"{name} is declared to have plated holes, and {found.why}")
             found.span, found.why = (first, last), ""
@@ -131,13 +144,17 @@ class Package:
     def need_holes(self, netlist, layers, plated, may_lack):
         """Refuses a board of several layers without holes where the netlist speaks of some."""
         if layers > 1 and not plated and netlist.through and not may_lack:
-            raise Refused(f"{netlist.name} has {netlist.through} records of through holes (317), and there is no drill file of plated holes, which join the layers: "
-                          "export it in the Excellon format; where the board truly has no plated hole, say --no-drills")
+            raise Refused(
+                f"{netlist.name} has {netlist.through} records of through holes (317), and there is no drill file of plated holes, which join the layers: "
+                "export it in the Excellon format; where the board truly has no plated hole, say --no-drills"
+            )
 
     def need_names(self, names):
         for name in names:
             if not is_name(name):
-                raise Refused(f"the name {shown(name)} is not 1 to 200 printable ASCII characters, and `check` takes no other: rename the file")
+                raise Refused(
+                    f"the name {shown(name)} is not 1 to 200 printable ASCII characters, and `check` takes no other: rename the file"
+                )
             if name in self.amiss:
                 raise Refused(f"{name}: {self.amiss[name]}")
 
@@ -158,7 +175,9 @@ class Plan:
         package.need_holes(netlist, len(layers), plated, may_lack_holes)
         package.need_names([it.name for it in [*layers, *plated, *([] if may_lack else [netlist])]])
         self.guessed = [(it.name, f"copper layer {it.number}", it.why) for it in layers if it.why]
-        self.guessed += [(it.name, f"plated holes from layer {it.span[0]} to {it.span[1]}", it.why) for it in plated if it.why]
+        self.guessed += [
+            (it.name, f"plated holes from layer {it.span[0]} to {it.span[1]}", it.why) for it in plated if it.why
+        ]
         self.guessed += [(it.name, "unplated holes, left out", it.why) for it in unplated]
         if not package.is_whole(layers):
             # A name may say that a file is no copper where names say what is; where attributes do, and may lack one, it does not.

@@ -22,7 +22,8 @@ def mend(package, progress, is_yes=False, said=()):
     doubts = rewritten(package, partial(progress.step, "looking for what to mend, file"))
     unsaid = [it for it in doubts if it not in said]
     if unsaid and not is_yes:
-        from .evidence import readings      # few boards want them
+        from .evidence import readings  # few boards want them
+
         raise Stop(UNCLEAR, readings.ASK + would_be_taken(unsaid))
     package.guessed += map(sentence, unsaid)
     package.taken += doubts
@@ -52,10 +53,18 @@ def rewritten(package, told=lambda number, count: None):
     need_plated(package, drills)
     netlist = package.manifest.netlist
     need_names(package, netlist)
-    settling = drill_numbers.Settling(package.around, lambda: [bytes_of(package, name) for name in package.manifest.copper])
+    settling = drill_numbers.Settling(
+        package.around, lambda: [bytes_of(package, name) for name in package.manifest.copper]
+    )
     # A copy of a netlist that lies elsewhere cannot stand under its name, which is said where one is wanted.
-    its = mends.of_files(lambda name: (read if name == netlist else bytes_of)(package, name), package.manifest.copper, drills,
-                         netlist, settling, told)
+    its = mends.of_files(
+        lambda name: (read if name == netlist else bytes_of)(package, name),
+        package.manifest.copper,
+        drills,
+        netlist,
+        settling,
+        told,
+    )
     for name, data, mends_of_it in its:
         package.put(name, data)
         package.mends += mends_of_it
@@ -66,8 +75,11 @@ def taken(package):
     """Has files read as the board says, and answers how."""
     if not wants_readings(package):
         return []
-    from .evidence import readings      # few boards want them
-    found = list(readings.of_files(lambda name: bytes_of(package, name), package.manifest.copper, package.manifest.netlist))
+    from .evidence import readings  # few boards want them
+
+    found = list(
+        readings.of_files(lambda name: bytes_of(package, name), package.manifest.copper, package.manifest.netlist)
+    )
     for it in found:
         package.put(it.file, it.data)
     return [Taken(it.file, it.words) for it in found]
@@ -76,8 +88,9 @@ def taken(package):
 def wants_readings(package):
     """Whether a file may not say how it is read."""
     its = package.manifest
-    return (netlist_mends.may_be_open(bytes_of(package, its.netlist), its.layers)
-            or any(may_lack_quadrants(bytes_of(package, name)) for name in its.copper))
+    return netlist_mends.may_be_open(bytes_of(package, its.netlist), its.layers) or any(
+        may_lack_quadrants(bytes_of(package, name)) for name in its.copper
+    )
 
 
 def need_functions(package):
@@ -86,11 +99,15 @@ def need_functions(package):
         data = bytes_of(package, name)
         kind, line = unread_function(data, first, last) or ("", 0)
         if kind:
-            place = sum(len(it) + 1 for it in data.split(b"\n")[:line - 1])
-            from . import cad_tools         # as below
+            place = sum(len(it) + 1 for it in data.split(b"\n")[: line - 1])
+            from . import cad_tools  # as below
+
             way = cad_tools.way(kind.split()[-1], cad_tools.tool_of(data))
-            raise Stop(REFUSED, f"{name}: {kind} at line {line}, byte {place}, by a form of the file function that `check` passes over"
-                       + (f"; to export: {way}" if way else ""))
+            raise Stop(
+                REFUSED,
+                f"{name}: {kind} at line {line}, byte {place}, by a form of the file function that `check` passes over"
+                + (f"; to export: {way}" if way else ""),
+            )
 
 
 def need_plated(package, drills):
@@ -99,9 +116,13 @@ def need_plated(package, drills):
         data = bytes_of(package, name)
         line = unplated_hole(data)
         if line:
-            from . import cad_tools         # few boards are refused
-            raise Stop(REFUSED, f"{name}: line {line} makes a hole that the file itself calls unplated, and what it says of the others does not fit or is "
-                                f"missing, so that hole would join layers; to export: {cad_tools.way('MixedPlating', cad_tools.tool_of(data))}")
+            from . import cad_tools  # few boards are refused
+
+            raise Stop(
+                REFUSED,
+                f"{name}: line {line} makes a hole that the file itself calls unplated, and what it says of the others does not fit or is "
+                f"missing, so that hole would join layers; to export: {cad_tools.way('MixedPlating', cad_tools.tool_of(data))}",
+            )
 
 
 def need_names(package, name):
@@ -128,5 +149,6 @@ def way_out(package, refusal: Optional[Refusal]) -> Advice:
     """The way out of a refusal of one of a package's files."""
     if not refusal:
         return Advice(0, "")
-    from . import export_advice     # as above
+    from . import export_advice  # as above
+
     return export_advice.way_out(refusal, lambda name: bytes_of(package, name))

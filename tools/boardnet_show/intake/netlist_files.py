@@ -39,9 +39,11 @@ def choose(netlists: Sequence[Netlist], wanted: Optional[str]) -> Netlist:
     if len(netlists) > 1:
         raise Refused(f"there are several netlists ({names(netlists)}): say which by --netlist FILE")
     if not netlists:
-        raise Refused("there is no IPC-D-356A netlist: export one (KiCad: File, Fabrication Outputs, IPC-D-356 Netlist "
-                      "File); without one `boardnet show` judges a board by the names that its copper files give their "
-                      "own pads (TO.P, TO.N), where they do")
+        raise Refused(
+            "there is no IPC-D-356A netlist: export one (KiCad: File, Fabrication Outputs, IPC-D-356 Netlist "
+            "File); without one `boardnet show` judges a board by the names that its copper files give their "
+            "own pads (TO.P, TO.N), where they do"
+        )
     return netlists[0]
 
 

@@ -24,7 +24,9 @@ def came(package, name: str) -> bytes:
 
 def refusal(name: str, data: bytes, kind: Tuple[int, str], attribute: gerber_attributes.Attribute) -> Refusal:
     """The refusal of a file by one of its attributes, as `check` has it."""
-    return Refusal(name, GERBER, *kind, "command", data.count(b"*", 0, attribute.start) + 1, attribute.start, attribute.is_comment)
+    return Refusal(
+        name, GERBER, *kind, "command", data.count(b"*", 0, attribute.start) + 1, attribute.start, attribute.is_comment
+    )
 
 
 def amiss(package) -> Optional[Refusal]:

@@ -202,11 +202,14 @@ def of_manifest(path, scratch, inside=None):
 
 def of_folder(home, asked, scratch, declared):
     """The package of a folder without a manifest, by what the files say of themselves and what is declared of them."""
-    from . import gathering as gathered        # most boards have a manifest
+    from . import gathering as gathered  # most boards have a manifest
+
     need_plain(home, [TIES, DECLARATIONS])
     found, said = gathered.gather(home), declared(home)
     try:
-        plan = gathered.Plan(found, asked.netlist or said.netlist or None, asked.no_drills or said.has_no_drills, True, said.drilled)
+        plan = gathered.Plan(
+            found, asked.netlist or said.netlist or None, asked.no_drills or said.has_no_drills, True, said.drilled
+        )
     except Refused as why:
         left_out = "".join(f"\n  left out: {name}: {reason}" for name, reason in found.left_out)
         raise Stop(UNCLEAR, f"{why}{left_out}") from None
@@ -221,8 +224,11 @@ def of_folder(home, asked, scratch, declared):
     for name in filter(None, [*told.names(), TIES]):
         package.link(name, os.path.join(home, name))
     if unsaid and not asked.yes:
-        raise Unconfirmed("the files do not say all of what they are: if this is right, say --yes; else write m.json by hand"
-                          + "".join(f"\n  would be taken: {word}" for word in package.guessed), package)
+        raise Unconfirmed(
+            "the files do not say all of what they are: if this is right, say --yes; else write m.json by hand"
+            + "".join(f"\n  would be taken: {word}" for word in package.guessed),
+            package,
+        )
     return package
 
 
@@ -236,7 +242,8 @@ def holds_folders_alone(path: str) -> bool:
 def is_archive(path):
     if not os.path.isfile(path):
         return False
-    import zipfile          # most boards come in no archive, and loading takes long
+    import zipfile  # most boards come in no archive, and loading takes long
+
     # One that was cut off is none by its content; it is refused as what its name says.
     return path.lower().endswith(".zip") or zipfile.is_zipfile(path)
 
@@ -244,6 +251,7 @@ def is_archive(path):
 def unpacked(path, scratch):
     """The folder of a zip archive's files, in the scratch folder."""
     from . import archives
+
     folder = os.path.join(scratch, "unpacked")
     archives.extract(path, folder)
     return folder
@@ -275,7 +283,8 @@ def of_archive(path, asked, scratch, declared):
 
 def of_sorted_files(path, asked, scratch, declared):
     """The package of a folder whose files its tool has sorted into folders, as that of an archive."""
-    from . import archives      # few boards are sorted so
+    from . import archives  # few boards are sorted so
+
     folder = os.path.join(scratch, "unpacked")
     archives.link_files(path, folder)
     package = opened(folder, asked, scratch, None, declared)
@@ -318,7 +327,8 @@ def keep(package, report, folder):
     """Copies the package as it was judged, and its report, to a folder that must not be there yet."""
     if os.path.exists(folder):
         raise Stop(UNWRITABLE, f"{folder} is there already: --keep wants a new folder")
-    import shutil           # loading takes long, as above
+    import shutil  # loading takes long, as above
+
     try:
         shutil.copytree(package.folder, folder)
         with open(os.path.join(folder, package.report_name()), "wb") as file:

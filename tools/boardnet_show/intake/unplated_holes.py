@@ -6,7 +6,17 @@ from typing import Iterator, List, NamedTuple, Set
 from boardnet_show.base.statuses import BadCopper
 from boardnet_show.formats import gerber_attributes
 from boardnet_show.formats.drills.drill_lines import (
-    BODY, Comment, Hit, Mode, Move, Other, Pick, Repeat, Rout, Unit, places_of
+    BODY,
+    Comment,
+    Hit,
+    Mode,
+    Move,
+    Other,
+    Pick,
+    Repeat,
+    Rout,
+    Unit,
+    places_of,
 )
 from boardnet_show.formats.drills.drill_plating import Plating
 from boardnet_show.formats.drills.drilled_holes import add_drilled

@@ -75,4 +75,3 @@ def blocked(status: int, refusal: Refusal, bounded: Refusal) -> Answer:
 def without_bounds(status: int, said: str, refusal: Optional[Refusal], why: str) -> Answer:
     """The answer on a refused board that has no bounds either."""
     return Answer(status, STOPPED, said, refusal, no_bounds=why)
-

@@ -51,13 +51,17 @@ def side_manifest(files, side, package, changed):
 def asked(program, package, sides, high):
     """What the program answers on the board between both."""
     files = package.changed(beside(package, "proved"))
-    words = [side_manifest(files, side, its, origin) for side, its, origin in zip(two_bounds.SIDES, sides.packages, sides.sources)]
+    words = [
+        side_manifest(files, side, its, origin)
+        for side, its, origin in zip(two_bounds.SIDES, sides.packages, sides.sources)
+    ]
     name = files.free_name("counts", ".txt")
     files.put(name, counts(package, sides, high).encode())
     return program.between(files, *words, name)
 
 
 # ---- what it finds, by the reports on both boards
+
 
 class Found(NamedTuple):
     """Test points: of each open the first one on its further net, of each short those of its names, and those
@@ -130,12 +134,16 @@ def confirm(text, decision, status, ties):
     heads, findings, said = lines[:at], lines[at:-2], "".join(lines[-2:-1])
     own = decision.word(Ties())
     if said != own or decision.word(ties) != ANSWERS[status]:
-        raise Stop(UNJUDGED, f"NOTHING WAS JUDGED: `between` says {said} of a board that {own} by its bounds, and {ANSWERS[status]} with its ties")
+        raise Stop(
+            UNJUDGED,
+            f"NOTHING WAS JUDGED: `between` says {said} of a board that {own} by its bounds, and {ANSWERS[status]} with its ties",
+        )
     if findings != decision.findings() or not set(decision.heads()) <= set(heads):
         raise Stop(UNJUDGED, "NOTHING WAS JUDGED: `between` finds otherwise than `check` on the same two boards")
 
 
 # ---- what is told
+
 
 def smaller(program, package, ties):
     """The board by the smaller areas that `between` wants: both sides, and what `judge` of `bounds` answers of them;
@@ -157,7 +165,9 @@ def refused(judged, why):
     """The answer where `between` does not take a bound: then nothing stands on both."""
     package = judged.package
     package.no_bounds, package.sides, package.between = f"`between` does not take them: {why}", None, None
-    return two_bounds.Bounded(answers.without_bounds(judged.status, judged.line, judged.refusal, package.no_bounds), [], [])
+    return two_bounds.Bounded(
+        answers.without_bounds(judged.status, judged.line, judged.refusal, package.no_bounds), [], []
+    )
 
 
 def proved(bounds):

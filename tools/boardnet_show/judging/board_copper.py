@@ -25,7 +25,10 @@ class Known:
         self.shapes, self.pieces, first = board.shapes, {}, 0
         files = board.manifest.files
         for file, (name, count, lines) in enumerate(zip(files, *lines_of(files, board.report))):
-            self.pieces[board.package.read(name), frozenset(lines) if board.manifest.is_drilled(file) else None] = first, first + count
+            self.pieces[board.package.read(name), frozenset(lines) if board.manifest.is_drilled(file) else None] = (
+                first,
+                first + count,
+            )
             first += count
 
 
@@ -61,4 +64,6 @@ def must_fit(shapes, report):
         if parent >= 0:
             a, b = boxes[piece], boxes[parent]
             if a[0] > b[2] or b[0] > a[2] or a[1] > b[3] or b[1] > a[3]:
-                raise BadCopper(f"the shapes of pieces {parent} and {piece} do not touch, and the report says that they do")
+                raise BadCopper(
+                    f"the shapes of pieces {parent} and {piece} do not touch, and the report says that they do"
+                )

@@ -6,7 +6,7 @@ from boardnet_show.formats.ipc356 import NO_NET
 
 from .net_ties import nets_of
 
-FEW = 4     # parts that are told by a point
+FEW = 4  # parts that are told by a point
 
 
 class Joint:
@@ -18,7 +18,12 @@ class Joint:
 
     def agrees(self):
         """The premises of the law, for names of which tied ones are one."""
-        return not self.low.opens and not self.low.bare and not self.ties.shorts(self.high) and not self.ties.parted(self.low)
+        return (
+            not self.low.opens
+            and not self.low.bare
+            and not self.ties.shorts(self.high)
+            and not self.ties.parted(self.low)
+        )
 
     def findings(self):
         """(kind, sure, words, places, what) with `what` the points or names in doubt."""
@@ -90,7 +95,9 @@ class Joint:
             points = [firsts[name].get(net, next(iter(firsts[name].values()))) for name in it.names]
             sure = it in certain
             how = "no copper joins them" if sure else "are joined on the upper board alone"
-            told = f"{spoken(it.names)} are declared to be tied ({it.source}) and {how}: {spoken(map(self.pin, points))}"
+            told = (
+                f"{spoken(it.names)} are declared to be tied ({it.source}) and {how}: {spoken(map(self.pin, points))}"
+            )
             yield "open", sure, told, self.places(points), points
 
     # ---- shorts: names on one net; a point without a net is a name of its own
@@ -109,23 +116,39 @@ class Joint:
     def shorts(self):
         certain = self.short_nets(self.low)
         for names in certain:
-            yield "short", True, f"{self.these(names.values())} are joined", self.places(names.values()), list(names.values())
+            yield "short", True, f"{self.these(names.values())} are joined", self.places(names.values()), list(
+                names.values()
+            )
         for names in self.short_nets(self.high):
             groups = classes(names, certain)
             if len(groups) > 1 and any(isinstance(key, tuple) for key in names):
                 firsts = [names[group[0]] for group in groups]
-                yield "short", False, f"{self.these(firsts)} are joined on the upper board alone", self.places(firsts), firsts
+                yield "short", False, f"{self.these(firsts)} are joined on the upper board alone", self.places(
+                    firsts
+                ), firsts
 
     def these(self, points):
-        return spoken([f"{'a pin without net (N/C)' if self.name(p) == NO_NET else self.name(p)} at {self.pin(p)}" for p in points], FEW)
+        return spoken(
+            [
+                f"{'a pin without net (N/C)' if self.name(p) == NO_NET else self.name(p)} at {self.pin(p)}"
+                for p in points
+            ],
+            FEW,
+        )
 
     # ---- test points without copper
 
     def missing(self):
         for point in self.high.bare:
-            yield "missing", True, f"no copper lies under {self.pin(point)}, of {self.name(point)}", self.places([point]), [point]
+            yield "missing", True, f"no copper lies under {self.pin(point)}, of {self.name(point)}", self.places(
+                [point]
+            ), [point]
         for point in sorted(set(self.low.bare) - set(self.high.bare)):
-            yield "missing", False, f"copper lies under {self.pin(point)}, of {self.name(point)}, on the upper board alone", self.places([point]), [point]
+            yield "missing", False, f"copper lies under {self.pin(point)}, of {self.name(point)}, on the upper board alone", self.places(
+                [point]
+            ), [
+                point
+            ]
 
 
 def classes(keys, joined):

@@ -8,7 +8,9 @@ from boardnet_show.base.wording import printable
 from boardnet_show.formats import ipc356
 from boardnet_show.formats.gerber_lexer import begins
 
-BUILDER = os.path.join(os.path.dirname(os.path.dirname(os.path.dirname(os.path.abspath(__file__)))), "launch", "build.py")
+BUILDER = os.path.join(
+    os.path.dirname(os.path.dirname(os.path.dirname(os.path.abspath(__file__)))), "launch", "build.py"
+)
 
 
 def checkout():
@@ -27,11 +29,17 @@ def known(package):
     if not told:
         return [f"{package.name} is no manifest"]
     missing = [name for name in told.names() if not os.path.exists(package.path(name))]
-    lines = [f"{len(told.copper)} copper files ({', '.join(told.copper)}), {len(told.drills)} drill files, netlist {told.netlist}"]
+    lines = [
+        f"{len(told.copper)} copper files ({', '.join(told.copper)}), {len(told.drills)} drill files, netlist {told.netlist}"
+    ]
     if told.netlist not in missing:
         lines[0] += f" with {len(ipc356.records(package.read(told.netlist)))} test records"
     lines += [f"{name} is not there" for name in missing]
-    lines += [f"{name} has macros, which `flatten` rewrites" for name in dict.fromkeys(told.copper) if name not in missing and begins(package.read(name), b"AM")]
+    lines += [
+        f"{name} has macros, which `flatten` rewrites"
+        for name in dict.fromkeys(told.copper)
+        if name not in missing and begins(package.read(name), b"AM")
+    ]
     lines += [f"taken as {word}" for word in package.guessed]
     return lines + [f"left out: {word}" for word in package.left_out]
 
@@ -40,7 +48,9 @@ def build(package):
     """Has a trial build made, or the proved program taken, and names it for all that runs it."""
     for line in known(package):
         print(printable(f"boardnet: {package.home or package.name}: {line}"), file=sys.stderr, flush=True)
-    running = subprocess.Popen([sys.executable, BUILDER, "--trial", checkout()], stdin=subprocess.DEVNULL, stdout=subprocess.PIPE)
+    running = subprocess.Popen(
+        [sys.executable, BUILDER, "--trial", checkout()], stdin=subprocess.DEVNULL, stdout=subprocess.PIPE
+    )
     try:
         out, _ = running.communicate()
     except BaseException:

@@ -12,6 +12,7 @@ from boardnet_show.intake.package import Package
 
 from .program import Answer
 
+
 class Judged(NamedTuple):
     """The program's answer; `report` and `text` are None where a file is refused, `audit` is what the audit says of
     the report."""
@@ -31,7 +32,12 @@ def flattens(program, package, refusal):
         return False
     named, done = refusal.file, False
     for name in dict.fromkeys(package.manifest.copper):
-        if name in package.flattened or name in package.outside or name != named and not begins(package.read(name), b"AM"):
+        if (
+            name in package.flattened
+            or name in package.outside
+            or name != named
+            and not begins(package.read(name), b"AM")
+        ):
             continue
         answer = program.flatten(package, name)
         if answer.status == 0:
@@ -63,7 +69,10 @@ def judge(program, package):
     audit = program.audit(package, answer.out)
     told = audit.out.decode("ascii", "replace").strip() or audit.line
     if audit.status != 0:
-        raise Stop(UNJUDGED if audit.status == 1 else audit.status, f"NOTHING WAS JUDGED: `audit` does not confirm the report of `check`: {told}")
+        raise Stop(
+            UNJUDGED if audit.status == 1 else audit.status,
+            f"NOTHING WAS JUDGED: `audit` does not confirm the report of `check`: {told}",
+        )
     try:
         report = Report(answer.out)
     except BadReport as fault:
@@ -76,6 +85,7 @@ def judge(program, package):
 
 def flat_of(program, files):
     """How the normal form of a copper file is had: what was flattened before `check` has it already."""
+
     def flatten(name):
         if name in files.flattened:
             return files.read(name)
@@ -83,4 +93,5 @@ def flat_of(program, files):
         if answer.status != 0:
             raise BadCopper(answer.line)
         return answer.out
+
     return flatten

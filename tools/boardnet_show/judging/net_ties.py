@@ -32,7 +32,10 @@ class Tie(NamedTuple):
     def line(self):
         """A line of ties.txt that declares it, or a comment where the names have what no line can say."""
         lines = ("=".join(names) for names in (self.names, self.names[::-1]))
-        return next((line for line in lines if sorted(parts_of(COMMENT.sub("", line))) == sorted(self.names)), f"# not in a line: {self.equation()}")
+        return next(
+            (line for line in lines if sorted(parts_of(COMMENT.sub("", line))) == sorted(self.names)),
+            f"# not in a line: {self.equation()}",
+        )
 
 
 def parts_of(text):
@@ -55,7 +58,9 @@ def declared(asked, package, declarations=()):
         lines = [COMMENT.sub("", line) for line in package.read(TIES).decode("utf-8-sig", "replace").splitlines()]
     except OSError:
         lines = []
-    found += [tie(line, f"{TIES}, line {number}", package.whole) for number, line in enumerate(lines, 1) if line.strip()]
+    found += [
+        tie(line, f"{TIES}, line {number}", package.whole) for number, line in enumerate(lines, 1) if line.strip()
+    ]
     return Ties({frozenset(it.names): it for it in reversed([*found, *package.ties])}.values())
 
 

@@ -6,7 +6,9 @@ from boardnet_show.formats.ipc356 import NO_NET
 FEW = 4
 NOTHING = "NOTHING WAS JUDGED: "
 BECAUSE = ", so no two of them could contradict one another, and this yes says nothing about the board"
-NO_POINTS = NOTHING + "the netlist has no test point (no 317 and no 327 record), so this yes says nothing about the board"
+NO_POINTS = (
+    NOTHING + "the netlist has no test point (no 317 and no 327 record), so this yes says nothing about the board"
+)
 
 
 def why_nothing(report):
@@ -43,4 +45,6 @@ def unnamed_notes(board):
         return []
     told = [spoken(map(board.point_words, points), FEW) for points in found]
     more = f"; so are those of {counted(len(found) - FEW, 'more net')}" if len(found) > FEW else ""
-    return [f"records without net (N/C) are joined: {'; '.join(told[:FEW])}{more}. Each such pin should stand alone; a pad and its via may be two records"]
+    return [
+        f"records without net (N/C) are joined: {'; '.join(told[:FEW])}{more}. Each such pin should stand alone; a pad and its via may be two records"
+    ]

@@ -8,7 +8,7 @@ from boardnet_show.intake.package import Package, beside
 from .judged import judge
 from .program import Program
 
-MOST = 3        # further refusals that are looked for
+MOST = 3  # further refusals that are looked for
 DRILL = "drill"
 # A copper file of nothing.
 EMPTY = b"%FSLAX46Y46*%\n%MOMM*%\nM02*\n"

@@ -11,7 +11,10 @@ from . import building
 TOOLS = os.path.dirname(os.path.dirname(os.path.dirname(os.path.abspath(__file__))))
 # Where the program lies: beside the tools where it is installed, in a checkout where the gate or the launcher leaves
 # it.
-PLACES = (os.path.join(TOOLS, "boardnet"), os.path.join(os.path.dirname(TOOLS), "crates", "boardnet", "out", "boardnet"))
+PLACES = (
+    os.path.join(TOOLS, "boardnet"),
+    os.path.join(os.path.dirname(TOOLS), "crates", "boardnet", "out", "boardnet"),
+)
 NO_PROGRAM = 127
 
 
@@ -33,7 +36,9 @@ def found():
             return os.path.abspath(path)
     if named:
         raise Stop(NO_PROGRAM, f"BOARDNET names {named}, which is no program that can be run")
-    raise Stop(NO_PROGRAM, "the program is not built; `boardnet show` has one made, and BOARDNET names one that lies elsewhere")
+    raise Stop(
+        NO_PROGRAM, "the program is not built; `boardnet show` has one made, and BOARDNET names one that lies elsewhere"
+    )
 
 
 class Program:
@@ -69,7 +74,7 @@ class Program:
         if not 0 <= status <= 6:
             raise Stop(NO_PROGRAM, f"{self.path} {words[0]} ended with {status}")
         lines = [line for line in notes.decode("utf-8", "replace").split("\n") if line.startswith("boardnet: ")]
-        line = lines[0][len("boardnet: "):] if lines else ""
+        line = lines[0][len("boardnet: ") :] if lines else ""
         return Answer(status, out, line, refusals.of_line(line) if status == REFUSED else None)
 
     def ended(self):

@@ -82,6 +82,7 @@ class Sides(NamedTuple):
 def outline_of(package):
     """The outline of a board with negative files, looked for once."""
     from boardnet_show.bounds.files import profile_files, profiles
+
     if not package.outline:
         texts = [package.read(name).decode("latin-1") for name in dict.fromkeys(package.manifest.copper)]
         package.outline = profiles.outline_of(profile_files.texts(package.around), texts)
@@ -89,9 +90,10 @@ def outline_of(package):
 
 
 def sides_of(package, name, is_coarse=False):
-    from boardnet_show.bounds.files import (        # most boards have no bounds, and loading takes longer than a small board
-        bounded_file
+    from boardnet_show.bounds.files import (  # most boards have no bounds, and loading takes longer than a small board
+        bounded_file,
     )
+
     try:
         return bounded_file.of_text(package.read(name).decode("latin-1"), lambda: outline_of(package), is_coarse)
     except Refused as why:
@@ -103,20 +105,33 @@ def sides_of(package, name, is_coarse=False):
 def kept_of(data, copper):
     """(what is kept of a file's bounds, the texts of both sides, whether these are the same on every board)."""
     rows = copper.rows if copper.replaced == len(copper.rows) else None
-    made = Made(copper.replaced, copper.is_bent, rows, copper.unlike, told_once(data, copper.lost), tuple(side.sources for side in copper.sides))
+    made = Made(
+        copper.replaced,
+        copper.is_bent,
+        rows,
+        copper.unlike,
+        told_once(data, copper.lost),
+        tuple(side.sources for side in copper.sides),
+    )
     texts = [side.file_text().encode("latin-1") for side in copper.sides]
-    return made, texts, not copper.negative     # negative files lie within a board's outline
+    return made, texts, not copper.negative  # negative files lie within a board's outline
 
 
 def within(data):
     """The same of a file that needs no bounds; None where it is not known to be one."""
-    from boardnet_show.bounds.files import within_profile       # as above
-    return (Made(0, False, {}, set(), [], ((), ())), [], True) if within_profile.is_within(data.decode("latin-1")) else None
+    from boardnet_show.bounds.files import within_profile  # as above
+
+    return (
+        (Made(0, False, {}, set(), [], ((), ())), [], True)
+        if within_profile.is_within(data.decode("latin-1"))
+        else None
+    )
 
 
 def kept_elsewhere(work):
     """The same in a process of its own, which knows no outline."""
-    from boardnet_show.bounds.files import bounded_file         # as above
+    from boardnet_show.bounds.files import bounded_file  # as above
+
     _, data, is_coarse = work
     return within(data) or kept_of(data, bounded_file.of_text(data.decode("latin-1"), None, is_coarse))
 
@@ -133,7 +148,10 @@ def told_once(data, lost):
         words, _, command = what.rpartition(" at command ")
         kinds.setdefault(words, []).append(int(command))
     lines = line_numbers(data, [its[0] for its in kinds.values()])
-    return [f"{words} at command {its[0]}, line {lines[its[0]]}" + (f", and {len(its) - 1} more" if len(its) > 1 else "") for words, its in kinds.items()]
+    return [
+        f"{words} at command {its[0]}, line {lines[its[0]]}" + (f", and {len(its) - 1} more" if len(its) > 1 else "")
+        for words, its in kinds.items()
+    ]
 
 
 def key_of(package, name, is_coarse):
@@ -191,7 +209,9 @@ def of_package(package, is_coarse=False, told=None):
 
 def is_same_board(one, other):
     """Whether two packages have the same files."""
-    return one.manifest.json_text() == other.manifest.json_text() and all(one.read(name) == other.read(name) for name in one.manifest.names())
+    return one.manifest.json_text() == other.manifest.json_text() and all(
+        one.read(name) == other.read(name) for name in one.manifest.names()
+    )
 
 
 def both_judged(program, sides, before=()):
@@ -277,6 +297,8 @@ def own_commands(report, manifest, sources):
     told = copy.copy(report)
     if sources:
         by_file = [sources.get(name) for name in manifest.files]
-        told.sources = [(file, by_file[file][command - 1] if by_file[file] else command, number, top, bottom)
-                        for file, command, number, top, bottom in report.sources]
+        told.sources = [
+            (file, by_file[file][command - 1] if by_file[file] else command, number, top, bottom)
+            for file, command, number, top, bottom in report.sources
+        ]
     return told

@@ -42,7 +42,9 @@ def above(program, high, sides):
         its = [source for source in own if source[0] == file and source[1] in unlike] if unlike else []
         if its:
             part = package.free_name("unlike", ".gbr")
-            package.put(part, reduced(package.read(name).decode("latin-1"), sides.sources[1][name], unlike).encode("latin-1"))
+            package.put(
+                part, reduced(package.read(name).decode("latin-1"), sides.sources[1][name], unlike).encode("latin-1")
+            )
             add_flat(shapes, flat_of(program, package)(part))
             told += its
         if len(shapes) != len(told):

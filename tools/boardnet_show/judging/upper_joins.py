@@ -10,8 +10,8 @@ from boardnet_show.geometry.touching import Touching
 
 from . import board_copper
 
-FEW = 3             # places that are told of a finding
-MOST = 20_000       # pieces of a net that is looked at
+FEW = 3  # places that are told of a finding
+MOST = 20_000  # pieces of a net that is looked at
 
 
 class Differing:
@@ -108,4 +108,10 @@ class Differing:
         pairs = [] if sure or kind == "missing" or not self.shapes else self.touches(points)
         if not pairs:
             return finding
-        return kind, sure, f"{words}, by {spoken(map(self.touch_words, pairs))}", [self.touch_place(*pair) for pair in pairs] + places, points
+        return (
+            kind,
+            sure,
+            f"{words}, by {spoken(map(self.touch_words, pairs))}",
+            [self.touch_place(*pair) for pair in pairs] + places,
+            points,
+        )

@@ -58,7 +58,13 @@ class Blocks(Copper):
         """An object of a block as the flash has it."""
         own, number = self.object(), len(self.found[self.number]) + 1
         more = {} if made.part else {"part": own.part, "pin": own.pin}
-        return made._replace(command=self.number, region=number if made.kind == "contour" else 0, inner=number, net=made.net or own.net, **more)
+        return made._replace(
+            command=self.number,
+            region=number if made.kind == "contour" else 0,
+            inner=number,
+            net=made.net or own.net,
+            **more,
+        )
 
 
 def form(pieces: Sequence[Piece]) -> List[Any]:

@@ -23,5 +23,6 @@ def take_whole(package: Package) -> None:
     """Has names that a netlist cuts told as the copper's own labels have them, where those say which they are."""
     name = package.manifest.netlist if package.manifest and not package.own else ""
     if name and os.path.exists(package.path(name)) and ipc356.has_other_names(package.read(name)):
-        from . import whole_names           # most boards want none
+        from . import whole_names  # most boards want none
+
         package.whole = whole_names.of_package(package)

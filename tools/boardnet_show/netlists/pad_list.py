@@ -19,8 +19,16 @@ from .block_flashes import objects_of_blocks
 from .probe_places import aim
 
 # Functions of apertures whose flashes are no pads.
-NO_PADS = {"Conductor", "EtchedComponent", "NonConductor", "CopperBalancing", "Border", "OtherCopper", "ThermalReliefPad",
-           "AntiPad"}
+NO_PADS = {
+    "Conductor",
+    "EtchedComponent",
+    "NonConductor",
+    "CopperBalancing",
+    "Border",
+    "OtherCopper",
+    "ThermalReliefPad",
+    "AntiPad",
+}
 VIA = "VIA"
 Spot = Tuple[int, int]
 Objects = List[Optional[Object]]
@@ -30,12 +38,19 @@ class Place:
     """A pad or a hole: its pieces, net and layers (first and last), its middle and size in u, and `hole`, the piece of a
     hole. `aim` is where it is best touched."""
 
-    def __init__(self, pieces: List[int], net: int, layers: Tuple[int, int], middle: Spot, size: Tuple[int, int],
-                 hole: Optional[int] = None) -> None:
+    def __init__(
+        self,
+        pieces: List[int],
+        net: int,
+        layers: Tuple[int, int],
+        middle: Spot,
+        size: Tuple[int, int],
+        hole: Optional[int] = None,
+    ) -> None:
         self.pieces, self.net, self.layers, self.middle, self.size, self.hole = pieces, net, layers, middle, size, hole
         self.aim = middle
         self.part = self.pin = ""
-        self.masks: Set[str] = set()        # the mask codes of the netlist's records on it
+        self.masks: Set[str] = set()  # the mask codes of the netlist's records on it
         self.is_via = self.is_round = False
 
     def name(self, part: str, pin: str, is_via: bool) -> None:
@@ -80,7 +95,9 @@ def between(board: Board, package: Package, name: str, pieces: Sequence[int]) ->
     if begins(data, b"AB"):
         inner = objects_of_blocks(data.decode("latin-1"), board.shapes, sources, pieces)
     made = ((piece, *sources[piece][1:3]) for piece in pieces)
-    return [inner.get(piece) or objects.get((command, copy)) or objects.get((command, 0)) for piece, command, copy in made]
+    return [
+        inner.get(piece) or objects.get((command, copy)) or objects.get((command, 0)) for piece, command, copy in made
+    ]
 
 
 def origins(board: Board, base: Optional[Package]) -> Objects:
@@ -131,8 +148,14 @@ class Padlist:
             top, bottom = self.board.report.sources[piece][3:]
             (x1, y1), (x2, y2) = shapes.places(piece)[0], shapes.places(piece)[-1]
             left, low, right, high = shapes.box(piece)
-            hole = Place([piece], self.board.report.net_of[piece], (top, bottom), ((x1 + x2) // 2, (y1 + y2) // 2),
-                         (right - left, high - low), piece)
+            hole = Place(
+                [piece],
+                self.board.report.net_of[piece],
+                (top, bottom),
+                ((x1 + x2) // 2, (y1 + y2) // 2),
+                (right - left, high - low),
+                piece,
+            )
             hole.is_round = (x1, y1) == (x2, y2)
             found.append(hole)
         return found
@@ -149,7 +172,7 @@ class Padlist:
 
     def pad(self, layer: int, net: int, pieces: List[int]) -> Place:
         shapes, it = self.board.shapes, self.objects[pieces[0]]
-        assert it is not None       # a pad is of an object
+        assert it is not None  # a pad is of an object
         x, y = shapes.first(pieces[0])
         is_round = len(pieces) == 1 and shapes.is_spot(pieces[0])
         form = shapes.radius[pieces[0]] if is_round else tuple([shapes.form(piece, x, y) for piece in pieces])
@@ -206,9 +229,15 @@ class Padlist:
         for j, k in box_grid.holding(boxes, [it.middle for it in self.pads]):
             hole, pad = self.holes[j], self.pads[k]
             layer = pad.layers[0]
-            is_about = hole.layers[0] <= layer <= hole.layers[1] and hole.net == pad.net and (
-                hole.middle == pad.middle and board.shapes.is_spot(hole.hole)
-                or board.touching.holds(hole.hole, pad.middle))
+            is_about = (
+                hole.layers[0] <= layer <= hole.layers[1]
+                and hole.net == pad.net
+                and (
+                    hole.middle == pad.middle
+                    and board.shapes.is_spot(hole.hole)
+                    or board.touching.holds(hole.hole, pad.middle)
+                )
+            )
             if is_about and not hole.is_of_other(pad):
                 hole.take(pad, layer == front(hole, self.layers))
                 about.add(k)

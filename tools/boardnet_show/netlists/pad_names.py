@@ -53,7 +53,7 @@ class Point(NamedTuple):
     layer: int
     label: Label
     pad: pad_places.Pad
-    is_known: bool      # whether the pad's copper is known, and not only bounded from above
+    is_known: bool  # whether the pad's copper is known, and not only bounded from above
     why: str = ""
 
 
@@ -184,7 +184,7 @@ class Pads(Machine):
         super().region_ends()
         if self.note() or self.stays or self.depth:
             return
-        inner, self.words[self.first:] = [text for _, text, _ in self.words[self.first:]], []
+        inner, self.words[self.first :] = [text for _, text, _ in self.words[self.first :]], []
         self.leave([match.groups() for match in map(OPERATION.fullmatch, inner) if match])
 
     def marked_text(self) -> str:
@@ -203,6 +203,7 @@ def erased(objects):
 
     def near(box, at):
         return [pieces[k][0] for k in tree.meeting(box) if pieces[k][1] > at] if tree else []
+
     return near
 
 
@@ -258,7 +259,9 @@ def points_of(text: str, layer: int, wants_pins: bool) -> Iterator[Point]:
             # What a negative file makes is where there is no copper.
             why = NEGATIVE if copper.negative else CLEAR if not it.dark else "" if any(it.both) else NO_COPPER
             is_contour = pads.words[it.tag[-1] - 1][1] == b"G37"
-            for pieces, is_known in parts(it.both) if not (why or is_contour) else [(it.both[0] or it.both[1], bool(it.both[0]))]:
+            for pieces, is_known in (
+                parts(it.both) if not (why or is_contour) else [(it.both[0] or it.both[1], bool(it.both[0]))]
+            ):
                 yield Point(layer, label, None if why else pad_of(pieces, near, at), is_known, why)
 
 
@@ -284,16 +287,20 @@ def all_points(package: Package) -> List[Point]:
         try:
             found += points_of(texts[name], layer, wants_pins) if "TO." in texts[name] else []
         except Refused as why:
-            raise Stop(UNCLEAR, f"{name}: its pads cannot be read ({why}), "
-                       "so their own names cannot be judged") from None
+            raise Stop(
+                UNCLEAR, f"{name}: its pads cannot be read ({why}), " "so their own names cannot be judged"
+            ) from None
     return found
 
 
 # ---- the netlist
 
+
 def named(names: Sequence[str]) -> Dict[str, str]:
     """What stands for each name in 14 columns: itself, or an alias."""
-    return {name: name if ipc356.PLAIN_NAME.fullmatch(name) else f"NNAME{number}" for number, name in enumerate(names, 1)}
+    return {
+        name: name if ipc356.PLAIN_NAME.fullmatch(name) else f"NNAME{number}" for number, name in enumerate(names, 1)
+    }
 
 
 def lines_of(point, place, name):
@@ -321,28 +328,48 @@ def notes_of(package, found, lost, unit, places):
     kept = [(point, place) for point, place in zip(found, places) if place]
     names, files = {name for it, _ in kept for name in it.label.names}, sorted({it.layer for it in found})
     count = sum(max(1, len(it.label.names)) for it, _ in kept)
-    told = [f"names: {counted(count, 'test point')} of {counted(len(names), 'net')} by the attributes of "
-            f"{spoken(package.manifest.copper[layer - 1] for layer in files)} (a netlist of their own, which --keep keeps)"]
+    told = [
+        f"names: {counted(count, 'test point')} of {counted(len(names), 'net')} by the attributes of "
+        f"{spoken(package.manifest.copper[layer - 1] for layer in files)} (a netlist of their own, which --keep keeps)"
+    ]
     moved = max((place.off for _, place in kept), default=0)
     if moved > unit * unit:
         told.append(f"names: no test point is more than {at_most(moved ** 0.5)} mm from the middle of its pad")
     for words, some in (
-            ("its copper has no place on the netlist's grid and is no test point", [it for it, place in zip(found, places) if not place]),
-            ("later clear objects leave no place of its copper that was found, so its test point is where that would be",
-             [it for it, place in kept if pad_places.is_erased(it.pad, place, unit)]),
-            ("its copper is known from above alone, so its test point may lie beside it", [it for it, _ in kept if not it.is_known]),
-            ("it is of several nets, so they are declared to be tied: a test point of each is there", [it for it, _ in kept if len(it.label.names) > 1])):
+        (
+            "its copper has no place on the netlist's grid and is no test point",
+            [it for it, place in zip(found, places) if not place],
+        ),
+        (
+            "later clear objects leave no place of its copper that was found, so its test point is where that would be",
+            [it for it, place in kept if pad_places.is_erased(it.pad, place, unit)],
+        ),
+        (
+            "its copper is known from above alone, so its test point may lie beside it",
+            [it for it, _ in kept if not it.is_known],
+        ),
+        (
+            "it is of several nets, so they are declared to be tied: a test point of each is there",
+            [it for it, _ in kept if len(it.label.names) > 1],
+        ),
+    ):
         if some:
             told.append(f"names: {counted(len(some), 'pad')}, first {pin_of(package, some[0])}: {words}")
     for why in dict.fromkeys(it.why for it in lost):
         some = [it for it in lost if it.why == why]
-        told.append(f"names: {counted(len(some), 'labelled object')}, first {pin_of(package, some[0])}: {why}, and is no test point")
+        told.append(
+            f"names: {counted(len(some), 'labelled object')}, first {pin_of(package, some[0])}: {why}, and is no test point"
+        )
     return told
 
 
 def pin_of(package: Package, point: Point) -> str:
     layer = package.manifest.layer_word(point.layer)
-    return f"{point.label.component} pin {point.label.pin} ({layer})" if point.label.pin else f"one of {point.label.names[0]} ({layer})"
+    return (
+        f"{point.label.component} pin {point.label.pin} ({layer})"
+        if point.label.pin
+        else f"one of {point.label.names[0]} ({layer})"
+    )
 
 
 def tied(package, found):
@@ -360,9 +387,12 @@ def need_holes(package: Package, found: Sequence[Point]) -> None:
             layers.setdefault(it.label[:2], set()).add(it.layer)
     through = sum(len(of) > 1 for of in layers.values())
     if through and not package.manifest.drills:
-        raise Stop(UNCLEAR, f"{counted(through, 'pin')} of the copper files stand on several layers, and there is no "
-                   "drill file of plated holes, which join them: "
-                            "export it in the Excellon format; where the board truly has no plated hole, say --no-drills")
+        raise Stop(
+            UNCLEAR,
+            f"{counted(through, 'pin')} of the copper files stand on several layers, and there is no "
+            "drill file of plated holes, which join them: "
+            "export it in the Excellon format; where the board truly has no plated hole, say --no-drills",
+        )
 
 
 def use(package: Package, may_lack_holes: bool) -> List[str]:

@@ -9,7 +9,7 @@ from boardnet_show.geometry.segments import edges, segments_within
 
 from .pad_places import holds
 
-MOST = 200      # pieces that are looked at one by one
+MOST = 200  # pieces that are looked at one by one
 
 
 def lines(piece: Piece) -> Tuple[List[Tuple[Spot, Spot]], int]:
@@ -22,8 +22,11 @@ def touch(p: Piece, q: Piece) -> bool:
     if not meet(box(p), box(q)):
         return False
     (ours, r), (theirs, s) = lines(p), lines(q)
-    return (holds(p, theirs[0][0]) or holds(q, ours[0][0])
-            or any(segments_within(a, b, c, d, r + s) for a, b in ours for c, d in theirs))
+    return (
+        holds(p, theirs[0][0])
+        or holds(q, ours[0][0])
+        or any(segments_within(a, b, c, d, r + s) for a, b in ours for c, d in theirs)
+    )
 
 
 def grouped(pieces: Sequence[Piece]) -> List[List[int]]:
@@ -44,13 +47,18 @@ def grouped(pieces: Sequence[Piece]) -> List[List[int]]:
 def parts_beside(lower, upper):
     """For each part that the pieces round an object make the numbers of the pieces within it."""
     groups = grouped(upper)
-    taken = [next((n for n, group in enumerate(groups) if any(touch(piece, upper[k]) for k in group)), 0) for piece in lower]
+    taken = [
+        next((n for n, group in enumerate(groups) if any(touch(piece, upper[k]) for k in group)), 0) for piece in lower
+    ]
     return [([k for k, n in enumerate(taken) if n == number], group) for number, group in enumerate(groups)]
 
 
 def frozen(pieces, x, y):
     """Pieces beside a place, as a key."""
-    return tuple((kind, *(tuple(it) if isinstance(it, list) else it for it in rest)) for kind, *rest in (moved(piece, -x, -y) for piece in pieces))
+    return tuple(
+        (kind, *(tuple(it) if isinstance(it, list) else it for it in rest))
+        for kind, *rest in (moved(piece, -x, -y) for piece in pieces)
+    )
 
 
 def parts(both: Both) -> List[Tuple[List[Piece], bool]]:
@@ -60,4 +68,7 @@ def parts(both: Both) -> List[Tuple[List[Piece], bool]]:
     if len(upper) < 2 or len(lower) + len(upper) > MOST:
         return [(lower or upper, bool(lower))]
     x, y = box(upper[0])[:2]
-    return [([lower[k] for k in within] or [upper[k] for k in around], bool(within)) for within, around in parts_beside(frozen(lower, x, y), frozen(upper, x, y))]
+    return [
+        ([lower[k] for k in within] or [upper[k] for k in around], bool(within))
+        for within, around in parts_beside(frozen(lower, x, y), frozen(upper, x, y))
+    ]

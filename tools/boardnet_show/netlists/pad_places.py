@@ -15,9 +15,9 @@ from boardnet_show.geometry.capsule_polygons import polygon
 from boardnet_show.geometry.pieces import Piece, Spot
 from boardnet_show.geometry.segments import edges, odd_inside, point_within
 
-MOST = 999_999                      # six digits
-ROWS, ALONG = 15, 8                 # as many rows of an area, and places along a capsule, are looked at
-FEW = 8                             # of as many places that will do the nearest is taken
+MOST = 999_999  # six digits
+ROWS, ALONG = 15, 8  # as many rows of an area, and places along a capsule, are looked at
+FEW = 8  # of as many places that will do the nearest is taken
 
 
 class Pad(NamedTuple):
@@ -62,7 +62,10 @@ def middles(piece: Piece) -> List[Spot]:
     """Places that a piece is likely to have round them."""
     if piece[0] == "capsule":
         (x1, y1), (x2, y2) = piece[1:3]
-        return [(x1 + (x2 - x1) * k // ALONG, y1 + (y2 - y1) * k // ALONG) for k in (4, 0, 8, 2, 6, 1, 3, 5, 7)[:9 if piece[1] != piece[2] else 1]]
+        return [
+            (x1 + (x2 - x1) * k // ALONG, y1 + (y2 - y1) * k // ALONG)
+            for k in (4, 0, 8, 2, 6, 1, 3, 5, 7)[: 9 if piece[1] != piece[2] else 1]
+        ]
     left, low, right, high = box(piece)
     return [((left + right) // 2, (low + high) // 2)]
 
@@ -72,12 +75,16 @@ def rows(piece: Piece, unit: int) -> List[int]:
     _, low, _, high = box(piece)
     first, last = -(-low // unit), high // unit
     step = max(1, (last - first + ROWS) // ROWS)
-    return sorted(range(first + (last - first) % step // 2, last + 1, step), key=lambda row: abs(2 * row * unit - low - high))
+    return sorted(
+        range(first + (last - first) % step // 2, last + 1, step), key=lambda row: abs(2 * row * unit - low - high)
+    )
 
 
 def across(corners: Sequence[Spot], y: int) -> List[Tuple[Q, Q]]:
     """Where a row is inside an area, as (from, to), the widest first."""
-    cuts = sorted(Q((b[0] - a[0]) * (y - a[1]), b[1] - a[1]) + a[0] for a, b in edges(corners) if (a[1] > y) != (b[1] > y))
+    cuts = sorted(
+        Q((b[0] - a[0]) * (y - a[1]), b[1] - a[1]) + a[0] for a, b in edges(corners) if (a[1] > y) != (b[1] > y)
+    )
     return sorted(zip(cuts[::2], cuts[1::2]), key=lambda cut: cut[0] - cut[1])
 
 
@@ -112,7 +119,9 @@ def found_in(pad: Pad, unit: int) -> Optional[Place]:
         if max(map(abs, at)) <= MOST and is_copper(pad, (at[0] * unit, at[1] * unit)):
             return Place(*at, apart(at, pad.middle, unit))
     tried = (at for piece in sorted(pad.pieces, key=size, reverse=True) for at in within(piece, unit))
-    found = islice((at for at in tried if max(map(abs, at)) <= MOST and is_copper(pad, (at[0] * unit, at[1] * unit))), FEW)
+    found = islice(
+        (at for at in tried if max(map(abs, at)) <= MOST and is_copper(pad, (at[0] * unit, at[1] * unit))), FEW
+    )
     best = min(found, key=lambda at: (apart(at, pad.middle, unit), at), default=None)
     return best and Place(*best, apart(best, pad.middle, unit))
 
@@ -121,5 +130,11 @@ def settled(pads: Sequence[Pad]) -> Tuple[int, List[Optional[Place]]]:
     """(unit, places): the unit in which most pads have a place in copper, and of two such that with most at their
     middles."""
     tried = [(unit, [grid_place(pad, unit) for pad in pads]) for unit in CODES]
-    return min(tried, key=lambda way: (sum(at is None or is_erased(pad, at, way[0]) for pad, at in zip(pads, way[1])),
-                                      sum(at is not None and at.off > 0 for at in way[1]), sum(at.off for at in way[1] if at)))
+    return min(
+        tried,
+        key=lambda way: (
+            sum(at is None or is_erased(pad, at, way[0]) for pad, at in zip(pads, way[1])),
+            sum(at is not None and at.off > 0 for at in way[1]),
+            sum(at.off for at in way[1] if at),
+        ),
+    )

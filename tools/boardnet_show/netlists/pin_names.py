@@ -102,10 +102,14 @@ def by_pin(theirs: Names, ours: Names, pair: Pairs) -> Iterator[str]:
     def is_same(pin: Pin) -> bool:
         paired = {pair[name][0] if name in pair else None for name in theirs[pin]} == ours[pin]
         return paired or theirs[pin] <= some and ours[pin] <= others
+
     wrong = sorted(pin for pin in theirs if not is_same(pin))
     if wrong:
-        yield listed(wrong, lambda pin: f"{pin_word(pin)} is of {spoken(sorted(theirs[pin]))} there "
-                     f"and of {spoken(sorted(ours[pin]))} by the copper's names")
+        yield listed(
+            wrong,
+            lambda pin: f"{pin_word(pin)} is of {spoken(sorted(theirs[pin]))} there "
+            f"and of {spoken(sorted(ours[pin]))} by the copper's names",
+        )
 
 
 def by_name(pair: Pairs) -> Iterator[str]:

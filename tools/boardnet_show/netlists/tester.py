@@ -62,14 +62,21 @@ def confirmed(program: Program, package: Package, text: str) -> Tuple[bool, str]
 
 def above(program: Program, base: Package, text: str) -> Tuple[bool, str]:
     """What the upper of two bounds says of the netlist: where both agree, so does the board between them."""
-    high: Judged = base.between[2]       # type: ignore[index]
+    high: Judged = base.between[2]  # type: ignore[index]
     is_right, said = confirmed(program, high.package, text)
     meaning = "so the board itself agrees" if is_right else "so some of its nets may be one on the board"
     return is_right, f"on the upper bound {said}, {meaning}"
 
 
-def made(program: Program, told: Judged, title: str, board: Optional[Board] = None, known: Any = None,
-         is_told: bool = True, adjacent: Optional[Sequence[Tuple[int, int]]] = None) -> Tester:
+def made(
+    program: Program,
+    told: Judged,
+    title: str,
+    board: Optional[Board] = None,
+    known: Any = None,
+    is_told: bool = True,
+    adjacent: Optional[Sequence[Tuple[int, int]]] = None,
+) -> Tester:
     """The netlist of a judged package; where it is not told of, there are lines only on why there is none. `adjacent`
     are pairs of nets that are close to each other, or None."""
     try:

@@ -64,5 +64,6 @@ def in_ascii(name: str) -> str:
         name = name.encode("latin-1").decode("utf-8")
     except UnicodeError:
         pass
-    return "".join(it if " " <= it <= "~" else f"\\u{ord(it):04X}" if it <= "\uffff" else f"\\U{ord(it):08X}"
-                   for it in name)
+    return "".join(
+        it if " " <= it <= "~" else f"\\u{ord(it):04X}" if it <= "\uffff" else f"\\U{ord(it):08X}" for it in name
+    )

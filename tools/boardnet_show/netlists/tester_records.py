@@ -21,7 +21,7 @@ from .pad_list import Place as Touched
 from .tester_names import Names, in_ascii
 from .tooling_holes import Hole, Tooling
 
-FEW = 6             # nets and pads that are named in a line
+FEW = 6  # nets and pads that are named in a line
 Key = Tuple[Any, ...]
 
 
@@ -80,10 +80,21 @@ class Row:
         wide, high = (whole(length, unit) for length in it.size)
         code = code or (ipc356.THROUGH if has_hole else ipc356.SURFACE)
         part, pin = named(part, pin)
-        return ipc356.record_line(ipc356.Written(
-            code, name, part, pin, self.access, self.at.x, self.at.y, it.is_via and not it.part,
-            whole(drill, unit) if has_hole else None, ipc356.Size(wide, 0 if it.is_round else high),
-            next(iter(it.masks)) if len(it.masks) == 1 else ""))
+        return ipc356.record_line(
+            ipc356.Written(
+                code,
+                name,
+                part,
+                pin,
+                self.access,
+                self.at.x,
+                self.at.y,
+                it.is_via and not it.part,
+                whole(drill, unit) if has_hole else None,
+                ipc356.Size(wide, 0 if it.is_round else high),
+                next(iter(it.masks)) if len(it.masks) == 1 else "",
+            )
+        )
 
     def off(self, unit: int) -> int:
         """How far it is from the middle of the pad, squared, in u."""
@@ -133,8 +144,9 @@ def on_grid(places: Sequence[Touched], shapes: Shapes) -> Optional[Placed]:
     """A unit of which every aim is a whole number, with the places; most boards have one."""
     for unit in UNIT_WORDS:
         most = pad_places.MOST * unit
-        if all(x % unit == 0 == y % unit and abs(x) <= most and abs(y) <= most for x, y in (it.aim for it in places)) \
-                and all(is_middle(it, shapes) or pad_places.is_copper(pad_of(it, shapes), it.aim) for it in places):
+        if all(
+            x % unit == 0 == y % unit and abs(x) <= most and abs(y) <= most for x, y in (it.aim for it in places)
+        ) and all(is_middle(it, shapes) or pad_places.is_copper(pad_of(it, shapes), it.aim) for it in places):
             return unit, [pad_places.Place(it.aim[0] // unit, it.aim[1] // unit, 0) for it in places]
     return None
 
@@ -146,23 +158,32 @@ def pad_of(place: Touched, shapes: Shapes) -> pad_places.Pad:
 class Netlist:
     """The netlist of a board's pads and holes, and what is to be told of it."""
 
-    def __init__(self, padlist: Padlist, title: str, tooling: Optional[Tooling] = None,
-                 adjacent: Optional[Sequence[Tuple[int, int]]] = None) -> None:
+    def __init__(
+        self,
+        padlist: Padlist,
+        title: str,
+        tooling: Optional[Tooling] = None,
+        adjacent: Optional[Sequence[Tuple[int, int]]] = None,
+    ) -> None:
         """`tooling` are the unplated holes, `adjacent` pairs of nets that are close to each other, or None."""
         self.board, self.title, self.objects = padlist.board, title, padlist.objects
         self.tooling, self.adjacent = tooling or Tooling([], 0, []), adjacent
         shapes, layers = self.board.shapes, self.board.manifest.layers
         self.names = Names(self.board, padlist.objects)
-        placed: Placed = (on_grid(padlist.places, shapes)
-                          or pad_places.settled([pad_of(it, shapes) for it in padlist.places]))
+        placed: Placed = on_grid(padlist.places, shapes) or pad_places.settled(
+            [pad_of(it, shapes) for it in padlist.places]
+        )
         self.unit, found = placed
         self.unplaced = [it for it, at in zip(padlist.places, found) if at is None]
         rows: Dict[Key, Row] = {}
         for row in (Row(it, at, layers) for it, at in zip(padlist.places, found) if at is not None):
             rows.setdefault(row.key(), row)
         of_pins = {(row.access, row.at[:2]) for row in rows.values() if row.place.part}
-        self.rows = [row for row in rows.values()
-                     if row.place.part or row.place.hole is not None or (row.access, row.at[:2]) not in of_pins]
+        self.rows = [
+            row
+            for row in rows.values()
+            if row.place.part or row.place.hole is not None or (row.access, row.at[:2]) not in of_pins
+        ]
 
     def drill(self, place: Touched) -> int:
         """The diameter of a hole; 0 of a pad."""
@@ -170,15 +191,19 @@ class Netlist:
 
     def netlist_text(self, is_plain: bool = False) -> str:
         """The netlist; a plain one has each place once, in records that `check` takes as they are."""
-        layers, lines = self.board.manifest.layers, []      # type: int, List[str]
+        layers, lines = self.board.manifest.layers, []  # type: int, List[str]
         for row in self.rows:
             lines += self.comments(row)
             name, drill = self.names.field(row.place.net), self.drill(row.place)
             lines += [row.line(self.unit, name, drill)] if is_plain else row.lines(self.unit, name, drill, layers)
         lines += [] if is_plain else [*map(self.tooling_line, self.tooling.holes), *self.adjacent_lines()]
         title = plain(self.title.replace(" ", "_"), 40)
-        head = [f"C boardnet show: the nets of the copper of {title}", f"P  JOB   {title}", "P  VER IPC-D-356A",
-                ipc356.units_line(self.unit)]
+        head = [
+            f"C boardnet show: the nets of the copper of {title}",
+            f"P  JOB   {title}",
+            "P  VER IPC-D-356A",
+            ipc356.units_line(self.unit),
+        ]
         aliases = [ipc356.alias_line(alias, with_ends(in_ascii(name))) for name, alias in self.names.alias.items()]
         none = [f"C net without a record: {self.net_word(net)}" for net in self.without()]
         return ipc356.file_text([*head, *aliases, *lines, *none])
@@ -194,8 +219,11 @@ class Netlist:
     def tooling_line(self, hole: Hole) -> str:
         """The record of an unplated hole."""
         wide, (x, y) = whole(hole.diameter, self.unit), (rounded(it, self.unit) for it in hole.middle)
-        return ipc356.record_line(ipc356.Written(
-            ipc356.TOOLING, NO_NET, "", "", 0, x, y, diameter=wide, size=ipc356.Size(wide, 0), plating="U"))
+        return ipc356.record_line(
+            ipc356.Written(
+                ipc356.TOOLING, NO_NET, "", "", 0, x, y, diameter=wide, size=ipc356.Size(wide, 0), plating="U"
+            )
+        )
 
     def adjacent_lines(self) -> Iterator[str]:
         """For each net those that are close to it and behind it in order, where that was asked for."""
@@ -219,8 +247,10 @@ class Netlist:
         pin, and draws with one."""
         nets, outer = self.nets(), (0, self.board.manifest.layers - 1)
         its = zip(self.objects, self.board.report.sources, self.board.report.net_of)
-        return sum(it is not None and file in outer and net in nets and it.kind == ("draw" if it.part else "contour")
-                   for it, (file, *_), net in its)
+        return sum(
+            it is not None and file in outer and net in nets and it.kind == ("draw" if it.part else "contour")
+            for it, (file, *_), net in its
+        )
 
     def untouched(self) -> str:
         """What has no record, in few words."""

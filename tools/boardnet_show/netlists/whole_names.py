@@ -16,7 +16,7 @@ from boardnet_show.intake.package import Package
 
 Pin = Tuple[str, str]
 NUMBERED = re.compile(r"(.*)#[1-9][0-9]*")
-BASE = 10           # what is kept of a name that gets a number
+BASE = 10  # what is kept of a name that gets a number
 FLASH = b"3"
 
 
@@ -75,16 +75,16 @@ def canonical(name: str) -> str:
 
 def is_written_so(short: str, whole: str) -> bool:
     """Whether a netlist's name is a whole name as KiCad writes it, or cut to its columns at one end."""
-    if len(short) == ipc356.NAME_WIDTH and short in (whole[:ipc356.NAME_WIDTH], whole[-ipc356.NAME_WIDTH:]):
+    if len(short) == ipc356.NAME_WIDTH and short in (whole[: ipc356.NAME_WIDTH], whole[-ipc356.NAME_WIDTH :]):
         return True
     capitals = canonical(whole)
     number = NUMBERED.fullmatch(short)
-    return short == capitals[-ipc356.NAME_WIDTH:] or number is not None and number[1] == capitals[-BASE:]
+    return short == capitals[-ipc356.NAME_WIDTH :] or number is not None and number[1] == capitals[-BASE:]
 
 
 def cut(pin: Pin) -> Pin:
     """A pin as a netlist's columns have it."""
-    return pin[0][:ipc356.COMPONENT_WIDTH], pin[1][:ipc356.PIN_WIDTH]
+    return pin[0][: ipc356.COMPONENT_WIDTH], pin[1][: ipc356.PIN_WIDTH]
 
 
 def pins_of(records: Tuple[ipc356.Record, ...], whole: Dict[str, str]) -> Dict[str, Set[Pin]]:
@@ -106,8 +106,11 @@ def matched(pins: Dict[str, Set[Pin]], labels: Dict[Pin, Set[str]]) -> Dict[str,
     of = {name: set().union(*(nets_of.get(pin, set()) for pin in its)) for name, its in pins.items()}
     owners = Counter(label for labelled in of.values() for label in labelled)
     found = {name: next(iter(its)) for name, its in of.items() if len(its) == 1 and name != ipc356.NO_NET}
-    return {name: whole for name, whole in found.items()
-            if name != whole and owners[whole] == 1 and whole not in pins and is_written_so(name, whole)}
+    return {
+        name: whole
+        for name, whole in found.items()
+        if name != whole and owners[whole] == 1 and whole not in pins and is_written_so(name, whole)
+    }
 
 
 def of_package(package: Package) -> Dict[str, str]:

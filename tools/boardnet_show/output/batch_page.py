@@ -6,8 +6,10 @@ from . import text_lines
 from .markup import in_html
 from .shown import Shown
 
-STYLE = ("body{font:15px/1.5 'DejaVu Sans',sans-serif;margin:2em;max-width:75em;color:#16191d}table{border-collapse:collapse;width:100%}"
-         "td,th{text-align:left;vertical-align:top;padding:.4em .8em;border-bottom:1px solid #c9ced6}.agrees{color:#0a6b3d}.other{color:#a0006b}")
+STYLE = (
+    "body{font:15px/1.5 'DejaVu Sans',sans-serif;margin:2em;max-width:75em;color:#16191d}table{border-collapse:collapse;width:100%}"
+    "td,th{text-align:left;vertical-align:top;padding:.4em .8em;border-bottom:1px solid #c9ced6}.agrees{color:#0a6b3d}.other{color:#a0006b}"
+)
 
 
 def page_names(path: str, all_shown: Sequence[Shown]) -> Dict[str, str]:
@@ -29,7 +31,9 @@ def page_html(all_shown: Sequence[Shown], links: Dict[str, str]) -> str:
     """The list; `links` has the pages that there are."""
     rows = "\n".join(row(shown, links.get(shown.path)) for shown in all_shown)
     total = in_html(text_lines.total(all_shown))
-    return (f'<!DOCTYPE html>\n<html lang="en">\n<head>\n<meta charset="utf-8">\n'
-            f"<meta http-equiv=\"Content-Security-Policy\" content=\"default-src 'none'; style-src 'unsafe-inline'\">\n"
-            f"<title>{total}: boardnet</title>\n<style>{STYLE}</style>\n</head>\n<body>\n<h1>{total}</h1>\n"
-            f"<table>\n<tr><th>Board</th><th>Answer</th><th>In full</th></tr>\n{rows}\n</table>\n</body>\n</html>\n")
+    return (
+        f'<!DOCTYPE html>\n<html lang="en">\n<head>\n<meta charset="utf-8">\n'
+        f"<meta http-equiv=\"Content-Security-Policy\" content=\"default-src 'none'; style-src 'unsafe-inline'\">\n"
+        f"<title>{total}: boardnet</title>\n<style>{STYLE}</style>\n</head>\n<body>\n<h1>{total}</h1>\n"
+        f"<table>\n<tr><th>Board</th><th>Answer</th><th>In full</th></tr>\n{rows}\n</table>\n</body>\n</html>\n"
+    )

@@ -35,38 +35,68 @@ def place_object(spot: Place, layer: int) -> Dict[str, Any]:
 def point(board: Board, number: int) -> Dict[str, Any]:
     record, layer, name, net = board.report.points[number]
     found = board.record(number)
-    return {"point": number, "record": record, "line": board.line(number),
-            "component": found.component if found else "", "pin": found.pin if found else "", "name": board.name(name), "net": net if net >= 0 else None,
-            **place_object(board.spot(number), layer)}
+    return {
+        "point": number,
+        "record": record,
+        "line": board.line(number),
+        "component": found.component if found else "",
+        "pin": found.pin if found else "",
+        "name": board.name(name),
+        "net": net if net >= 0 else None,
+        **place_object(board.spot(number), layer),
+    }
 
 
 def piece(board: Board, number: int) -> Dict[str, Any]:
     file, command, copy, top, bottom = board.report.sources[number]
     word = "line" if board.manifest.is_drilled(file) else "command"
-    return {"piece": number, "file": board.manifest.files[file], word: command, "copy": copy, "top": top,
-            "bottom": bottom, **({"label": board.labels[number]} if number in board.labels else {})}
+    return {
+        "piece": number,
+        "file": board.manifest.files[file],
+        word: command,
+        "copy": copy,
+        "top": top,
+        "bottom": bottom,
+        **({"label": board.labels[number]} if number in board.labels else {}),
+    }
 
 
 def meet(board: Board, found: Meet) -> Dict[str, Any]:
     one, other = found.names
-    pieces = [{**piece(board, number), "of": one if at <= found.near else other if at >= found.far else None}
-              for at, number in enumerate(found.chain)]
-    return {"names": list(found.names), **place_object(found.place, found.layer),
-            "touch": [piece(board, number) for number in found.touch],
-            "between": [piece(board, number) for number in found.between], "path": pieces}
+    pieces = [
+        {**piece(board, number), "of": one if at <= found.near else other if at >= found.far else None}
+        for at, number in enumerate(found.chain)
+    ]
+    return {
+        "names": list(found.names),
+        **place_object(found.place, found.layer),
+        "touch": [piece(board, number) for number in found.touch],
+        "between": [piece(board, number) for number in found.between],
+        "path": pieces,
+    }
 
 
 def finding(board: Board, one: Finding) -> Dict[str, Any]:
     told: Dict[str, Any] = {
-        "id": one.id, "kind": one.kind, "names": [board.name(name) for name in one.names], "words": one.words,
+        "id": one.id,
+        "kind": one.kind,
+        "names": [board.name(name) for name in one.names],
+        "words": one.words,
         "hints": one.hints,
-        "points": [point(board, number) for number in one.points], "nets": one.nets}
+        "points": [point(board, number) for number in one.points],
+        "nets": one.nets,
+    }
     if one.parts:
-        told["parts"] = [{"count": len(part), "points": [point(board, number) for number in part[:MOST_OF_A_PART]]}
-                         for part in one.parts]
+        told["parts"] = [
+            {"count": len(part), "points": [point(board, number) for number in part[:MOST_OF_A_PART]]}
+            for part in one.parts
+        ]
     if one.gap:
-        told["gap"] = {"distance": round(mm(max(one.gap.distance, 0)), 6),
-                       **place_object(one.gap.place, one.gap.layer), "below": one.gap.below}
+        told["gap"] = {
+            "distance": round(mm(max(one.gap.distance, 0)), 6),
+            **place_object(one.gap.place, one.gap.layer),
+            "below": one.gap.below,
+        }
     if one.kind in (GAP, NECK):
         told["pieces"] = [piece(board, number) for number in one.pieces]
     if one.sure is not None:
@@ -79,18 +109,36 @@ def finding(board: Board, one: Finding) -> Dict[str, Any]:
 def absent_ties(shown: Shown) -> Iterator[Dict[str, Any]]:
     """The ties of names that no test point has, as findings without a place."""
     for number, (it, words) in enumerate(net_ties.absent(shown.seen.ties, shown.board.report)):
-        yield {"id": f"tie-{number}", "kind": "tie", "names": list(it.names), "words": words, "hints": [],
-               "points": [], "nets": [], **({"sure": True} if shown.bounds else {})}
+        yield {
+            "id": f"tie-{number}",
+            "kind": "tie",
+            "names": list(it.names),
+            "words": words,
+            "hints": [],
+            "points": [],
+            "nets": [],
+            **({"sure": True} if shown.bounds else {}),
+        }
 
 
 def like_of(likeness: Any) -> Dict[str, Any]:
     """The comparison with another board."""
+
     def places(its: Sequence[Tuple[int, int, int]]) -> List[Dict[str, Any]]:
         return [place_object((x, y), layer) for x, y, layer in its]
-    differences = [{**each._asdict(), "places": places(each.places), "places_there": places(each.places_there)}
-                   for each in likeness.differences]
-    return {"path": likeness.path, "status": likeness.status, "line": likeness.line, "placed": likeness.placed,
-            "not_compared": likeness.untouched, "differences": differences}
+
+    differences = [
+        {**each._asdict(), "places": places(each.places), "places_there": places(each.places_there)}
+        for each in likeness.differences
+    ]
+    return {
+        "path": likeness.path,
+        "status": likeness.status,
+        "line": likeness.line,
+        "placed": likeness.placed,
+        "not_compared": likeness.untouched,
+        "differences": differences,
+    }
 
 
 def declaration(declared: Declaration) -> Dict[str, Any]:
@@ -102,8 +150,13 @@ def declaration(declared: Declaration) -> Dict[str, Any]:
         values = {"of": "plated", "file": what.file, "from": what.first, "to": what.last}
     else:
         values = declaration_file.change_values(what)
-    return {**values, "words": declarations.what_words(declared), "source": declared.source,
-            "stale": declared.is_stale, "made_before": declared.was_made}
+    return {
+        **values,
+        "words": declarations.what_words(declared),
+        "source": declared.source,
+        "stale": declared.is_stale,
+        "made_before": declared.was_made,
+    }
 
 
 def signed(board: Board, waived: Waived) -> Dict[str, Any]:
@@ -112,17 +165,23 @@ def signed(board: Board, waived: Waived) -> Dict[str, Any]:
 
 
 def hint_of(hint: Hint) -> Dict[str, Any]:
-    return {"kind": hint.kind, "words": hints.words(hint), "answer_status": hint.answer.status,
-            "answer_line": answers.bare_line(hint.answer), "explains": hint.explains}
+    return {
+        "kind": hint.kind,
+        "words": hints.words(hint),
+        "answer_status": hint.answer.status,
+        "answer_line": answers.bare_line(hint.answer),
+        "explains": hint.explains,
+    }
 
 
 def bounds_of(shown: Shown) -> Dict[str, Any]:
     """What a board between two has beside the lower one's findings."""
     if not shown.bounds:
         return {}
-    findings = [{"kind": kind, "sure": sure, "words": words,
-                 "places": [place_object((x, y), layer) for x, y, layer in places]}
-                for kind, sure, words, places in shown.bounds.findings]
+    findings = [
+        {"kind": kind, "sure": sure, "words": words, "places": [place_object((x, y), layer) for x, y, layer in places]}
+        for kind, sure, words, places in shown.bounds.findings
+    ]
     both = shown.answer.both
     lines = {"lower": both.lower, "upper": both.upper} if both else {}
     return {"bounds": {"findings": findings, "left_out": list(shown.bounds.left_out), **lines}}
@@ -146,22 +205,36 @@ def judged_of(shown: Shown) -> Dict[str, Any]:
     board, seen = shown.board, shown.seen
     unnamed = sum(board.name(name) == NO_NET for _, _, name, _ in board.report.points)
     return {
-        "audit": seen.audit, "copper": board.manifest.copper, "drills": [name for name, _, _ in board.manifest.drills],
-        "netlist": board.manifest.netlist, "own_names": bool(board.package.own),
-        "ties": list(net_ties.told_of(board.ties, board.report)), "pieces": board.report.pieces,
-        "points": len(board.report.points), "unnamed_points": unnamed,
-        **seen.counts()._asdict(), **shown.found_counts(), "flood": seen.flood,
+        "audit": seen.audit,
+        "copper": board.manifest.copper,
+        "drills": [name for name, _, _ in board.manifest.drills],
+        "netlist": board.manifest.netlist,
+        "own_names": bool(board.package.own),
+        "ties": list(net_ties.told_of(board.ties, board.report)),
+        "pieces": board.report.pieces,
+        "points": len(board.report.points),
+        "unnamed_points": unnamed,
+        **seen.counts()._asdict(),
+        **shown.found_counts(),
+        "flood": seen.flood,
         "waived": [signed(board, it) for it in seen.waived],
-        "findings": [*(finding(board, it) for it in shown.findings), *absent_ties(shown)]}
+        "findings": [*(finding(board, it) for it in shown.findings), *absent_ties(shown)],
+    }
 
 
 def board_of(shown: Shown) -> Dict[str, Any]:
     """One board."""
     seen = shown.seen
-    told = {"path": shown.path, "status": shown.status, "line": shown.line, "notes": shown.notes,
-            "declarations": list(map(declaration, seen.declared)),
-            "stale_waivers": list(map(declaration_file.waiver_values, seen.stale)),
-            "mends": [it._asdict() for it in seen.mends], "hints": list(map(hint_of, shown.hints))}
+    told = {
+        "path": shown.path,
+        "status": shown.status,
+        "line": shown.line,
+        "notes": shown.notes,
+        "declarations": list(map(declaration, seen.declared)),
+        "stale_waivers": list(map(declaration_file.waiver_values, seen.stale)),
+        "mends": [it._asdict() for it in seen.mends],
+        "hints": list(map(hint_of, shown.hints)),
+    }
     return {**told, **bounds_of(shown), **besides_of(shown), **(judged_of(shown) if shown.board else {})}
 
 

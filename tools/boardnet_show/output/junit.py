@@ -12,7 +12,9 @@ from .shown import Shown
 def quoted(text: str) -> str:
     """A text as the value of an attribute, in the quotes that it has not."""
     told = escaped(text).replace("\n", "&#10;").replace("\r", "&#13;").replace("\t", "&#9;")
-    return f'"{told}"' if '"' not in told else f"'{told}'" if "'" not in told else '"' + told.replace('"', "&quot;") + '"'
+    return (
+        f'"{told}"' if '"' not in told else f"'{told}'" if "'" not in told else '"' + told.replace('"', "&quot;") + '"'
+    )
 
 
 class Case(NamedTuple):
@@ -51,7 +53,10 @@ def of_names(shown: Shown) -> List[Case]:
     for each in shown.seen.waived:
         for name in each.finding.names:
             waived.setdefault(name, []).append(declarations.waived_words(each))
-    cases = [Case(name, failures.get(number, []), waived=tuple(waived.get(number, ()))) for number, name in enumerate(shown.board.report.names)]
+    cases = [
+        Case(name, failures.get(number, []), waived=tuple(waived.get(number, ())))
+        for number, name in enumerate(shown.board.report.names)
+    ]
     return cases + ([Case("ties", nowhere)] if nowhere else [])
 
 
@@ -59,8 +64,15 @@ def cases_of(shown: Shown) -> List[Case]:
     """All cases: no status but 0 is without one that fails or is an error."""
     status = shown.answer.status
     cases = of_names(shown) if shown.board and status in (0, 1) else [whole(shown, status, shown.netlist_line)]
-    cases += [Case(it.what, [cause[:2] for cause in it.causes()], "failure" if it.status == 1 else "error") for it in shown.besides]
-    return cases if not shown.status or any(it.causes for it in cases) else [*cases, whole(shown, shown.status, shown.line)]
+    cases += [
+        Case(it.what, [cause[:2] for cause in it.causes()], "failure" if it.status == 1 else "error")
+        for it in shown.besides
+    ]
+    return (
+        cases
+        if not shown.status or any(it.causes for it in cases)
+        else [*cases, whole(shown, shown.status, shown.line)]
+    )
 
 
 def suite(shown: Shown) -> List[str]:

@@ -3,7 +3,7 @@ import re
 
 from boardnet_show.base.wording import in_lines
 
-NOT_XML = r"[^\t\n\r -\ud7ff\ue000-\ufffd\U00010000-\U0010ffff]"       # compiled where it is wanted: that takes long
+NOT_XML = r"[^\t\n\r -\ud7ff\ue000-\ufffd\U00010000-\U0010ffff]"  # compiled where it is wanted: that takes long
 
 
 def for_xml(text: str) -> str:

@@ -27,15 +27,29 @@ from .text_lines import cut
 
 Place = Tuple[float, float]
 HERE = os.path.join(os.path.dirname(os.path.abspath(__file__)), "page_assets")
-TITLES = {"open": "Opens", "short": "Shorts", "missing": "Points without copper", "gap": "Gaps", "cut": "Cut by holes", "outside": "Outside the edge",
-          "neck": "Necks"}
+TITLES = {
+    "open": "Opens",
+    "short": "Shorts",
+    "missing": "Points without copper",
+    "gap": "Gaps",
+    "cut": "Cut by holes",
+    "outside": "Outside the edge",
+    "neck": "Necks",
+}
 # As the marks in the picture.
-SIGNS = {"open": "\u2296", "short": "\u2715", "missing": "\u25a1", "gap": "\u21d4", "cut": "\u2298", "outside": "\u21f1",
-         "neck": "\u29d6"}
+SIGNS = {
+    "open": "\u2296",
+    "short": "\u2715",
+    "missing": "\u25a1",
+    "gap": "\u21d4",
+    "cut": "\u2298",
+    "outside": "\u21f1",
+    "neck": "\u29d6",
+}
 # So many findings of a kind stand open, the further ones in folds; their suggestions stand in the data alone, which is
 # packed.
 OPEN, FOLD = 300, 500
-FEW = 6             # files that are named
+FEW = 6  # files that are named
 SCRIPTS = ("data", "words", "view", "paint", "draw", "marks", "chosen", "list", "search", "move", "act")
 
 
@@ -71,7 +85,9 @@ class Columns:
 
     def add(self, name: str, numbers: Sequence[int], are_steps: bool = False) -> None:
         least, most = min(numbers, default=0), max(numbers, default=0)
-        packed = array("b" if -128 <= least and most < 128 else "h" if -32_768 <= least and most < 32_768 else "i", numbers)
+        packed = array(
+            "b" if -128 <= least and most < 128 else "h" if -32_768 <= least and most < 32_768 else "i", numbers
+        )
         if sys.byteorder == "big":
             packed.byteswap()
         data, width = packed.tobytes(), packed.itemsize
@@ -133,8 +149,16 @@ def in_whole_nanometres(spot: Place) -> List[int]:
 
 def meet_data(meet: Meet, sides: Sequence[str]) -> Dict[str, Any]:
     x, y = in_whole_nanometres(meet.place)
-    return {"first": sides.index(meet.names[0]), "second": sides.index(meet.names[1]), "chain": meet.chain, "near": meet.near, "far": meet.far,
-            "x": x, "y": y, "layer": meet.layer}
+    return {
+        "first": sides.index(meet.names[0]),
+        "second": sides.index(meet.names[1]),
+        "chain": meet.chain,
+        "near": meet.near,
+        "far": meet.far,
+        "x": x,
+        "y": y,
+        "layer": meet.layer,
+    }
 
 
 def finding_data(finding: Finding, sides: Dict[str, List[str]]) -> Dict[str, Any]:
@@ -157,7 +181,13 @@ def in_page(value: Any) -> Any:
     """The same data with texts as they are told."""
     if isinstance(value, dict):
         return {key: in_page(it) for key, it in value.items()}
-    return printable(value) if isinstance(value, str) else [in_page(it) for it in value] if isinstance(value, (list, tuple)) else value
+    return (
+        printable(value)
+        if isinstance(value, str)
+        else [in_page(it) for it in value]
+        if isinstance(value, (list, tuple))
+        else value
+    )
 
 
 def block(board: Board, findings: Sequence[Finding], wider: Sequence[Any] = ()) -> str:
@@ -169,19 +199,35 @@ def block(board: Board, findings: Sequence[Finding], wider: Sequence[Any] = ()) 
     columns.add_steps("recordLines", (record.line for record in board.records))
     columns.add_steps("recordComponents", which_component)
     columns.add_steps("recordPins", which_pin)
-    head = json.dumps(in_page({
-        "files": manifest.files, "copper": manifest.layers, "netlist": manifest.netlist, "flattened": sorted(board.package.flattened),
-        "layers": [manifest.layer_word(k + 1) for k in range(manifest.layers)], "names": board.report.names, "netCount": board.report.nets,
-        "wider": list(wider), "components": components, "pins": pins, "findings": [finding_data(finding, sides) for finding in findings], "columns": columns.heads,
-    }), separators=(",", ":")).encode()
+    head = json.dumps(
+        in_page(
+            {
+                "files": manifest.files,
+                "copper": manifest.layers,
+                "netlist": manifest.netlist,
+                "flattened": sorted(board.package.flattened),
+                "layers": [manifest.layer_word(k + 1) for k in range(manifest.layers)],
+                "names": board.report.names,
+                "netCount": board.report.nets,
+                "wider": list(wider),
+                "components": components,
+                "pins": pins,
+                "findings": [finding_data(finding, sides) for finding in findings],
+                "columns": columns.heads,
+            }
+        ),
+        separators=(",", ":"),
+    ).encode()
     raw = len(head).to_bytes(4, "little") + head + b"".join(columns.parts)
     return base64.b64encode(zlib.compress(raw, 9)).decode()
 
 
 def row(finding: Finding, is_hinted: bool) -> str:
     hints = "".join(f'<p class="hint">{in_html(hint)}</p>' for hint in finding.hints) if is_hinted else ""
-    return (f'<li id="{finding.id}"><a href="#{finding.id}"><b>{doubt(finding)}{finding.kind} {finding.number}</b> '
-            f"{in_html(finding.words)}</a>{hints}</li>")
+    return (
+        f'<li id="{finding.id}"><a href="#{finding.id}"><b>{doubt(finding)}{finding.kind} {finding.number}</b> '
+        f"{in_html(finding.words)}</a>{hints}</li>"
+    )
 
 
 def rows(findings: Sequence[Finding], is_hinted: bool) -> str:
@@ -196,7 +242,7 @@ def fold(kind: str, findings: Sequence[Finding]) -> str:
 def list_of(kind: str, findings: Sequence[Finding]) -> str:
     if not findings:
         return ""
-    folds = "".join(fold(kind, findings[at:at + FOLD]) for at in range(OPEN, len(findings), FOLD))
+    folds = "".join(fold(kind, findings[at : at + FOLD]) for at in range(OPEN, len(findings), FOLD))
     # Between bounds a finding may be several opens of the report.
     count = len(findings) if findings[0].sure is None else counted(len(findings), "finding")
     head = f'<h2><i aria-hidden="true">{SIGNS[kind]}</i> {TITLES[kind]} <span>{count}</span></h2>'
@@ -215,7 +261,10 @@ def verdict(shown: Shown) -> str:
 def audited(shown: Shown) -> str:
     """What the audit is of: the files, or copies in place of some."""
     copies = dict.fromkeys(it.file for it in shown.seen.mends)
-    words = [*(f"{name} (mended)" for name in copies), *(f"{name} (flattened)" for name in sorted(shown.board.package.flattened))]
+    words = [
+        *(f"{name} (mended)" for name in copies),
+        *(f"{name} (flattened)" for name in sorted(shown.board.package.flattened)),
+    ]
     words += dict.fromkeys(f"{name} (as declared)" for it in shown.seen.declared for name in it.files)
     of = f"these files, with copies in place of {spoken(words, FEW)}" if words else "these files"
     return f"The report was audited: it is true of {of}{', and has each declared tie as a short' if shown.seen.ties.ties else ''}{', and what is waived as a finding' if shown.seen.waived else ''}."
@@ -224,12 +273,15 @@ def audited(shown: Shown) -> str:
 def facts(shown: Shown) -> str:
     board, sure = shown.board, audited(shown)
     if shown.bounds:
-        from boardnet_show.findings import between_bounds        # most boards lie between no bounds
+        from boardnet_show.findings import between_bounds  # most boards lie between no bounds
+
         sure = between_bounds.NOTE
-    return (f"{counted(board.report.pieces, 'piece')} of copper in {counted(board.report.nets, 'net')}; "
-            f"{counted(len(board.report.points), 'test point')} with {counted(len(board.report.names), 'name')}; "
-            f"{counted(board.manifest.layers, 'layer')}. {sure} "
-            "Suggestions are where to look, and no part of the report.")
+    return (
+        f"{counted(board.report.pieces, 'piece')} of copper in {counted(board.report.nets, 'net')}; "
+        f"{counted(len(board.report.points), 'test point')} with {counted(len(board.report.names), 'name')}; "
+        f"{counted(board.manifest.layers, 'layer')}. {sure} "
+        "Suggestions are where to look, and no part of the report."
+    )
 
 
 def source_hash(source: str) -> str:
@@ -242,7 +294,11 @@ def paragraphs(told: Iterable[str]) -> str:
 
 def advice(shown: Shown) -> str:
     """What is told above the findings: hints, what is declared, a flood, and what was asked for besides."""
-    told = [*(f"hint: {words}" for words in text_lines.hint_words(shown)), *declarations.notes(shown.seen), *([shown.seen.flood] if shown.seen.flood else [])]
+    told = [
+        *(f"hint: {words}" for words in text_lines.hint_words(shown)),
+        *declarations.notes(shown.seen),
+        *([shown.seen.flood] if shown.seen.flood else []),
+    ]
     return paragraphs([*told, *cut(list(text_lines.extra_lines(shown)), False)])
 
 
@@ -252,7 +308,9 @@ def folded(shown: Shown) -> str:
     told = [words for words in shown.notes if words not in above]
     told += [answers.bounds_words(shown.answer.both)] if shown.answer.both else []
     count = f", and {counted(len(told), 'note')}" if told else ""
-    return f'<summary>How it was judged{count}</summary>\n<p class="facts">{in_html(facts(shown))}</p>\n{paragraphs(told)}'
+    return (
+        f'<summary>How it was judged{count}</summary>\n<p class="facts">{in_html(facts(shown))}</p>\n{paragraphs(told)}'
+    )
 
 
 def page_html(shown: Shown) -> str:
@@ -260,9 +318,16 @@ def page_html(shown: Shown) -> str:
     lists = "".join(list_of(kind, [f for f in shown.findings if f.kind == kind]) for kind in TITLES)
     fills = {
         "POLICY": f"default-src 'none'; script-src {source_hash(code)}; style-src {source_hash(style)}; base-uri 'none'; form-action 'none'",
-        "TITLE": in_html(shown.title), "STYLE": style, "SCRIPT": code, "STATE": "agrees" if shown.status == 0 else "differs",
-        "VERDICT": in_html(verdict(shown)), "FOLDED": folded(shown), "ADVICE": advice(shown),
-        "FINDINGS": lists or f'<p class="none">{"No finding" if shown.status else "No open, no short, no point without copper"}.</p>', "DATA": block(shown.board, shown.findings, wider_data(shown)),
+        "TITLE": in_html(shown.title),
+        "STYLE": style,
+        "SCRIPT": code,
+        "STATE": "agrees" if shown.status == 0 else "differs",
+        "VERDICT": in_html(verdict(shown)),
+        "FOLDED": folded(shown),
+        "ADVICE": advice(shown),
+        "FINDINGS": lists
+        or f'<p class="none">{"No finding" if shown.status else "No open, no short, no point without copper"}.</p>',
+        "DATA": block(shown.board, shown.findings, wider_data(shown)),
         "RECORD": record_page.section(shown.requested.record),
     }
     parts = asset("page.html").split("@@")

@@ -8,11 +8,20 @@ from .markup import escaped, for_xml
 from .sentences import declarations
 from .shown import Shown
 
-KINDS = {"open": "Parts of a name that no copper joins", "short": "Names that copper joins", "missing": "Test points without copper",
-         "gap": "Nets that are too close", "cut": "What unplated holes part when the board is made", "outside": "What lies outside the board's edge",
-         "neck": "Joins that are narrower than asked for", "wider": "Copper that the upper of two bounds has and the lower one has not",
-         "waived": "Findings that somebody has signed for", "tie": "Declared ties of names that no test point has",
-         "beside": "What was asked for besides", "board": "Why the board is not judged"}
+KINDS = {
+    "open": "Parts of a name that no copper joins",
+    "short": "Names that copper joins",
+    "missing": "Test points without copper",
+    "gap": "Nets that are too close",
+    "cut": "What unplated holes part when the board is made",
+    "outside": "What lies outside the board's edge",
+    "neck": "Joins that are narrower than asked for",
+    "wider": "Copper that the upper of two bounds has and the lower one has not",
+    "waived": "Findings that somebody has signed for",
+    "tie": "Declared ties of names that no test point has",
+    "beside": "What was asked for besides",
+    "board": "Why the board is not judged",
+}
 Place = Tuple[int, int]
 # Half the side of the box round a place, in u.
 HALF = 1_000_000
@@ -52,15 +61,21 @@ def quoted(words: str) -> str:
 
 def item(kind: str, name: str, marked: Iterable[str]) -> str:
     told = "".join(f"<value>{escaped(value)}</value>" for value in marked)
-    return (f"  <item><tags/><category>{kind}</category><cell>board</cell><visited>false</visited><multiplicity>1</multiplicity>"
-            f"<comment>{escaped(name)}</comment><image/><values>{told}</values></item>")
+    return (
+        f"  <item><tags/><category>{kind}</category><cell>board</cell><visited>false</visited><multiplicity>1</multiplicity>"
+        f"<comment>{escaped(name)}</comment><image/><values>{told}</values></item>"
+    )
 
 
 def items_of(shown: Shown) -> List[str]:
     """Every cause of a status that is not 0, and where a board that lies between two bounds is wider above."""
     its, wider = items_of_board(shown) if shown.board else ([], [])
-    its += [item("beside", name, [*(box(place[:2]) for place in places), quoted(words)])
-            for beside in shown.besides if not beside.are_findings for name, words, places in beside.causes()]
+    its += [
+        item("beside", name, [*(box(place[:2]) for place in places), quoted(words)])
+        for beside in shown.besides
+        if not beside.are_findings
+        for name, words, places in beside.causes()
+    ]
     return (its if its or not shown.status else [item("board", f"status {shown.status}", [quoted(shown.line)])]) + wider
 
 
@@ -69,15 +84,32 @@ def items_of_board(shown: Shown) -> Tuple[List[str], List[str]]:
     its = [item(finding.kind, doubt(finding) + finding.id, values(board, finding)) for finding in shown.findings]
     its += [item("waived", declarations.waived_words(it), values(board, it.finding)) for it in shown.seen.waived]
     its += [item("tie", "tie", [quoted(words)]) for words in shown.seen.lost_ties()]
-    return its, [item("wider", f"{board.manifest.layer_word(layer)}", [f"polygon: ({';'.join(map(at, corners))})"]) for layer, corners in shown.seen.wider]
+    return its, [
+        item("wider", f"{board.manifest.layer_word(layer)}", [f"polygon: ({';'.join(map(at, corners))})"])
+        for layer, corners in shown.seen.wider
+    ]
 
 
 def marker_database(shown: Shown) -> str:
-    categories = "".join(f"<category><name>{kind}</name><description>{told}</description><categories/></category>" for kind, told in KINDS.items())
+    categories = "".join(
+        f"<category><name>{kind}</name><description>{told}</description><categories/></category>"
+        for kind, told in KINDS.items()
+    )
     items = items_of(shown)
-    rows = ['<?xml version="1.0" encoding="utf-8"?>', "<report-database>",
-            f"  <description>{escaped(shown.title)}: {escaped(shown.line)}</description>", "  <original-file/>",
-            "  <generator>boardnet show</generator>", "  <top-cell>board</top-cell>", "  <tags/>",
-            f"  <categories>{categories}</categories>", "  <cells><cell><name>board</name><variant/><layout-name/><references/></cell></cells>",
-            "  <items>", *items, "  </items>", "</report-database>", ""]
+    rows = [
+        '<?xml version="1.0" encoding="utf-8"?>',
+        "<report-database>",
+        f"  <description>{escaped(shown.title)}: {escaped(shown.line)}</description>",
+        "  <original-file/>",
+        "  <generator>boardnet show</generator>",
+        "  <top-cell>board</top-cell>",
+        "  <tags/>",
+        f"  <categories>{categories}</categories>",
+        "  <cells><cell><name>board</name><variant/><layout-name/><references/></cell></cells>",
+        "  <items>",
+        *items,
+        "  </items>",
+        "</report-database>",
+        "",
+    ]
     return for_xml("\n".join(rows))

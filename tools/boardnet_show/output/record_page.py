@@ -5,7 +5,12 @@ from . import text_lines
 from .markup import in_html
 from .shown import Shown
 
-SIDES = (("came", "SHA-256 as it came"), ("judged", "as it was judged"), ("lower", "lower bound"), ("upper", "upper bound"))
+SIDES = (
+    ("came", "SHA-256 as it came"),
+    ("judged", "as it was judged"),
+    ("lower", "lower bound"),
+    ("upper", "upper bound"),
+)
 
 
 def cells(tag: str, words: Iterable[object]) -> str:
@@ -26,7 +31,9 @@ def facts(record: Dict[str, Any]) -> Iterator[Tuple[str, object]]:
     if record["beside"] != record["line"]:
         yield "with all that was asked for", record["beside"]
     for key, value in record["program"].items():
-        yield {"program": "SHA-256 of the program", "sources": "SHA-256 of its sources"}.get(key, key), value or "unknown"
+        yield {"program": "SHA-256 of the program", "sources": "SHA-256 of its sources"}.get(
+            key, key
+        ), value or "unknown"
     for key in ("mends", "ties", "declared", "hints"):
         yield key, "; ".join(record[key]) or "none"
     for it in record["reports"]:
@@ -45,6 +52,8 @@ def section(record: Dict[str, Any]) -> str:
 def page(shown: Shown) -> str:
     """The record and what is told of the board, without a picture."""
     told = "".join(f"<p>{in_html(words)}</p>\n" for words in [shown.line, *shown.notes, *text_lines.extra_lines(shown)])
-    return (f'<!DOCTYPE html>\n<html lang="en">\n<head>\n<meta charset="utf-8">\n'
-            f'<meta http-equiv="Content-Security-Policy" content="default-src \'none\'">\n<title>{in_html(shown.title)}: boardnet</title>\n</head>\n'
-            f"<body>\n<h1>{in_html(shown.title)}</h1>\n{told}{section(shown.requested.record)}</body>\n</html>\n")
+    return (
+        f'<!DOCTYPE html>\n<html lang="en">\n<head>\n<meta charset="utf-8">\n'
+        f'<meta http-equiv="Content-Security-Policy" content="default-src \'none\'">\n<title>{in_html(shown.title)}: boardnet</title>\n</head>\n'
+        f"<body>\n<h1>{in_html(shown.title)}</h1>\n{told}{section(shown.requested.record)}</body>\n</html>\n"
+    )

@@ -32,14 +32,23 @@ def result(shown: Shown, cause: Cause) -> Dict[str, Any]:
     place: Dict[str, Any] = {"artifactLocation": {"uri": quote(cause.file or shown.path)}}
     if cause.file:
         place["region"] = {"startLine": max(cause.line, 1)}
-    return {"ruleId": cause.kind, "level": "error" if cause.is_certain else "warning", "message": {"text": f"{cause.name}: {cause.words}"},
-            "locations": [{"physicalLocation": place}]}
+    return {
+        "ruleId": cause.kind,
+        "level": "error" if cause.is_certain else "warning",
+        "message": {"text": f"{cause.name}: {cause.words}"},
+        "locations": [{"physicalLocation": place}],
+    }
 
 
 def suppressed(shown: Shown, waived: Waived) -> Dict[str, Any]:
     """A finding that is waived, as a result that somebody has accepted."""
     its = result(shown, next(of_findings_of(shown, [waived.finding])))
-    return {**its, "suppressions": [{"kind": "external", "status": "accepted", "justification": declarations.signed(waived.waiver)}]}
+    return {
+        **its,
+        "suppressions": [
+            {"kind": "external", "status": "accepted", "justification": declarations.signed(waived.waiver)}
+        ],
+    }
 
 
 def sarif_text(all_shown: Sequence[Shown]) -> str:

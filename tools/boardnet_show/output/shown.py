@@ -8,7 +8,7 @@ from boardnet_show.judging.answers import Answer
 
 from .sentences import answers
 
-if TYPE_CHECKING:       # most boards have no bounds, and loading takes longer than a small board
+if TYPE_CHECKING:  # most boards have no bounds, and loading takes longer than a small board
     from boardnet_show.judging.two_bounds import Bounded
 
 

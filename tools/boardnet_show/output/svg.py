@@ -22,8 +22,10 @@ STYLE = """
 .hole { fill: #ffffff; stroke: #16191d; } .slot { stroke: #ffffff; } .wider { fill: none; stroke: #a0006b; } .mark { fill: none; stroke: #a0006b; } .path { fill: none; stroke: #000000; }
 text { font-family: "DejaVu Sans", sans-serif; fill: #16191d; stroke: #ffffff; stroke-width: 0.25em; paint-order: stroke; }
 """.strip()
-STRIPES = ('<pattern id="stripes" patternUnits="userSpaceOnUse" width="{0}" height="{0}" patternTransform="rotate(45)">'
-           '<rect width="{0}" height="{0}" fill="#d55e00"/><rect width="{1}" height="{0}" fill="#ffe2cc"/></pattern>')
+STRIPES = (
+    '<pattern id="stripes" patternUnits="userSpaceOnUse" width="{0}" height="{0}" patternTransform="rotate(45)">'
+    '<rect width="{0}" height="{0}" fill="#d55e00"/><rect width="{1}" height="{0}" fill="#ffe2cc"/></pattern>'
+)
 
 
 def point(place: Place) -> str:
@@ -74,7 +76,11 @@ class Picture:
 
     def beside(self, spot: Place, layer: int) -> List[Place]:
         """Where the box of a layer's copper is nearest to a spot, if there is any."""
-        boxes = [self.board.touching.box(piece) for piece, source in enumerate(self.board.report.sources) if source[3] <= layer <= source[4]]
+        boxes = [
+            self.board.touching.box(piece)
+            for piece, source in enumerate(self.board.report.sources)
+            if source[3] <= layer <= source[4]
+        ]
         if not boxes:
             return []
         left, low, right, high = min(boxes, key=lambda box: int(apart(box, spot * 2)))
@@ -89,7 +95,10 @@ class Picture:
             return {piece: "ab"[k] for k, net in enumerate(it.nets) for piece in self.board.pieces_of[net]}
         names = it.meets[0].names if it.meets else ()
         look = dict(zip(names, "ab"))
-        return {piece: look.get(it.sides.get(piece), "c" if piece not in it.sides else "copper") for piece in self.board.pieces_of[it.nets[0]]}
+        return {
+            piece: look.get(it.sides.get(piece), "c" if piece not in it.sides else "copper")
+            for piece in self.board.pieces_of[it.nets[0]]
+        }
 
     def front(self) -> int:
         """The layer that is drawn last, and full: the finding's."""
@@ -101,12 +110,17 @@ class Picture:
     def copper(self) -> Iterator[str]:
         """The copper, the layer in front last, then the holes."""
         words, sources, manifest = self.words(), self.board.report.sources, self.board.manifest
-        seen = [piece for piece in range(self.board.report.pieces) if boxes_meet(self.board.touching.box(piece), self.box)]
+        seen = [
+            piece for piece in range(self.board.report.pieces) if boxes_meet(self.board.touching.box(piece), self.box)
+        ]
         holes = {piece for piece in seen if manifest.is_drilled(sources[piece][0])}
         for layer in sorted(range(1, manifest.layers + 1), key=lambda layer: (layer == self.front(), -layer)):
             pieces = [piece for piece in seen if sources[piece][3] == layer and piece not in holes]
             yield f'<g opacity="{1 if layer == self.front() else 0.4}">'
-            yield from (solid(self.board.shapes, piece, words.get(piece, "copper")) for piece in sorted(pieces, key=lambda piece: (piece in words, piece)))
+            yield from (
+                solid(self.board.shapes, piece, words.get(piece, "copper"))
+                for piece in sorted(pieces, key=lambda piece: (piece in words, piece))
+            )
             yield from self.wider(layer)
             yield "</g>"
         yield f'<g stroke-width="{micrometres(self.pixel)}">'
@@ -142,7 +156,9 @@ class Picture:
             yield f'<path stroke-dasharray="{dash} {dash}" d="M{point(spots[0])}L{point(spots[1])}"/>'
         elif finding.kind == "missing":
             x, y = spots[0]
-            yield f'<path d="M{point((x - size, y))}L{point((x + size, y))}M{point((x, y - size))}L{point((x, y + size))}"/>' + ring(spots[0], size)
+            yield f'<path d="M{point((x - size, y))}L{point((x + size, y))}M{point((x, y - size))}L{point((x, y + size))}"/>' + ring(
+                spots[0], size
+            )
         if finding.gap:
             yield ring(finding.gap.place, size)
         for x, y in [found.place for found in finding.meets]:
@@ -155,7 +171,12 @@ class Picture:
         rows = [(head, (left + size // 2, low + size // 2))]
         for number in self.finding.points[:12] if self.finding else []:
             x, y = self.board.spot(number)
-            rows.append((f"{self.board.pin(number)} ({self.board.name(self.board.name_of(number))})", (x + size // 2, y + size // 2)))
+            rows.append(
+                (
+                    f"{self.board.pin(number)} ({self.board.name(self.board.name_of(number))})",
+                    (x + size // 2, y + size // 2),
+                )
+            )
         for told, place in rows:
             x, y = point(place).split(" ")
             is_right = place[0] + size * len(told) * 6 // 10 > self.box[2]
@@ -166,8 +187,10 @@ class Picture:
         left, low, right, high = self.box
         height = max(1, WIDTH * (high - low) // max(1, right - left))
         told = self.finding.sentence() if self.finding else f"{self.shown.title}: {self.shown.line}"
-        yield (f'<svg xmlns="http://www.w3.org/2000/svg" width="{WIDTH}" height="{height}" role="img" '
-               f'viewBox="{point((left, high))} {micrometres(right - left)} {micrometres(high - low)}">')
+        yield (
+            f'<svg xmlns="http://www.w3.org/2000/svg" width="{WIDTH}" height="{height}" role="img" '
+            f'viewBox="{point((left, high))} {micrometres(right - left)} {micrometres(high - low)}">'
+        )
         yield f"<title>{escaped(self.finding.id if self.finding else self.shown.title)}</title>\n<desc>{escaped(told)}</desc>\n<style>{STYLE}</style>"
         yield STRIPES.format(micrometres(10 * self.pixel), micrometres(4 * self.pixel))
         yield f'<rect x="{micrometres(left)}" y="{micrometres(-high)}" width="100%" height="100%" fill="#ffffff"/>'

@@ -11,8 +11,13 @@ from .shown import Shown
 MOST = 20
 WORDS = {0: "agrees", 1: "differs", UNDECIDED: "undecided", REFUSED: "refused"}
 # What became of boards, one and several.
-PLURALS = {0: ("agrees", "agree"), 1: ("differs", "differ"), UNDECIDED: ("is undecided", "are undecided"), REFUSED: ("is refused", "are refused"),
-           UNJUDGED: ("is not judged", "are not judged")}
+PLURALS = {
+    0: ("agrees", "agree"),
+    1: ("differs", "differ"),
+    UNDECIDED: ("is undecided", "are undecided"),
+    REFUSED: ("is refused", "are refused"),
+    UNJUDGED: ("is not judged", "are not judged"),
+}
 
 
 def heading(shown: Shown) -> str:
@@ -23,9 +28,8 @@ def hint_words(shown: Shown) -> List[str]:
     """The hints, in order."""
     if not shown.hints:
         return []
-    from .sentences import (        # most boards have none, and loading takes longer than a small board
-        hints
-    )
+    from .sentences import hints  # most boards have none, and loading takes longer than a small board
+
     return list(map(hints.words, shown.hints))
 
 
@@ -48,7 +52,10 @@ def word_of(status: int) -> str:
 
 def total(all_shown: Sequence[Shown]) -> str:
     """How many boards there are of each answer."""
-    counts = [(sum(word_of(shown.status) == WORDS.get(status, "not judged") for shown in all_shown), words) for status, words in PLURALS.items()]
+    counts = [
+        (sum(word_of(shown.status) == WORDS.get(status, "not judged") for shown in all_shown), words)
+        for status, words in PLURALS.items()
+    ]
     told = ", ".join(f"{count} {one if count == 1 else many}" for count, (one, many) in counts if count)
     return f"{counted(len(all_shown), 'board')}: {told}"
 
@@ -77,12 +84,16 @@ def blocks(shown: Shown) -> Iterator[List[str]]:
     for name, members in grouped(shown.findings).items():
         for at, finding in enumerate(members):
             head = [name] if at == 0 else []
-            yield head + [f"  {doubt(finding)}{finding.id}: {finding.words}"] + [f"      {hint}" for hint in finding.hints]
+            yield head + [f"  {doubt(finding)}{finding.id}: {finding.words}"] + [
+                f"      {hint}" for hint in finding.hints
+            ]
 
 
 def reader(shown: Shown, is_all: bool) -> Iterator[str]:
     """What is printed of one board: at most twenty lines of findings where not all are wanted."""
-    yield heading(shown) + (f" ({shown.seen.audit})" if shown.seen.audit and shown.status != UNJUDGED and not shown.bounds else "")
+    yield heading(shown) + (
+        f" ({shown.seen.audit})" if shown.seen.audit and shown.status != UNJUDGED and not shown.bounds else ""
+    )
     yield from notes(shown)
     printed, told = 0, 0
     for block in blocks(shown):
@@ -122,7 +133,9 @@ def quiet(shown: Shown) -> Iterator[str]:
 def extra_lines(shown: Shown) -> Iterator[str]:
     """What is told of it in lines."""
     if shown.requested.like:
-        yield f"like {shown.requested.like.path}: {shown.requested.like.line}" + (f" ({shown.requested.like.placed})" if shown.requested.like.placed else "")
+        yield f"like {shown.requested.like.path}: {shown.requested.like.line}" + (
+            f" ({shown.requested.like.placed})" if shown.requested.like.placed else ""
+        )
         for it in shown.requested.like.differences:
             yield f"  {it.name()}: {it.sentence()}"
     if shown.requested.tester:

@@ -2,6 +2,6 @@
 try:
     from .button import Button
 except ImportError:
-    pass        # outside the board editor, as in a test, there is nothing to put a button on
+    pass  # outside the board editor, as in a test, there is nothing to put a button on
 else:
     Button().register()

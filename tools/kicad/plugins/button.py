@@ -39,5 +39,5 @@ class Button(pcbnew.ActionPlugin):
     def Run(self) -> None:
         try:
             run()
-        except Exception as fault:      # a fault that left here would be lost in KiCad's console
+        except Exception as fault:  # a fault that left here would be lost in KiCad's console
             told(f"Nothing was judged: {fault}", True)

@@ -30,7 +30,9 @@ def command() -> List[str]:
     for path in (os.environ.get(VARIABLE), shutil.which("boardnet"), CHECKOUT):
         if path and os.access(path, os.X_OK):
             return [path]
-    raise NoCommand(f"There is no command `boardnet` on the PATH. Install it, or name it in the environment as {VARIABLE}.")
+    raise NoCommand(
+        f"There is no command `boardnet` on the PATH. Install it, or name it in the environment as {VARIABLE}."
+    )
 
 
 def judge(folder: str) -> Judged:

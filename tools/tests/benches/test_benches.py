@@ -22,7 +22,9 @@ class Benches(common.Case):
     def test_calls_are_as_their_heads_say(self):
         with open(os.path.join(BENCHES, "README.md"), encoding="utf-8") as file:
             calls = re.findall(r"`benches/(\w+)([^`]*)`", file.read())
-        self.assertEqual({name for name, _ in calls}, {it.name for it in os.scandir(BENCHES) if it.is_file() and "." not in it.name})
+        self.assertEqual(
+            {name for name, _ in calls}, {it.name for it in os.scandir(BENCHES) if it.is_file() and "." not in it.name}
+        )
         for name, words in calls:
             with open(os.path.join(BENCHES, name), encoding="utf-8") as file:
                 head = file.read().split('"""')[1]
@@ -52,14 +54,19 @@ class Benches(common.Case):
         clock, processor, most = runs.best(2, [sys.executable, "-c", burns], self.scratch, "out")
         self.assertGreaterEqual(min(clock, processor), 0.15)
         self.assertGreater(most, 60 << 20)
-        for words, said in ((["sh", "-c", "echo why >&2; exit 4"], "status 4\nwhy$"), (["none/there"], "No such file or directory: 'none/there'$")):
+        for words, said in (
+            (["sh", "-c", "echo why >&2; exit 4"], "status 4\nwhy$"),
+            (["none/there"], "No such file or directory: 'none/there'$"),
+        ):
             with self.assertRaisesRegex(SystemExit, said):
                 runs.best(1, words, self.scratch, "out")
 
     def test_faults_in_a_command_that_is_not_understood(self):
         trials = faults.Faults.__new__(faults.Faults)
         trials.passed = trials.failed = 0
-        with mock.patch.object(faults, "Trial", lambda *_: types.SimpleNamespace(status=2)), mock.patch("builtins.print"):
+        with mock.patch.object(faults, "Trial", lambda *_: types.SimpleNamespace(status=2)), mock.patch(
+            "builtins.print"
+        ):
             trials.commands(self.scratch, ("chekc m.json",))
         self.assertEqual((trials.passed, trials.failed), (0, 1))
 

@@ -42,7 +42,9 @@ class Minutes(common.Case):
 
     def test_children_count_with_their_job(self):
         rows = [(1, 0, 9), (2, 1, 3), (3, 2, 4), (4, 3, 5), (5, 1, 6), (6, 77, 50)]
-        found = minutes.seconds_of_jobs([minutes.Process(pid, 10 * pid, parent, 1, seconds) for pid, parent, seconds in rows], 1)
+        found = minutes.seconds_of_jobs(
+            [minutes.Process(pid, 10 * pid, parent, 1, seconds) for pid, parent, seconds in rows], 1
+        )
         self.assertEqual(found, {(2, 20): 12, (5, 50): 6})
 
     def test_rows_and_table(self):
@@ -50,7 +52,10 @@ class Minutes(common.Case):
         self.assertEqual(minutes.sums_of("total 4.8 min\n" + minutes.rows(sums)), sums)
         lines = minutes.table(sums).splitlines()
         self.assertEqual(lines[0], "| Crate | proof | tests | edits | all |")
-        self.assertEqual(lines[2:], ["| `high` | 0.0 | 2.5 | 1.0 | 3.5 |", "| `low` | 1.2 | 0.0 | 0.0 | 1.2 |", "| all | 1 | 2 | 1 | 5 |"])
+        self.assertEqual(
+            lines[2:],
+            ["| `high` | 0.0 | 2.5 | 1.0 | 3.5 |", "| `low` | 1.2 | 0.0 | 0.0 | 1.2 |", "| all | 1 | 2 | 1 | 5 |"],
+        )
 
     def test_first_call(self):
         using = {"low": [], "wide": [], "middle": ["low"], "boardnet": ["low", "middle"]}
@@ -72,7 +77,9 @@ class Minutes(common.Case):
         self.assertIn(" processor minutes in ", out)
 
     def test_ended(self):
-        running = subprocess.Popen([sys.executable, MINUTES, sys.executable, "-c", WAITS], cwd=self.scratch, stdout=subprocess.DEVNULL)
+        running = subprocess.Popen(
+            [sys.executable, MINUTES, sys.executable, "-c", WAITS], cwd=self.scratch, stdout=subprocess.DEVNULL
+        )
         deadline = time.monotonic() + PATIENCE
         while len(os.listdir(self.scratch)) < 2:
             self.assertLess(time.monotonic(), deadline)

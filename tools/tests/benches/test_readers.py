@@ -14,7 +14,26 @@ from tests.fixtures import common
 
 BENCHES = os.path.join(common.TOP, "benches")
 sys.path.append(BENCHES)
-from reading import BARE, COPPER, NEAR, camv, compare, files, gerbv, klayout, netlists, others, ours, places, plants, random_files, rules, smallest, table, totals
+from reading import (
+    BARE,
+    COPPER,
+    NEAR,
+    camv,
+    compare,
+    files,
+    gerbv,
+    klayout,
+    netlists,
+    others,
+    ours,
+    places,
+    plants,
+    random_files,
+    rules,
+    smallest,
+    table,
+    totals,
+)
 from reading.others import Told
 
 HEAD = b"%FSLAX46Y46*%\n%MOMM*%\n"
@@ -82,12 +101,28 @@ class SmallFiles(common.Case):
             rules.rule_of("a | 1 | b\n    MM\n    at 1,2 3,4 | says 1 | reads exact 1", "copper")
 
     def test_otherwise(self):
-        for says, states, wanted in (("10", "10", False), ("1?", "10", False), ("1?", "0?", True), ("1", "b", False), ("1", "-", False), ("1", None, False)):
+        for says, states, wanted in (
+            ("10", "10", False),
+            ("1?", "10", False),
+            ("1?", "0?", True),
+            ("1", "b", False),
+            ("1", "-", False),
+            ("1", None, False),
+        ):
             self.assertEqual(rules.is_otherwise(says, states), wanted, (says, states))
 
     def test_rows(self):
         rule = rules.Rule("n", "copper", "4.4", "has", b"", [(0, 0), (1, 1)], "1?", "exact 10")
-        row = table.Row(rule, "exact 10", [table.Cell("a", "11", ""), table.Cell("b", "10", ""), table.Cell("c", None, "why"), table.Cell("d", "00", "")])
+        row = table.Row(
+            rule,
+            "exact 10",
+            [
+                table.Cell("a", "11", ""),
+                table.Cell("b", "10", ""),
+                table.Cell("c", None, "why"),
+                table.Cell("d", "00", ""),
+            ],
+        )
         self.assertEqual((row.is_kept, row.otherwise), (True, ["a", "d"]))
         self.assertEqual(table.markdown([row])[2], "| has | 4.4 | 1? | exact 10 | **11** | 10 | reads none | **00** |")
         self.assertIn("OTHERWISE", table.line_of(row._replace(ours="exact 11")))
@@ -102,28 +137,44 @@ class SmallFiles(common.Case):
 class Plants(common.Case):
     def test_each_changes_its_rule_alone(self):
         for name, kind, data, wanted in (
-                ("radius", "copper", b"%ADD10C,0.5X0.2*%%ADD11R,1X2*%", b"%ADD10C,1.0X0.2*%%ADD11R,1X2*%"),
-                ("radius", "drill", b"T1C0.8\nT1\n", b"T1C1.6\nT1\n"),
-                ("turn", "copper", b"G02X1Y0I1J0D01*G3*G02*G01*G20*", b"G03X1Y0I1J0D01*G2*G03*G01*G20*"),
-                ("turn", "copper", b"%AMM*\n21,1,4,2,0,0,30*\n1,1,2,3,0*\n%", b"%AMM*\n21,1,4,2,0,0,-30*\n1,1,2,3,0*\n%"),
-                ("turn", "drill", b"G02X1Y1\n", b"G02X1Y1\n"),
-                ("obround", "copper", b"%ADD10O,1X2*%%ADD11C,1*%", b"%ADD10R,1X2*%%ADD11C,1*%"),
-                ("obround", "drill", b"X1.0Y2.0G85X3.0\nX4.0\n", b"X1.0Y2.0\nX4.0\n")):
+            ("radius", "copper", b"%ADD10C,0.5X0.2*%%ADD11R,1X2*%", b"%ADD10C,1.0X0.2*%%ADD11R,1X2*%"),
+            ("radius", "drill", b"T1C0.8\nT1\n", b"T1C1.6\nT1\n"),
+            ("turn", "copper", b"G02X1Y0I1J0D01*G3*G02*G01*G20*", b"G03X1Y0I1J0D01*G2*G03*G01*G20*"),
+            ("turn", "copper", b"%AMM*\n21,1,4,2,0,0,30*\n1,1,2,3,0*\n%", b"%AMM*\n21,1,4,2,0,0,-30*\n1,1,2,3,0*\n%"),
+            ("turn", "drill", b"G02X1Y1\n", b"G02X1Y1\n"),
+            ("obround", "copper", b"%ADD10O,1X2*%%ADD11C,1*%", b"%ADD10R,1X2*%%ADD11C,1*%"),
+            ("obround", "drill", b"X1.0Y2.0G85X3.0\nX4.0\n", b"X1.0Y2.0\nX4.0\n"),
+        ):
             self.assertEqual(plants.PLANTS[name](data, kind), wanted, name)
 
     def test_the_columns_see_each(self):
         """A fault in the rules makes a small file be read otherwise than its column says."""
         program, every = common.program(), {rule.name: rule for rule in rules.rules()}
-        for plant, name in (("radius", "AD-no-zero"), ("turn", "arc-G75"), ("turn", "am-centre-rot"), ("obround", "O-tall"), ("obround", "drill-slot"), ("radius", "drill-hit")):
-            kept, = table.rows_of([every[name]], ours.Ours(program), [])
+        for plant, name in (
+            ("radius", "AD-no-zero"),
+            ("turn", "arc-G75"),
+            ("turn", "am-centre-rot"),
+            ("obround", "O-tall"),
+            ("obround", "drill-slot"),
+            ("radius", "drill-hit"),
+        ):
+            (kept,) = table.rows_of([every[name]], ours.Ours(program), [])
             self.assertTrue(kept.is_kept, (name, kept.ours))
-            seen, = table.rows_of([every[name]], ours.Ours(program, plant), [])
+            (seen,) = table.rows_of([every[name]], ours.Ours(program, plant), [])
             self.assertFalse(seen.is_kept, (plant, name, seen.ours))
 
     def test_random_files_show_each(self):
         """Each random file of a form that knows the rule has places at which a faulty rule says otherwise."""
         reader = ours.Ours(common.program())
-        for plant, form in (("radius", "plain"), ("radius", "drill"), ("turn", "clear"), ("turn", "changed"), ("obround", "plain"), ("obround", "macros"), ("obround", "drill")):
+        for plant, form in (
+            ("radius", "plain"),
+            ("radius", "drill"),
+            ("turn", "clear"),
+            ("turn", "changed"),
+            ("obround", "plain"),
+            ("obround", "macros"),
+            ("obround", "drill"),
+        ):
             file = files.File("n", "drill" if form == "drill" else "copper", random_files.of(form, "1 0"))
             spoilt = ours.Ours(common.program(), plant)
             work = compare.Work(file, spoilt.reading(file.data, file.kind), spoilt, compare.Asked(200, 1))
@@ -138,7 +189,9 @@ class Places(common.Case):
         capsule, disc, area = places.pieces_of(FLAT)
         self.assertEqual(capsule, places.Piece(5_000_000, [(0, 0), (50_000_000, 0)]))
         self.assertEqual(disc, places.Piece(5_000_000, [(-70_000_000, 20_000_000)] * 2))
-        self.assertEqual(area, places.Piece(places.AREA, [(0, 100_000_000), (30_000_000, 100_000_000), (30_000_000, 140_000_000)]))
+        self.assertEqual(
+            area, places.Piece(places.AREA, [(0, 100_000_000), (30_000_000, 100_000_000), (30_000_000, 140_000_000)])
+        )
         self.assertEqual(area.length, 120_000_000)
         self.assertEqual(places.box_of([capsule, disc, area]), (-7_500, -500, 5_500, 14_500))
 
@@ -149,18 +202,26 @@ class Places(common.Case):
         on = 0
         for x, y in found:
             p = (x / 1000, y / 1000)
-            off = min(abs(camv.apart(p, (0, 0), (5, 0)) - .5), abs(camv.apart(p, (-7, 2), (-7, 2)) - .5),
-                      *(camv.apart(p, a, b) for a, b in (((0, 10), (3, 10)), ((3, 10), (3, 14)), ((3, 14), (0, 10)))))
-            self.assertLessEqual(off, .062, p)
-            on += off < .0015
+            off = min(
+                abs(camv.apart(p, (0, 0), (5, 0)) - 0.5),
+                abs(camv.apart(p, (-7, 2), (-7, 2)) - 0.5),
+                *(camv.apart(p, a, b) for a, b in (((0, 10), (3, 10)), ((3, 10), (3, 14)), ((3, 14), (0, 10)))),
+            )
+            self.assertLessEqual(off, 0.062, p)
+            on += off < 0.0015
         self.assertLess(on, 30, "beside a corner one may lie on the next edge")
         self.assertEqual(places.near(random.Random(1), [], 5), [])
 
     def test_within_corners(self):
         """Off both edges of a corner, by half a step each, whichever way the contour runs."""
-        for corners in ([(0, 0), (10 ** 7, 0), (10 ** 7, 10 ** 7), (0, 10 ** 7)], [(0, 10 ** 7), (10 ** 7, 10 ** 7), (10 ** 7, 0), (0, 0)]):
+        for corners in (
+            [(0, 0), (10**7, 0), (10**7, 10**7), (0, 10**7)],
+            [(0, 10**7), (10**7, 10**7), (10**7, 0), (0, 0)],
+        ):
             for _ in range(40):
-                off = [min(v, 1_000 - v) for v in places.in_corner(random.Random(_), places.Piece(places.AREA, corners))]
+                off = [
+                    min(v, 1_000 - v) for v in places.in_corner(random.Random(_), places.Piece(places.AREA, corners))
+                ]
                 self.assertTrue(all(1 <= v <= 30 for v in off), off)
 
     def test_anywhere(self):
@@ -172,7 +233,10 @@ class Places(common.Case):
     def test_holes(self):
         data = b"M48\nMETRIC\nT1C1.0\nT02C0.5\n%\nT1\nX5.0Y3.0\nX9.0\nT2\nY1.5G85X2.0\nG00X0.0Y0.0\nX5\nM30\n"
         one, two, slot, move, none = places.holes_of(data)
-        self.assertEqual((one, two), (places.Piece(5_000_000, [(50_000_000, 30_000_000)]), places.Piece(5_000_000, [(90_000_000, 30_000_000)])))
+        self.assertEqual(
+            (one, two),
+            (places.Piece(5_000_000, [(50_000_000, 30_000_000)]), places.Piece(5_000_000, [(90_000_000, 30_000_000)])),
+        )
         self.assertEqual(slot, places.Piece(2_500_000, [(90_000_000, 15_000_000), (20_000_000, 15_000_000)]))
         self.assertEqual((move.corners, none.corners), ([(0, 0)], [(0, 0)]))
         self.assertEqual(places.holes_of(b"INCH\nX1.0Y0.5\n")[0].corners, [(254_000_000, 127_000_000)])
@@ -180,7 +244,14 @@ class Places(common.Case):
 
 class Files(common.Case):
     def test_kinds(self):
-        for data, kind in ((HEAD + b"M02*", "copper"), (b"; a\nM48\nM30\n", "drill"), (b"\nM48\n", "drill"), (b"C M48\n999\n", ""), (b"G04 a*\n%MOIN*%\n", "copper"), (b"text", "")):
+        for data, kind in (
+            (HEAD + b"M02*", "copper"),
+            (b"; a\nM48\nM30\n", "drill"),
+            (b"\nM48\n", "drill"),
+            (b"C M48\n999\n", ""),
+            (b"G04 a*\n%MOIN*%\n", "copper"),
+            (b"text", ""),
+        ):
             self.assertEqual(files.kind_of(data), kind, data)
 
     def test_each_content_once(self):
@@ -201,17 +272,37 @@ class Files(common.Case):
             self.assertEqual(len(set(some)), 6)
             self.assertEqual({files.kind_of(data) for data in some}, {"drill" if form == "drill" else "copper"})
         text = b"".join(random_files.of("changed", str(seed)) for seed in range(40))
-        for word in (rb"G0[23]X", rb"%LPC", rb"%SRX", rb"%LR30", rb"G36", rb",[\d.]+X[\d.]+X[\d.]+\*", rb"%ADD\d+P,", rb"%MOIN", rb"G54D"):
+        for word in (
+            rb"G0[23]X",
+            rb"%LPC",
+            rb"%SRX",
+            rb"%LR30",
+            rb"G36",
+            rb",[\d.]+X[\d.]+X[\d.]+\*",
+            rb"%ADD\d+P,",
+            rb"%MOIN",
+            rb"G54D",
+        ):
             self.assertRegex(text, word)
         self.assertRegex(b"".join(random_files.of("drill", str(seed)) for seed in range(20)), rb"(?s)G85.*M15\nG01")
         # Each file flashes each kind of aperture of its form, or has a slot.
-        for form, words in (("plain", (rb",", rb"R,", rb"O,")), ("macros", (rb"O,", rb"Mac")), ("clear", (rb"O,", rb"P,", rb"G0[23]X")), ("changed", (rb"P,",)), ("drill", (rb"G85",))):
+        for form, words in (
+            ("plain", (rb",", rb"R,", rb"O,")),
+            ("macros", (rb"O,", rb"Mac")),
+            ("clear", (rb"O,", rb"P,", rb"G0[23]X")),
+            ("changed", (rb"P,",)),
+            ("drill", (rb"G85",)),
+        ):
             for word, seed in itertools.product(words, range(12)):
                 self.assertRegex(random_files.of(form, str(seed)), word, (form, seed))
 
     def test_random_ones_are_taken(self):
         reader = ours.Ours(common.program())
-        for form, wanted in (("plain", {"exact"}), ("macros", {"exact", "flattened", "mended", "between"}), ("drill", {"exact"})):
+        for form, wanted in (
+            ("plain", {"exact"}),
+            ("macros", {"exact", "flattened", "mended", "between"}),
+            ("drill", {"exact"}),
+        ):
             for seed in "01":
                 kind = "drill" if form == "drill" else "copper"
                 self.assertIn(reader.reading(random_files.of(form, seed), kind).how, wanted, (form, seed))
@@ -219,7 +310,10 @@ class Files(common.Case):
 
 class Smallest(common.Case):
     def test_parts(self):
-        self.assertEqual(smallest.parts_of(b"%MOMM*%\nD10*X1Y1\nD03* %AMA*\n1,1,2,0,0*%", "copper"), [b"%MOMM*%", b"D10*", b"X1Y1\nD03*", b"%AMA*\n1,1,2,0,0*%"])
+        self.assertEqual(
+            smallest.parts_of(b"%MOMM*%\nD10*X1Y1\nD03* %AMA*\n1,1,2,0,0*%", "copper"),
+            [b"%MOMM*%", b"D10*", b"X1Y1\nD03*", b"%AMA*\n1,1,2,0,0*%"],
+        )
         self.assertEqual(smallest.parts_of(b"M48\r\nX1\n", "drill"), [b"M48", b"X1"])
 
     def test_only_what_it_takes_is_left(self):
@@ -241,8 +335,16 @@ class Counting(common.Case):
         return types.SimpleNamespace(bounds=bounds, places=[(k, 0) for k in range(len(bounds))])
 
     def test_sorts(self):
-        for bounds, state, sort in (((1, 1), COPPER, compare.SAME_IN), ((0, 0), BARE, compare.SAME_OUT), ((0, 0), COPPER, compare.DIFFER), ((1, 1), BARE, compare.DIFFER),
-                                    ((0, 1), COPPER, compare.BETWEEN), ((1, 1), NEAR, compare.CLOSE), ((0, 1), NEAR, compare.CLOSE), ((1, 1), None, compare.UNSEEN)):
+        for bounds, state, sort in (
+            ((1, 1), COPPER, compare.SAME_IN),
+            ((0, 0), BARE, compare.SAME_OUT),
+            ((0, 0), COPPER, compare.DIFFER),
+            ((1, 1), BARE, compare.DIFFER),
+            ((0, 1), COPPER, compare.BETWEEN),
+            ((1, 1), NEAR, compare.CLOSE),
+            ((0, 1), NEAR, compare.CLOSE),
+            ((1, 1), None, compare.UNSEEN),
+        ):
             self.assertEqual(compare.sort_of(bounds, state), sort, (bounds, state))
 
     def test_judged(self):
@@ -253,7 +355,10 @@ class Counting(common.Case):
     def test_alone(self):
         work = self.work([(1, 1)] * 4)
         states = {"a": [0, 0, 0, 1], "b": [0, 1, -1, 1], "c": [0, 0, None, 1]}
-        differ = {name: [compare.Differing((k, 0), 1, 0) for k, state in enumerate(some) if state == 0] for name, some in states.items()}
+        differ = {
+            name: [compare.Differing((k, 0), 1, 0) for k, state in enumerate(some) if state == 0]
+            for name, some in states.items()
+        }
         self.assertEqual(compare.alone(work, states, differ), [(0, 0)])
         self.assertEqual(compare.alone(work, states, {**differ, "b": []}), [], "settled by a second look")
         self.assertEqual(compare.alone(work, {"a": states["a"]}, differ), [], "one reader alone is no judge")
@@ -261,19 +366,33 @@ class Counting(common.Case):
     def test_second_look(self):
         file = files.File("n", "copper", b"")
         some = [compare.Differing((k, 0), 1, 0) for k in range(30)]
-        for holds, left, looks in ((lambda x: x != 3, 29, 30), (lambda x: True, 30, compare.MOST_AGAIN), (lambda x: False, 0, 30)):
+        for holds, left, looks in (
+            (lambda x: x != 3, 29, 30),
+            (lambda x: True, 30, compare.MOST_AGAIN),
+            (lambda x: False, 0, 30),
+        ):
             asked, counts = [], Counter({compare.DIFFER: 30})
             again = lambda data, kind, some: asked.extend(some) or [0 if holds(place[0]) else -1 for place in some]
             found = compare.settled(types.SimpleNamespace(again=again), file, counts, some)
-            self.assertEqual((len(found), len(asked), counts[compare.DIFFER], counts[compare.SETTLED]), (left, looks, left, 30 - left))
+            self.assertEqual(
+                (len(found), len(asked), counts[compare.DIFFER], counts[compare.SETTLED]),
+                (left, looks, left, 30 - left),
+            )
 
     def test_lines(self):
-        row = compare.Row("f", "copper", "exact", pieces=3, places=9, counts={"a": Counter({compare.SAME_IN: 8, compare.DIFFER: 1})})
+        row = compare.Row(
+            "f", "copper", "exact", pieces=3, places=9, counts={"a": Counter({compare.SAME_IN: 8, compare.DIFFER: 1})}
+        )
         self.assertEqual(totals.line_of(row), "")
         differs = row._replace(differ={"a": [compare.Differing((1, 2), 1, 0)]}, alone=[(1, 2)])
-        self.assertIn("a differs at 1 of 9 places, as (1, 2) um: boardnet 1, it 0; ALL READERS DIFFER at 1 places", totals.line_of(differs))
+        self.assertIn(
+            "a differs at 1 of 9 places, as (1, 2) um: boardnet 1, it 0; ALL READERS DIFFER at 1 places",
+            totals.line_of(differs),
+        )
         self.assertIn("refused: Macro", totals.line_of(compare.Row("f", "copper", "refused", "Macro")))
-        self.assertIn("a: 1 files, 9 places compared (8 copper, 0 none), 1 differ in 1 files", "\n".join(totals.totals([differs])))
+        self.assertIn(
+            "a: 1 files, 9 places compared (8 copper, 0 none), 1 differ in 1 files", "\n".join(totals.totals([differs]))
+        )
 
 
 class Smaller(common.Case):
@@ -282,7 +401,9 @@ class Smaller(common.Case):
     def test_what_both_have_stays(self):
         data = HEAD + b"%ADD10C,1*%\nD10*\nX1Y1D03*\nX2Y2D03*\nG04 a*\nM02*\n"
         took = []
-        program = types.SimpleNamespace(bounds_at=lambda data, *rest: took.append(rest) or ((1, 1) if data.endswith(b"M02*\n") else None))
+        program = types.SimpleNamespace(
+            bounds_at=lambda data, *rest: took.append(rest) or ((1, 1) if data.endswith(b"M02*\n") else None)
+        )
         reader = types.SimpleNamespace(name="gerbv", again=lambda data, *_: [0 if b"X2" in data else 1])
         file, it = files.File("n", "copper", data), compare.Differing((2, 2), 1, 0)
         self.assertEqual(compare.smaller(file, "exact", reader, it, program), b"X2Y2D03*\nM02*\n")
@@ -301,7 +422,11 @@ class Smaller(common.Case):
 class Others(common.Case):
     def test_tolerance_of_klayout(self):
         draw = b"X5000000Y0D02*\nG03X-5000000Y0I-3000000J4000000D01*\n"
-        for data, wanted in ((HEAD + b"X1Y1I9J9D01*", 1_000), (HEAD + draw, 25_500), (HEAD.replace(b"MM*", b"IN*") + draw, 623_300)):
+        for data, wanted in (
+            (HEAD + b"X1Y1I9J9D01*", 1_000),
+            (HEAD + draw, 25_500),
+            (HEAD.replace(b"MM*", b"IN*") + draw, 623_300),
+        ):
             self.assertLess(abs(klayout.tolerance(data) - wanted), 20, data)
 
     def test_view_of_gerbv(self):
@@ -315,8 +440,19 @@ class Others(common.Case):
         svg = """<svg viewBox="0 0 40 35"><line x1="2" y1="20" x2="8" y2="20" stroke-width="1"/><circle cx="15" cy="20" r="2"/>
 <polygon points="20,20 24,20 24,16"/><path d="M 30 20 A 4 4 0 0 0 34 24" stroke-width="1"/></svg>"""
         cells = camv.Cells(camv.shapes_of(svg))
-        for p, state in (((5, 10), COPPER), ((5, 10.4), COPPER), ((5, 10.51), NEAR), ((5, 11), BARE), ((8.4, 10), COPPER), ((15, 11.9), COPPER),
-                         ((15, 12.2), BARE), ((23, 12), COPPER), ((21, 12), BARE), ((31.17, 7.17), COPPER), ((34, 10), BARE)):
+        for p, state in (
+            ((5, 10), COPPER),
+            ((5, 10.4), COPPER),
+            ((5, 10.51), NEAR),
+            ((5, 11), BARE),
+            ((8.4, 10), COPPER),
+            ((15, 11.9), COPPER),
+            ((15, 12.2), BARE),
+            ((23, 12), COPPER),
+            ((21, 12), BARE),
+            ((31.17, 7.17), COPPER),
+            ((34, 10), BARE),
+        ):
             self.assertEqual(cells.state(p), state, p)
         mask = '<svg viewBox="0 0 9 15"><mask><rect x="0" y="0" width="8" height="8" fill="#FFFFFF"/><circle cx="4" cy="4" r="2" fill="#000000"/></mask><rect x="0" y="0" width="9" height="9"/></svg>'
         cells = camv.Cells(camv.shapes_of(mask))
@@ -324,14 +460,20 @@ class Others(common.Case):
 
     def test_moved_for_camv(self):
         data = HEAD + b"%ADD10C,1*%\nG04 X1Y1*\nX-5000000Y0D02*\n"
-        self.assertEqual(camv.moved(data), (HEAD + b"%ADD10C,1*%X500000000Y500000000D02*\nG04 X1Y1*\nX495000000Y500000000D02*\n", 500.0))
+        self.assertEqual(
+            camv.moved(data),
+            (HEAD + b"%ADD10C,1*%X500000000Y500000000D02*\nG04 X1Y1*\nX495000000Y500000000D02*\n", 500.0),
+        )
         self.assertEqual(camv.moved_holes(b"METRIC\nX1.5Y-2.0\n"), (b"METRIC\nX501.500000Y498.000000\n", 500.0))
         self.assertEqual(camv.moved_holes(b"METRIC\nX15Y20\n")[1], 0.0)
 
     def test_runs(self):
         say = "import sys, time; print('one', flush=True); print('two', file=sys.stderr, flush=True); "
-        for more, limits, wanted in (("", (9,), "one\ntwo\n"), ("time.sleep(9)", (1,), "stopped after 1 seconds"),
-                                     ("time.sleep(9)", (5, b"two"), "one\ntwo\n")):
+        for more, limits, wanted in (
+            ("", (9,), "one\ntwo\n"),
+            ("time.sleep(9)", (1,), "stopped after 1 seconds"),
+            ("time.sleep(9)", (5, b"two"), "one\ntwo\n"),
+        ):
             begun = time.monotonic()
             self.assertEqual(others.run([sys.executable, "-c", say + more], self.scratch, *limits), wanted)
             self.assertLess(time.monotonic() - begun, 4)
@@ -344,15 +486,26 @@ class Others(common.Case):
 
 class Ours(common.Case):
     def test_netlist(self):
-        self.assertEqual(ours.netlist([(5, -250)]).split(b"\n")[1], b"327N/C                                A01X+000005Y-000250")
+        self.assertEqual(
+            ours.netlist([(5, -250)]).split(b"\n")[1], b"327N/C                                A01X+000005Y-000250"
+        )
 
     def test_kinds(self):
-        for line, kind in (("boardnet: c.gbr: Gerber 12 Macro at command 3, byte 2", "Macro"), ("boardnet: d.drl: drill 2 BadLine at line 3, byte 2", "BadLine"), ("boardnet: out of memory", "boardnet: out of memory")):
+        for line, kind in (
+            ("boardnet: c.gbr: Gerber 12 Macro at command 3, byte 2", "Macro"),
+            ("boardnet: d.drl: drill 2 BadLine at line 3, byte 2", "BadLine"),
+            ("boardnet: out of memory", "boardnet: out of memory"),
+        ):
             self.assertEqual(ours.kind_of(line), kind)
 
     def test_plain(self):
-        self.assertEqual(ours.plain(b"%TF.FileFunction,Copper,L2,Bot*%%TF.Part,Single*%", "copper"), b"%TF.Part,Other*%%TF.Part,Single*%")
-        self.assertEqual(ours.plain(b"; #@! TF.FileFunction,MixedPlating,1,2\n;TYPE=PLATED\nT1C1.0\n", "drill"), b";\n;\nT1C1.0\n")
+        self.assertEqual(
+            ours.plain(b"%TF.FileFunction,Copper,L2,Bot*%%TF.Part,Single*%", "copper"),
+            b"%TF.Part,Other*%%TF.Part,Single*%",
+        )
+        self.assertEqual(
+            ours.plain(b"; #@! TF.FileFunction,MixedPlating,1,2\n;TYPE=PLATED\nT1C1.0\n", "drill"), b";\n;\nT1C1.0\n"
+        )
 
 
 class Netlists(common.Case):
@@ -376,7 +529,9 @@ class Netlists(common.Case):
         one, two, three = (flash.format(pin) for pin in ("J1,1", "R1,2", "R1,3"))
         for layers, unnamed, more in (([one + two, one], 0, 0), ([one + two + three, one], 1, 0), ([one, two], 0, 0)):
             told = netlists.pads(records, layers)
-            self.assertEqual((told["pads without a record"], told["pads with more records than flashes"]), (unnamed, more))
+            self.assertEqual(
+                (told["pads without a record"], told["pads with more records than flashes"]), (unnamed, more)
+            )
         self.assertEqual(netlists.pads(records * 2, [one + two])["pads with more records than flashes"], 2)
         self.assertEqual(netlists.pads(records * 2, [one * 2 + two * 2])["pads with more records than flashes"], 0)
 
@@ -386,7 +541,9 @@ class Netlists(common.Case):
         spots = ["spot 0 254000000 -50800000", "spot 1 254000000 -50800000", "spot 2 12700000 6350000"]
         self.assertEqual(netlists.amiss(records, "\n".join(points + spots), 2), 0)
         for k, other in itertools.product(range(3), ("point 9 9 9 9 9",)):
-            self.assertGreater(netlists.amiss(records, "\n".join(points[:k] + points[k + 1:] + spots), 2), 0, (k, other))
+            self.assertGreater(
+                netlists.amiss(records, "\n".join(points[:k] + points[k + 1 :] + spots), 2), 0, (k, other)
+            )
         self.assertEqual(netlists.amiss(records, "\n".join(points + spots[:2] + ["spot 2 12700000 6350001"]), 2), 1)
 
 
@@ -403,4 +560,7 @@ class Command(common.Case):
         status, _, notes = self.run_words([bench, "--program", "none/there"])
         self.assertEqual((status, "wants the built program" in notes), (1, True))
         # A path that is not there is told before minutes have gone.
-        self.assertEqual(self.run_words([bench, "none", "--program", sys.executable])[::2], (1, "benches/readers: none is not there\n"))
+        self.assertEqual(
+            self.run_words([bench, "none", "--program", sys.executable])[::2],
+            (1, "benches/readers: none is not there\n"),
+        )

@@ -16,13 +16,13 @@ def stretches(contour, pieces):
     (corners, *draws), at, start, told = pieces, 0, contour[0], []
     walk = corners + corners[:1]
     for part in contour[1:]:
-        end, chain, radius = part if len(part) == 2 else part[1], walk[at:at + 2], 0
+        end, chain, radius = part if len(part) == 2 else part[1], walk[at : at + 2], 0
         at += 1
         if len(part) == 3:
             while chain[-1] != end:
                 at += 1
                 chain.append(walk[at])
-            links, draws = draws[:len(chain) - 1], draws[len(chain) - 1:]
+            links, draws = draws[: len(chain) - 1], draws[len(chain) - 1 :]
             chain = chain if part[2] else chain[::-1]
             (radius,) = {draw[3] for draw in links}
             assert [draw[1:3] for draw in links] == list(zip(chain, chain[1:]))
@@ -42,7 +42,11 @@ def stands_for(start, part, chain, radius):
     """The chain may stand for the arc."""
     centre, end, anticlockwise = part
     first, last = (start, end) if anticlockwise else (end, start)
-    return not is_loop(centre, first, last) and is_chain_above(centre, first, last, 0, chain, radius) and odd_round(centre, chain) == (first == last)
+    return (
+        not is_loop(centre, first, last)
+        and is_chain_above(centre, first, last, 0, chain, radius)
+        and odd_round(centre, chain) == (first == last)
+    )
 
 
 def is_above(told):
@@ -89,7 +93,9 @@ def is_below(told, points):
     odd, told = False, [*by_eighths(told)]
     for _, _, chain, radius in told:
         for a, b in zip(chain, chain[1:]):
-            if any(are_near(p, q, a, b, radius) and segments_within(p, q, a, b, radius) for p, q in edges(points)) or odd_inside(points, a):
+            if any(
+                are_near(p, q, a, b, radius) and segments_within(p, q, a, b, radius) for p, q in edges(points)
+            ) or odd_inside(points, a):
                 return False
             odd ^= crosses(points[0], a, b)
     return is_above(told) and odd
@@ -106,24 +112,39 @@ def crosses(p, a, b):
 
 def ring(rng):
     """A box whose corners are rounded outwards or inwards, or not, with long, short or no edges between, either way round."""
-    r = rng.choice((rng.randrange(1, 9), rng.randrange(9, 900), rng.randrange(900, 10 ** 6)))
-    (w, h), start = (r + rng.choice((0, 1, 2, rng.randrange(1, 4 * r), rng.randrange(1, 10 ** 7))) for _ in "xy"), (r, 0)
+    r = rng.choice((rng.randrange(1, 9), rng.randrange(9, 900), rng.randrange(900, 10**6)))
+    (w, h), start = (r + rng.choice((0, 1, 2, rng.randrange(1, 4 * r), rng.randrange(1, 10**7))) for _ in "xy"), (
+        r,
+        0,
+    )
     out = [start]
-    for inner, outer, first, last in (((w, r), (w + r, 0), (w, 0), (w + r, r)), ((w, h), (w + r, h + r), (w + r, h), (w, h + r)), ((r, h), (0, h + r), (r, h + r), (0, h)),
-                                      ((r, r), (0, 0), (0, r), start)):
+    for inner, outer, first, last in (
+        ((w, r), (w + r, 0), (w, 0), (w + r, r)),
+        ((w, h), (w + r, h + r), (w + r, h), (w, h + r)),
+        ((r, h), (0, h + r), (r, h + r), (0, h)),
+        ((r, r), (0, 0), (0, r), start),
+    ):
         out += [first, rng.choice(((inner, last, True), (inner, last, True), (outer, last, False), last))]
-    return out if rng.random() < .5 else backwards(out)
+    return out if rng.random() < 0.5 else backwards(out)
 
 
 def backwards(contour):
     spots = [part if len(part) == 2 else part[1] for part in contour]
-    return [spots[-1], *(spots[k] if len(part) == 2 else (part[0], spots[k], not part[2]) for k, part in reversed([*enumerate(contour[1:])]))]
+    return [
+        spots[-1],
+        *(
+            spots[k] if len(part) == 2 else (part[0], spots[k], not part[2])
+            for k, part in reversed([*enumerate(contour[1:])])
+        ),
+    ]
 
 
 def turned_by(rng, contour):
     """The contour at an angle, its places rounded, so that most arcs have ends at two distances."""
     angle, step = rng.random() * 7, rng.choice((1, 10, 100))
-    place = lambda p: tuple(step * round((p[0] * math.cos(angle + k) + p[1] * math.sin(angle + k)) / step) for k in (0, math.pi / 2))
+    place = lambda p: tuple(
+        step * round((p[0] * math.cos(angle + k) + p[1] * math.sin(angle + k)) / step) for k in (0, math.pi / 2)
+    )
     return [place(part) if len(part) == 2 else (place(part[0]), place(part[1]), part[2]) for part in contour]
 
 
@@ -131,10 +152,15 @@ def walk(rng):
     """Straight parts and arcs from a spot on, of any turn that keeps the distance; most cross themselves."""
     size, out = 10 ** rng.randrange(1, 8), [(0, 0)]
     for _ in range(rng.randrange(2, 6)):
-        (x, y), (dx, dy) = out[-1][-2:] if len(out[-1]) == 2 else out[-1][1], (rng.randrange(1, size), rng.randrange(-size, size))
+        (x, y), (dx, dy) = out[-1][-2:] if len(out[-1]) == 2 else out[-1][1], (
+            rng.randrange(1, size),
+            rng.randrange(-size, size),
+        )
         turned = rng.choice(((-dx, -dy), (-dy, dx), (dy, -dx), (dx, -dy), (-dx, dy), (dy, dx), (-dy, -dx), (dx, dy)))
         centre = (x - dx, y - dy)
-        out.append(rng.choice(((centre, (centre[0] + turned[0], centre[1] + turned[1]), rng.random() < .5), (x + dx, y + dy))))
+        out.append(
+            rng.choice(((centre, (centre[0] + turned[0], centre[1] + turned[1]), rng.random() < 0.5), (x + dx, y + dy)))
+        )
     return [*out, out[0]]
 
 
@@ -172,7 +198,18 @@ class TestInsets(unittest.TestCase):
 
     def test_straight_edges_are_kept(self):
         """But near arcs they are moved by 2 u alone, also behind one that turns inwards."""
-        made = self.tried([(0, 0), (30000, 0), (30000, 10000), (15000, 10000), ((15000, 15000), (10000, 15000), False), (10000, 30000), (0, 30000), (0, 0)])
+        made = self.tried(
+            [
+                (0, 0),
+                (30000, 0),
+                (30000, 10000),
+                (15000, 10000),
+                ((15000, 15000), (10000, 15000), False),
+                (10000, 30000),
+                (0, 30000),
+                (0, 0),
+            ]
+        )
         self.assertLessEqual({(2, 2), (29998, 2), (29998, 9998), (9998, 29998), (2, 29998)}, {*made.inner[0]})
 
     def test_what_is_not_taken(self):
@@ -181,7 +218,9 @@ class TestInsets(unittest.TestCase):
         made = rounded_contour(tuple(contour), False, True)
         told = stretches(contour, [made.outer, *made.wide])
         self.assertTrue(is_below(told, made.inner[0]))
-        self.assertFalse(is_above([(start, part, chain, radius - (len(part) == 3)) for start, part, chain, radius in told]))
+        self.assertFalse(
+            is_above([(start, part, chain, radius - (len(part) == 3)) for start, part, chain, radius in told])
+        )
         self.assertFalse(is_below(told, [(0, 0), (100, 0), (0, 100)]))
         self.assertFalse(is_below(told, [(10, 10), (-100, 10), (-10, -100)]))
         self.assertFalse(is_below(told, [(-10, -10), (-100, -10), (-10, -100)]))

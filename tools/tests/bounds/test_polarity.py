@@ -19,11 +19,14 @@ from tests.fixtures.real_shapes import FINE, circle_ends, encloses, every, fine,
 
 MANY = int(os.environ.get("TESTS", "1"))
 MICROMETRE = 10_000
-PARTS = 12          # places of sweeps are twelfths of a u
+PARTS = 12  # places of sweeps are twelfths of a u
 
 
 def on_border(corners, p, scale):
-    return any(point_within(p, (a[0] * scale, a[1] * scale), (b[0] * scale, b[1] * scale), 0) for a, b in zip(corners, corners[1:] + corners[:1]))
+    return any(
+        point_within(p, (a[0] * scale, a[1] * scale), (b[0] * scale, b[1] * scale), 0)
+        for a, b in zip(corners, corners[1:] + corners[:1])
+    )
 
 
 def holds(contours, p, scale):
@@ -39,19 +42,27 @@ class Areas(unittest.TestCase):
         if kind == "r":
             return [a, (b[0], a[1]), b, (a[0], b[1])]
         if kind == "z":
-            return [a, (b[0], a[1]), b, (a[0], b[1]), a, ((a[0] + b[0]) // 2, a[1]), ((a[0] + b[0]) // 2, (a[1] + b[1]) // 2)]
+            return [
+                a,
+                (b[0], a[1]),
+                b,
+                (a[0], b[1]),
+                a,
+                ((a[0] + b[0]) // 2, a[1]),
+                ((a[0] + b[0]) // 2, (a[1] + b[1]) // 2),
+            ]
         found = [spot() for _ in range(3 if kind == "t" else rng.randint(3, 7))]
         return found + [found[0], a, found[0]] if kind == "s" else found
 
     def items(self, rng, size):
-        items = [(rng.random() < .6, self.contour(rng, size)) for _ in range(rng.randint(1, 8))]
+        items = [(rng.random() < 0.6, self.contour(rng, size)) for _ in range(rng.randint(1, 8))]
         for moved in (0, rng.randint(0, 2)):
-            if rng.random() < .3:
-                items.append((rng.random() < .5, [(x, y + moved) for x, y in rng.choice(items)[1]]))
+            if rng.random() < 0.3:
+                items.append((rng.random() < 0.5, [(x, y + moved) for x, y in rng.choice(items)[1]]))
         return items
 
     def place(self, rng, items, size):
-        if rng.random() < .5:
+        if rng.random() < 0.5:
             return tuple(rng.randint(-PARTS, size * PARTS + PARTS) for _ in "xy")
         corners, t = rng.choice(items)[1], rng.randint(0, PARTS)
         k = rng.randrange(len(corners))
@@ -70,7 +81,7 @@ class Areas(unittest.TestCase):
     def test_places(self):
         rng, asked = random.Random(21), 0
         for _ in range(50 * MANY):
-            size = rng.choice((6, 12, 12, 20, 40, 300, 10 ** 7))
+            size = rng.choice((6, 12, 12, 20, 40, 300, 10**7))
             items = self.items(rng, size)
             low, high = ([c for c, _ in Sweep(items, upper).out] for upper in (False, True))
             self.assertTrue(all(len(c) >= 3 for c in low + high))
@@ -86,13 +97,16 @@ class Areas(unittest.TestCase):
         """What is 3 u inside lies in LOWER, what is 3 u outside does not lie in UPPER."""
         rng, asked = random.Random(22), 0
         for _ in range(25 * MANY):
-            size = rng.choice((60, 300, 10 ** 7))
+            size = rng.choice((60, 300, 10**7))
             items = self.items(rng, size)
             low, high = ([c for c, _ in Sweep(items, upper).out] for upper in (False, True))
             for _ in range(40):
                 p = self.place(rng, items, size)
-                if any(point_within(p, (a[0] * PARTS, a[1] * PARTS), (b[0] * PARTS, b[1] * PARTS), 3 * PARTS)
-                       for _, c in items for a, b in zip(c, c[1:] + c[:1])):
+                if any(
+                    point_within(p, (a[0] * PARTS, a[1] * PARTS), (b[0] * PARTS, b[1] * PARTS), 3 * PARTS)
+                    for _, c in items
+                    for a, b in zip(c, c[1:] + c[:1])
+                ):
                     continue
                 truth, asked = self.truth(items, p), asked + 1
                 self.assertEqual((holds(low, p, PARTS), holds(high, p, PARTS)), (truth, truth), (items, p))
@@ -108,11 +122,19 @@ class Areas(unittest.TestCase):
 
     def test_nearly_level(self):
         """Edges that rise by a few u over a millimetre, and places far off them within the same u of height."""
-        size, tilts = 10 ** 7, (-7, -3, -1, 0, 1, 3, 7)
+        size, tilts = 10**7, (-7, -3, -1, 0, 1, 3, 7)
         for a, b in ((a, b) for a in tilts for b in tilts):
             plane = [(0, 0), (size, a), (size - a, size + a), (-a, size)]
-            band = [(3 * size // 10, -size), (4 * size // 10, -size), (4 * size // 10 - b, 2 * size), (3 * size // 10 - b, 2 * size)]
-            for dark, items in ((True, [(True, plane), (False, band)]), (False, [(True, block_of(-size, -size, 2 * size, 2 * size)), (False, plane), (True, band)])):
+            band = [
+                (3 * size // 10, -size),
+                (4 * size // 10, -size),
+                (4 * size // 10 - b, 2 * size),
+                (3 * size // 10 - b, 2 * size),
+            ]
+            for dark, items in (
+                (True, [(True, plane), (False, band)]),
+                (False, [(True, block_of(-size, -size, 2 * size, 2 * size)), (False, plane), (True, band)]),
+            ):
                 low, high = ([c for c, _ in Sweep(items, upper).out] for upper in (False, True))
                 for y in range(min(0, a) - 2, max(0, a) + 3):
                     for x, inside in ((size // 5, False), (35 * size // 100, True), (size // 2, False)):
@@ -120,22 +142,26 @@ class Areas(unittest.TestCase):
                             above = p[1] * size > a * p[0]
                             if abs(p[1] * size - a * p[0]) > 3 * PARTS * size or inside:
                                 truth = (above and not inside) == dark
-                                self.assertEqual((holds(low, p, PARTS), holds(high, p, PARTS)), (truth, truth), (a, b, dark, p))
+                                self.assertEqual(
+                                    (holds(low, p, PARTS), holds(high, p, PARTS)), (truth, truth), (a, b, dark, p)
+                                )
 
     def leveled(self, rng):
         """Areas whose nearly level edges cross each other and steep ones within a u or two of height, round one place."""
-        size, middle = 10 ** rng.choice((5, 6, 7)), rng.randint(0, 10 ** 5)
+        size, middle = 10 ** rng.choice((5, 6, 7)), rng.randint(0, 10**5)
         x, y = (lambda: rng.randint(0, size)), (lambda: rng.randint(0, 1))
-        items = [(True, block_of(-size, -20, 2 * size, 20))] if rng.random() < .5 else []
+        items = [(True, block_of(-size, -20, 2 * size, 20))] if rng.random() < 0.5 else []
         for _ in range(rng.randint(2, 8)):
             (a, b), s, w = sorted((x(), x())), rng.randint(-20, 20), rng.choice((-size // 3, size // 3, 1000, 7))
-            forms = ([(a, y()), (b, y()), (b + rng.choice((0, 5)), w), (a, w)],
-                     [(a, y()), (b, y()), (b, y()), (a, y())],
-                     [(x(), y()) for _ in range(rng.randint(3, 7))],
-                     [(middle + s, -14), (middle + s + w, -14), (middle + s + w, 15), (middle - s + rng.randint(-1, 1), 15)])
-            items.append((rng.random() < .5, rng.choice(forms)))
-            if rng.random() < .25:
-                items.append((rng.random() < .5, [(p, q + rng.randint(0, 1)) for p, q in rng.choice(items)[1]]))
+            forms = (
+                [(a, y()), (b, y()), (b + rng.choice((0, 5)), w), (a, w)],
+                [(a, y()), (b, y()), (b, y()), (a, y())],
+                [(x(), y()) for _ in range(rng.randint(3, 7))],
+                [(middle + s, -14), (middle + s + w, -14), (middle + s + w, 15), (middle - s + rng.randint(-1, 1), 15)],
+            )
+            items.append((rng.random() < 0.5, rng.choice(forms)))
+            if rng.random() < 0.25:
+                items.append((rng.random() < 0.5, [(p, q + rng.randint(0, 1)) for p, q in rng.choice(items)[1]]))
         return items
 
     def most(self, items, p):
@@ -170,10 +196,24 @@ class Areas(unittest.TestCase):
             items = self.leveled(rng)
             low, high = ([c for c, _ in Sweep(items, upper).out] for upper in (False, True))
             for _ in range(15):
-                x, y = rng.choice(rng.choice(items)[1])[0] + Q(rng.choice((0, rng.randint(-60, 60), rng.randint(-10 ** 6, 10 ** 6))), PARTS), Q(rng.randint(-18, 36), PARTS)
+                x, y = rng.choice(rng.choice(items)[1])[0] + Q(
+                    rng.choice((0, rng.randint(-60, 60), rng.randint(-(10**6), 10**6))), PARTS
+                ), Q(rng.randint(-18, 36), PARTS)
                 is_low, is_high = holds(low, (x, y), 1), holds(high, (x, y), 1)
-                self.assertTrue((not is_low or self.most(items, (x, y))) and (is_high or not self.least(items, (x, y))), (items, x, y))
-                beside = sorted({x, x - 3, x + 3, x - 5010, x + 5010, *(v for _, corners in items for v, _ in corners if abs(v - x) <= 3)})
+                self.assertTrue(
+                    (not is_low or self.most(items, (x, y))) and (is_high or not self.least(items, (x, y))),
+                    (items, x, y),
+                )
+                beside = sorted(
+                    {
+                        x,
+                        x - 3,
+                        x + 3,
+                        x - 5010,
+                        x + 5010,
+                        *(v for _, corners in items for v, _ in corners if abs(v - x) <= 3),
+                    }
+                )
                 places = [place for at in beside for place in self.upwards(items, at, y)]
                 asked += 1
                 self.assertTrue(not is_high or any(self.most(items, p) for p in places), ("upper", items, x, y))
@@ -182,8 +222,11 @@ class Areas(unittest.TestCase):
 
     def test_sliver_between_steep_borders(self):
         """Two steep borders and a level one that says nothing there, all in a unit of height."""
-        steep = [(True, [(-1000, -15), (-16, -15), (15, 15), (-1000, 15)]), (True, [(-1000, -15), (14, -15), (-16, 15), (-1000, 15)])]
-        level = (False, [(-10 ** 6, -1), (10 ** 6, 0), (10 ** 6, -10), (-10 ** 6, -10)])
+        steep = [
+            (True, [(-1000, -15), (-16, -15), (15, 15), (-1000, 15)]),
+            (True, [(-1000, -15), (14, -15), (-16, 15), (-1000, 15)]),
+        ]
+        level = (False, [(-(10**6), -1), (10**6, 0), (10**6, -10), (-(10**6), -10)])
         for items in ([level, *steep], [*steep, level]):
             for upper in (False, True):
                 self.assertLess(max(x for corners, _ in Sweep(items, upper).out for x, _ in corners), 20)
@@ -197,9 +240,12 @@ class Areas(unittest.TestCase):
                 for corners, _ in Sweep(items, upper).out:
                     heights = sorted({y for _, y in corners})
                     for a, b in zip(heights, heights[1:]):
-                        xs = sorted((Q(p[0]) + Q((q[0] - p[0]) * (2 * y - 2 * p[1]), 2 * (q[1] - p[1])), k)
-                                    for y in (Q(a + b, 2),) for k, (p, q) in enumerate(zip(corners, corners[1:] + corners[:1]))
-                                    if min(p[1], q[1]) < y < max(p[1], q[1]))
+                        xs = sorted(
+                            (Q(p[0]) + Q((q[0] - p[0]) * (2 * y - 2 * p[1]), 2 * (q[1] - p[1])), k)
+                            for y in (Q(a + b, 2),)
+                            for k, (p, q) in enumerate(zip(corners, corners[1:] + corners[:1]))
+                            if min(p[1], q[1]) < y < max(p[1], q[1])
+                        )
                         self.assertEqual(len(xs), 2, (items, corners))
 
 
@@ -220,28 +266,113 @@ class Borders(unittest.TestCase):
     def test_places(self):
         ring = block_of(10, 10, 30, 30) + [(10, 10), (14, 14), (14, 26), (26, 26), (26, 14), (14, 14)]
         cases = (
-            ("two voids that touch at a corner", [(True, SQUARE), (False, block_of(0, 0, 20, 20)), (False, block_of(20, 20, 40, 40))], (20, 20), (False, True)),
-            ("two voids beside each other", [(True, SQUARE), (False, block_of(10, 0, 20, 40)), (False, block_of(20, 0, 30, 40))], (20, 7), (False, True)),
-            ("two voids over each other", [(True, SQUARE), (False, block_of(0, 10, 40, 20)), (False, block_of(0, 20, 40, 30))], (7, 20), (False, True)),
-            ("two voids that overlap", [(True, SQUARE), (False, block_of(10, 0, 21, 40)), (False, block_of(20, 0, 30, 40))], (20, 7), (False, False)),
+            (
+                "two voids that touch at a corner",
+                [(True, SQUARE), (False, block_of(0, 0, 20, 20)), (False, block_of(20, 20, 40, 40))],
+                (20, 20),
+                (False, True),
+            ),
+            (
+                "two voids beside each other",
+                [(True, SQUARE), (False, block_of(10, 0, 20, 40)), (False, block_of(20, 0, 30, 40))],
+                (20, 7),
+                (False, True),
+            ),
+            (
+                "two voids over each other",
+                [(True, SQUARE), (False, block_of(0, 10, 40, 20)), (False, block_of(0, 20, 40, 30))],
+                (7, 20),
+                (False, True),
+            ),
+            (
+                "two voids that overlap",
+                [(True, SQUARE), (False, block_of(10, 0, 21, 40)), (False, block_of(20, 0, 30, 40))],
+                (20, 7),
+                (False, False),
+            ),
             ("an area and its equal", [(True, SQUARE), (False, SQUARE)], (0, 5), (False, True)),
             ("within both", [(True, SQUARE), (False, SQUARE)], (5, 5), (False, False)),
             ("a tip on a side", [(True, SQUARE), (False, [(40, 20), (60, 10), (60, 30)])], (40, 20), (False, True)),
             ("a level side", [(True, SQUARE), (False, block_of(10, 10, 30, 30))], (20, 10), (False, True)),
-            ("a corner of a void", [(True, SQUARE), (False, [(20, 10), (30, 20), (20, 30), (10, 20)])], (20, 10), (False, True)),
-            ("a void that is filled again", [(True, SQUARE), (False, block_of(10, 10, 30, 30)), (True, block_of(10, 10, 30, 30))], (10, 20), (True, True)),
-            ("an island with the void's corner", [(True, SQUARE), (False, block_of(10, 10, 30, 30)), (True, block_of(10, 10, 20, 20))], (10, 10), (True, True)),
+            (
+                "a corner of a void",
+                [(True, SQUARE), (False, [(20, 10), (30, 20), (20, 30), (10, 20)])],
+                (20, 10),
+                (False, True),
+            ),
+            (
+                "a void that is filled again",
+                [(True, SQUARE), (False, block_of(10, 10, 30, 30)), (True, block_of(10, 10, 30, 30))],
+                (10, 20),
+                (True, True),
+            ),
+            (
+                "an island with the void's corner",
+                [(True, SQUARE), (False, block_of(10, 10, 30, 30)), (True, block_of(10, 10, 20, 20))],
+                (10, 10),
+                (True, True),
+            ),
             ("a void round an island, in its cut", [(True, SQUARE), (False, ring)], (12, 12), (False, False)),
-            ("a covered level side beside another one", [(True, block_of(0, 0, 10, 10)), (False, block_of(-5, -5, 20, 20)), (True, block_of(60, 0, 70, 10)), (False, block_of(60, 0, 70, 10))], (5, 10), (False, False)),
-            ("the other one", [(True, block_of(0, 0, 10, 10)), (False, block_of(-5, -5, 20, 20)), (True, block_of(60, 0, 70, 10)), (False, block_of(60, 0, 70, 10))], (65, 10), (False, True)),
+            (
+                "a covered level side beside another one",
+                [
+                    (True, block_of(0, 0, 10, 10)),
+                    (False, block_of(-5, -5, 20, 20)),
+                    (True, block_of(60, 0, 70, 10)),
+                    (False, block_of(60, 0, 70, 10)),
+                ],
+                (5, 10),
+                (False, False),
+            ),
+            (
+                "the other one",
+                [
+                    (True, block_of(0, 0, 10, 10)),
+                    (False, block_of(-5, -5, 20, 20)),
+                    (True, block_of(60, 0, 70, 10)),
+                    (False, block_of(60, 0, 70, 10)),
+                ],
+                (65, 10),
+                (False, True),
+            ),
             ("the island", [(True, SQUARE), (False, ring)], (20, 20), (True, True)),
             ("the island's side", [(True, SQUARE), (False, ring)], (14, 20), (False, True)),
-            ("a tip a unit off the side", [(True, block_of(0, 0, 20, 20)), (False, [(0, 14), (12, 19), (1, 11), (8, 0), (12, 19), (0, 14)])], (1, 11), (False, True)),
-            ("a void that runs along itself to its tip", [(True, [(0, 0), (12, 12), (0, 12)]), (False, [(2, 1), (2, 5), (0, 7), (2, 10)])], (2, 5), (False, True)),
-            ("a tip on a corner, level with a notch", [(True, [(6, 3), (7, 4), (7, 5), (6, 4), (5, 5)]), (False, [(7, 4), (8, 3), (8, 5)])], (7, 4), (False, True)),
-            ("a tip on a corner, level with the end of a slot", [(True, [(6, 5), (7, 4), (7, 3), (6, 4), (5, 3)]), (False, [(7, 4), (8, 3), (8, 5)])], (7, 4), (False, True)),
-            ("the end of a thin area on a level side", [(True, [(8, 11), (8, 7), (8, 10)]), (False, [(9, 11), (10, 0), (6, 11)])], (8, 11), (False, True)),
-            ("a thin area on an upright side", [(True, [(1, 2), (2, 2), (2, 2), (1, 2)]), (False, [(1, 0), (1, 5), (3, 0), (3, 3)])], (1, 2), (False, True)),
+            (
+                "a tip a unit off the side",
+                [(True, block_of(0, 0, 20, 20)), (False, [(0, 14), (12, 19), (1, 11), (8, 0), (12, 19), (0, 14)])],
+                (1, 11),
+                (False, True),
+            ),
+            (
+                "a void that runs along itself to its tip",
+                [(True, [(0, 0), (12, 12), (0, 12)]), (False, [(2, 1), (2, 5), (0, 7), (2, 10)])],
+                (2, 5),
+                (False, True),
+            ),
+            (
+                "a tip on a corner, level with a notch",
+                [(True, [(6, 3), (7, 4), (7, 5), (6, 4), (5, 5)]), (False, [(7, 4), (8, 3), (8, 5)])],
+                (7, 4),
+                (False, True),
+            ),
+            (
+                "a tip on a corner, level with the end of a slot",
+                [(True, [(6, 5), (7, 4), (7, 3), (6, 4), (5, 3)]), (False, [(7, 4), (8, 3), (8, 5)])],
+                (7, 4),
+                (False, True),
+            ),
+            (
+                "the end of a thin area on a level side",
+                [(True, [(8, 11), (8, 7), (8, 10)]), (False, [(9, 11), (10, 0), (6, 11)])],
+                (8, 11),
+                (False, True),
+            ),
+            (
+                "a thin area on an upright side",
+                [(True, [(1, 2), (2, 2), (2, 2), (1, 2)]), (False, [(1, 0), (1, 5), (3, 0), (3, 3)])],
+                (1, 2),
+                (False, True),
+            ),
         )
         for name, items, place, want in cases:
             low, high = self.bounds(*items)
@@ -250,52 +381,131 @@ class Borders(unittest.TestCase):
     def test_parts(self):
         """Where areas of one clear object abut is no border of it, however they lie; what has not all of a place's sides has its border there."""
         plane, left, right = (True, [SQUARE]), block_of(10, 5, 20, 35), block_of(20, 5, 30, 35)
-        low, high, quarters = block_of(5, 10, 35, 20), block_of(5, 20, 35, 30), [block_of(x, y, x + 10, y + 10) for x in (10, 20) for y in (10, 20)]
+        low, high, quarters = (
+            block_of(5, 10, 35, 20),
+            block_of(5, 20, 35, 30),
+            [block_of(x, y, x + 10, y + 10) for x in (10, 20) for y in (10, 20)],
+        )
         triangles = [(10, 10), (30, 10), (30, 30)], [(10, 10), (30, 30), (10, 30)]
         steep = [(10, 5), (20, 5), (21, 35), (10, 35)], [(20, 5), (30, 5), (30, 35), (21, 35)]
         ring = [block_of(5, 5, 35, 15), block_of(5, 25, 35, 35), block_of(5, 15, 15, 25), block_of(25, 15, 35, 25)]
         cases = [
-            ("upright", [plane, (False, [left, right])], (20, 7), False), ("of two objects", [plane, (False, [left]), (False, [right])], (20, 7), True),
-            ("level", [plane, (False, [low, high])], (7, 20), False), ("level, of two objects", [plane, (False, [low]), (False, [high])], (7, 20), True),
-            ("slanted", [plane, (False, triangles)], (20, 20), False), ("slanted, of two objects", [plane, *((False, [it]) for it in triangles)], (20, 20), True),
-            ("nearly upright", [plane, (False, steep)], (20, 5), True), ("a place of four", [plane, (False, quarters)], (20, 20), False),
-            *((f"a place of three of four, without {k}", [plane, (False, quarters[:k] + quarters[k + 1:])], (20, 20), True) for k in range(4)),
-            ("its lower end", [plane, (False, [left, right])], (20, 5), True), ("its upper end", [plane, (False, [left, right])], (20, 35), True),
-            ("a unit between", [plane, (False, [left, block_of(21, 5, 30, 35)])], (20, 7), True), ("a void over one side", [plane, (False, [left, right]), (False, [left])], (20, 7), False),
-            ("under a void over one side", [plane, (False, [left]), (False, [left, right])], (20, 7), False), ("a later strip", [plane, (False, [left, right]), (True, [block_of(18, 0, 20, 40)])], (20, 7), True),
-            ("an earlier strip", [(True, [block_of(18, 0, 20, 40)]), (False, [left, right])], (20, 7), False), ("dark again on one side", [plane, (False, [left, right]), (True, [right]), (False, [right])], (20, 7), True),
-            *((f"round an island, at {place}", [plane, (False, ring)], place, want) for place, want in (((10, 15), False), ((10, 25), False), ((15, 20), True), ((15, 15), True), ((20, 25), True), ((20, 20), True))),
+            ("upright", [plane, (False, [left, right])], (20, 7), False),
+            ("of two objects", [plane, (False, [left]), (False, [right])], (20, 7), True),
+            ("level", [plane, (False, [low, high])], (7, 20), False),
+            ("level, of two objects", [plane, (False, [low]), (False, [high])], (7, 20), True),
+            ("slanted", [plane, (False, triangles)], (20, 20), False),
+            ("slanted, of two objects", [plane, *((False, [it]) for it in triangles)], (20, 20), True),
+            ("nearly upright", [plane, (False, steep)], (20, 5), True),
+            ("a place of four", [plane, (False, quarters)], (20, 20), False),
+            *(
+                (
+                    f"a place of three of four, without {k}",
+                    [plane, (False, quarters[:k] + quarters[k + 1 :])],
+                    (20, 20),
+                    True,
+                )
+                for k in range(4)
+            ),
+            ("its lower end", [plane, (False, [left, right])], (20, 5), True),
+            ("its upper end", [plane, (False, [left, right])], (20, 35), True),
+            ("a unit between", [plane, (False, [left, block_of(21, 5, 30, 35)])], (20, 7), True),
+            ("a void over one side", [plane, (False, [left, right]), (False, [left])], (20, 7), False),
+            ("under a void over one side", [plane, (False, [left]), (False, [left, right])], (20, 7), False),
+            ("a later strip", [plane, (False, [left, right]), (True, [block_of(18, 0, 20, 40)])], (20, 7), True),
+            ("an earlier strip", [(True, [block_of(18, 0, 20, 40)]), (False, [left, right])], (20, 7), False),
+            (
+                "dark again on one side",
+                [plane, (False, [left, right]), (True, [right]), (False, [right])],
+                (20, 7),
+                True,
+            ),
+            *(
+                (f"round an island, at {place}", [plane, (False, ring)], place, want)
+                for place, want in (
+                    ((10, 15), False),
+                    ((10, 25), False),
+                    ((15, 20), True),
+                    ((15, 15), True),
+                    ((20, 25), True),
+                    ((20, 20), True),
+                )
+            ),
         ]
         for name, items, place, want in cases:
             for turn in (lambda x, y: (x, y), lambda x, y: (x, -y), lambda x, y: (y, x)):
-                objects = [Object(dark, ([("area", [turn(*p) for p in corners]) for corners in areas],) * 2, k) for k, (dark, areas) in enumerate(items)]
+                objects = [
+                    Object(dark, ([("area", [turn(*p) for p in corners]) for corners in areas],) * 2, k)
+                    for k, (dark, areas) in enumerate(items)
+                ]
                 found = [corners for (_, corners), _ in cut(objects, range(len(items)))[2]]
                 self.assertEqual(holds(found, turn(*place), 1), want, name)
 
     def test_contours_of_a_region(self):
         """Each contour of a clear region is an object: where two abut is a border, in copies and changed blocks too; one with a cut-in has none there."""
-        square = ["G36*", *(f"X{x}Y{y}D0{2 if k == 0 else 1}*" for k, (x, y) in enumerate(((0, 0), (40, 0), (40, 40), (0, 40), (0, 0)))), "G37*"]
-        halves = ["G36*", *(line for left in (10, 20) for line in (f"X{left}Y5D02*", *(f"X{x}Y{y}D01*" for x, y in ((left + 10, 5), (left + 10, 35), (left, 35), (left, 5))))), "G37*"]
+        square = [
+            "G36*",
+            *(
+                f"X{x}Y{y}D0{2 if k == 0 else 1}*"
+                for k, (x, y) in enumerate(((0, 0), (40, 0), (40, 40), (0, 40), (0, 0)))
+            ),
+            "G37*",
+        ]
+        halves = [
+            "G36*",
+            *(
+                line
+                for left in (10, 20)
+                for line in (
+                    f"X{left}Y5D02*",
+                    *(f"X{x}Y{y}D01*" for x, y in ((left + 10, 5), (left + 10, 35), (left, 35), (left, 5))),
+                )
+            ),
+            "G37*",
+        ]
         block = ["%ABD12*%", *halves, "%AB*%"]
-        for lines in (["%LPC*%", *halves], ["%LPC*%", "%SRX1Y1I0J0*%", *halves, "%SR*%"], [*block, "%LPC*%", "D12*", "X0Y0D03*"], [*block, "%LPC*%", "%LMX*%", "D12*", "X40Y0D03*"]):
-            low, high = (pieces_of(side) for side in of_text("\n".join(["%FSLAX47Y47*%", "%MOMM*%", *square, *lines, "M02*", ""])).sides)
-            self.assertEqual([has(high, fine(place)) for place in ((20, 17), (15, 17), (25, 17))], [True, False, False], lines)
+        for lines in (
+            ["%LPC*%", *halves],
+            ["%LPC*%", "%SRX1Y1I0J0*%", *halves, "%SR*%"],
+            [*block, "%LPC*%", "D12*", "X0Y0D03*"],
+            [*block, "%LPC*%", "%LMX*%", "D12*", "X40Y0D03*"],
+        ):
+            low, high = (
+                pieces_of(side)
+                for side in of_text("\n".join(["%FSLAX47Y47*%", "%MOMM*%", *square, *lines, "M02*", ""])).sides
+            )
+            self.assertEqual(
+                [has(high, fine(place)) for place in ((20, 17), (15, 17), (25, 17))], [True, False, False], lines
+            )
             self.assertFalse(has(low, fine((20, 17))), lines)
 
     def test_two_crossings(self):
         """Both sides of a narrow area cross a clear border within a unit; a place on that border, times 16."""
-        items = [(True, [(7, 2), (0, 0), (2, 7)]), (True, [(3, 3), (5, 1), (7, 3), (5, 5)]), (True, [(3, 6), (5, 4), (7, 6), (5, 8)]), (False, [(7, 6), (0, 4), (2, 11)])]
+        items = [
+            (True, [(7, 2), (0, 0), (2, 7)]),
+            (True, [(3, 3), (5, 1), (7, 3), (5, 5)]),
+            (True, [(3, 6), (5, 4), (7, 6), (5, 8)]),
+            (False, [(7, 6), (0, 4), (2, 11)]),
+        ]
         low, high = self.bounds(*items)
         self.assertEqual((holds(low, (35, 74), 16), holds(high, (35, 74), 16)), (False, True))
 
     def around(self, corners, p):
         """Whether it is inside all round a place of a contour's line; None where it is inside and outside. Far finer places than
         edges come near each other are asked, between the ways of the edges there."""
-        fine, found = 10 ** 20, set()
-        ways = [(c[0] - p[0], c[1] - p[1]) for a, b in zip(corners, corners[1:] + corners[:1]) if on_border([a, b], p, 1) for c in (a, b) if c != p]
+        fine, found = 10**20, set()
+        ways = [
+            (c[0] - p[0], c[1] - p[1])
+            for a, b in zip(corners, corners[1:] + corners[:1])
+            if on_border([a, b], p, 1)
+            for c in (a, b)
+            if c != p
+        ]
         for x, y in ways:
             for k in (-1, 1):
-                found.add(encloses(corners, (p[0] * fine + x * 10 ** 6 - k * y, p[1] * fine + y * 10 ** 6 + k * x), fine))
+                found.add(
+                    encloses(corners, (p[0] * fine + x * 10**6 - k * y, p[1] * fine + y * 10**6 + k * x), fine)
+                )
         return found.pop() if len(found) == 1 else None
 
     def truth(self, items, p):
@@ -328,8 +538,8 @@ class Rounds(unittest.TestCase):
     def test_places(self):
         rng = random.Random(24)
         for _ in range(30 * MANY):
-            r = rng.choice((1, 2, 5, 9, 100, 1500, 10 ** 5, 5 * 10 ** 6)) * rng.randint(1, 3)
-            d = tuple(rng.choice((0, rng.randint(-r * 4, r * 4), rng.randint(-10 ** 8, 10 ** 8))) for _ in "xy")
+            r = rng.choice((1, 2, 5, 9, 100, 1500, 10**5, 5 * 10**6)) * rng.randint(1, 3)
+            d = tuple(rng.choice((0, rng.randint(-r * 4, r * 4), rng.randint(-(10**8), 10**8))) for _ in "xy")
             inner, outer = in_it(*d, r), round_it(*d, r)
             for _ in range(40):
                 t, end = rng.random() * 7, rng.choice(((0, 0), d, (d[0] // 2, d[1] // 2)))
@@ -355,21 +565,33 @@ class Rounds(unittest.TestCase):
         rng = random.Random(27)
         for _ in range(8 * MANY):
             radius, a, b = circle_ends(rng, 400)
-            pen = rng.choice((rng.randrange(10 ** 4, 2 * 10 ** 6), rng.randrange(10 ** 4, radius * 3 + 2 * 10 ** 4)))
+            pen = rng.choice((rng.randrange(10**4, 2 * 10**6), rng.randrange(10**4, radius * 3 + 2 * 10**4)))
             chain, _ = arc_chain((0, 0), a, b)
             low, high = ([("area", corners) for corners in its] for its in ring((0, 0), chain, pen))
             for _ in range(40):
-                t, side, end, off = rng.random() * 7, rng.choice((-1, 1)), rng.choice((None, None, a, b)), rng.choice((2, 12, 5000, 20000))
-                at = [v + pen * f(t) if end else (radius + side * pen) * f(t) for v, f in zip(end or a, (math.cos, math.sin))]
+                t, side, end, off = (
+                    rng.random() * 7,
+                    rng.choice((-1, 1)),
+                    rng.choice((None, None, a, b)),
+                    rng.choice((2, 12, 5000, 20000)),
+                )
+                at = [
+                    v + pen * f(t) if end else (radius + side * pen) * f(t)
+                    for v, f in zip(end or a, (math.cos, math.sin))
+                ]
                 p = tuple(round(v * FINE) + rng.randint(-off, off) for v in at)
                 square, reach = p[0] ** 2 + p[1] ** 2, pen * FINE
                 truth = any(point_within(p, fine(e), fine(e), reach) for e in (a, b)) or (
-                    in_sector(fine(a), fine(b), p) and square <= (radius * FINE + reach) ** 2 and (pen >= radius or square >= (radius * FINE - reach) ** 2))
+                    in_sector(fine(a), fine(b), p)
+                    and square <= (radius * FINE + reach) ** 2
+                    and (pen >= radius or square >= (radius * FINE - reach) ** 2)
+                )
                 self.assertTrue(truth or not has(low, p), (radius, a, b, pen, p))
                 self.assertTrue(not truth or has(high, p), (radius, a, b, pen, p))
 
 
 # ---- objects: what a place of quarters of a u says of them, None on their borders
+
 
 def side_of(value):
     return True if value > 0 else False if value < 0 else None
@@ -380,7 +602,9 @@ def disc(c, r):
 
 
 def block(c, w, h):
-    return lambda p: every((side_of(w * FINE - 2 * abs(p[0] - c[0] * FINE)), side_of(h * FINE - 2 * abs(p[1] - c[1] * FINE))))
+    return lambda p: every(
+        (side_of(w * FINE - 2 * abs(p[0] - c[0] * FINE)), side_of(h * FINE - 2 * abs(p[1] - c[1] * FINE)))
+    )
 
 
 def capsule(a, b, r):
@@ -388,6 +612,7 @@ def capsule(a, b, r):
         if point_within(p, fine(a), fine(b), r * FINE):
             return True if point_within(p, fine(a), fine(b), r * FINE - 1) else None
         return False
+
     return inside
 
 
@@ -396,6 +621,7 @@ def annulus(c, radius, r):
         square = (p[0] - c[0] * FINE) ** 2 + (p[1] - c[1] * FINE) ** 2
         low = True if r > radius else side_of(square - ((radius - r) * FINE) ** 2)
         return every((low, side_of(((radius + r) * FINE) ** 2 - square)))
+
     return inside
 
 
@@ -412,6 +638,7 @@ def layered(parts):
                 return None
             state = dark if said else state
         return state
+
     return inside
 
 
@@ -427,10 +654,10 @@ class Board:
         self.lines = ["%FSLAX46Y46*%", "%MOMM*%", "G75*"]
         self.apertures = [self.aperture(k + 10) for k in range(6)]
         for _ in range(rng.randint(3, 14)):
-            if rng.random() < .5:
-                self.dark = rng.random() < .5
+            if rng.random() < 0.5:
+                self.dark = rng.random() < 0.5
                 self.lines.append("%LPD*%" if self.dark else "%LPC*%")
-            if rng.random() < .1:
+            if rng.random() < 0.1:
                 self.step()
             getattr(self, rng.choice(("flash", "flash", "draw", "region", "region", "round")))()
         self.copies(None)
@@ -455,11 +682,30 @@ class Board:
         if kind == "M":
             turn = self.rng.choice((0, 90, 180, 270))
             x, y = self.rng.randint(0, w), self.rng.randint(0, h)
-            body = [f"1,1,{mm(3 * w)},0,0", f"21,0,{mm(w)},{mm(h)},{mm(x)},{mm(y)},{turn}", f"1,0,{mm(h)},{mm(x)},0", f"7,0,0,{mm(4 * w)},{mm(2 * w)},{mm(h)},{turn}"]
+            body = [
+                f"1,1,{mm(3 * w)},0,0",
+                f"21,0,{mm(w)},{mm(h)},{mm(x)},{mm(y)},{turn}",
+                f"1,0,{mm(h)},{mm(x)},0",
+                f"7,0,0,{mm(4 * w)},{mm(2 * w)},{mm(h)},{turn}",
+            ]
             at = {0: (x, y), 90: (-y, x), 180: (-x, -y), 270: (y, -x)}[turn]
             sizes = (w, h) if turn in (0, 180) else (h, w)
-            parts = [(True, disc((0, 0), 15 * w)), (False, block((at[0] * 10, at[1] * 10), sizes[0] * 10, sizes[1] * 10)), (False, disc((x * 10, 0), 5 * h)),
-                     (True, layered([(True, disc((0, 0), 20 * w)), (False, disc((0, 0), 10 * w)), (False, block((0, 0), 40 * w, 10 * h)), (False, block((0, 0), 10 * h, 40 * w))]))]
+            parts = [
+                (True, disc((0, 0), 15 * w)),
+                (False, block((at[0] * 10, at[1] * 10), sizes[0] * 10, sizes[1] * 10)),
+                (False, disc((x * 10, 0), 5 * h)),
+                (
+                    True,
+                    layered(
+                        [
+                            (True, disc((0, 0), 20 * w)),
+                            (False, disc((0, 0), 10 * w)),
+                            (False, block((0, 0), 40 * w, 10 * h)),
+                            (False, block((0, 0), 10 * h, 40 * w)),
+                        ]
+                    ),
+                ),
+            ]
             if h >= 4 * w:
                 body, parts = body[:3], parts[:3]
             self.lines += ["%AM" + f"M{number}*" + "*".join(body) + "*%", f"%ADD{number}M{number}*%"]
@@ -500,11 +746,21 @@ class Board:
 
     def region(self):
         corners = Areas().contour(self.rng, self.size)
-        self.lines += ["G36*", "X%dY%dD02*" % corners[0], *("X%dY%dD01*" % p for p in corners[1:] + corners[:1]), "G37*"]
+        self.lines += [
+            "G36*",
+            "X%dY%dD02*" % corners[0],
+            *("X%dY%dD01*" % p for p in corners[1:] + corners[:1]),
+            "G37*",
+        ]
         self.add(area([(10 * x, 10 * y) for x, y in corners]))
 
     def step(self):
-        columns, rows, x, y = self.rng.randint(1, 2), self.rng.randint(1, 2), self.rng.randint(0, self.size // 2), self.rng.randint(0, self.size // 2)
+        columns, rows, x, y = (
+            self.rng.randint(1, 2),
+            self.rng.randint(1, 2),
+            self.rng.randint(0, self.size // 2),
+            self.rng.randint(0, self.size // 2),
+        )
         dec = lambda v: f"{v // 10 ** 6}.{v % 10 ** 6:06d}"
         self.lines.append(f"%SRX{columns}Y{rows}I{dec(x)}J{dec(y)}*%")
         self.copies((len(self.objects), columns, rows, 10 * x, 10 * y))
@@ -513,13 +769,15 @@ class Board:
         if self.first:
             first, columns, rows, x, y = self.first
             once = self.objects[first:]
-            self.objects[first:] = [(dark, moved(part, i * x, j * y)) for i in range(columns) for j in range(rows) for dark, part in once]
+            self.objects[first:] = [
+                (dark, moved(part, i * x, j * y)) for i in range(columns) for j in range(rows) for dark, part in once
+            ]
         self.first = (len(self.objects), *opened[1:]) if opened else None
 
     def place(self, low, high):
         """Near a border of what was written, mostly."""
         pieces, rng = low + high, self.rng
-        if not pieces or rng.random() < .3:
+        if not pieces or rng.random() < 0.3:
             return tuple(rng.randint(-5 * self.size, 20 * self.size) * FINE for _ in "xy")
         piece, off = rng.choice(pieces), rng.choice((2, 12, 400, 20000))
         if piece[0] == "area":
@@ -537,7 +795,7 @@ class Objects(unittest.TestCase):
     def test_places(self):
         rng, asked = random.Random(25), 0
         for _ in range(15 * MANY):
-            board = Board(rng, rng.choice((40, 3000, 10 ** 6, 10 ** 6)))
+            board = Board(rng, rng.choice((40, 3000, 10**6, 10**6)))
             copper = of_text(board.text)
             low, high = map(pieces_of, copper.sides)
             for _ in range(60):
@@ -552,12 +810,16 @@ class Objects(unittest.TestCase):
         """What is a micrometre inside lies in LOWER, what is a micrometre outside does not lie in UPPER."""
         rng, asked, off = random.Random(26), 0, MICROMETRE * FINE
         for _ in range(4 * MANY):
-            board = Board(rng, 10 ** 6)
+            board = Board(rng, 10**6)
             copper = of_text(board.text)
             low, high = map(pieces_of, copper.sides)
             for _ in range(30):
                 p, truth = board.place(low, high), layered(board.objects)
-                around = {truth((p[0] + dx, p[1] + dy)) for dx in range(-off, off + 1, off // 4) for dy in range(-off, off + 1, off // 4)}
+                around = {
+                    truth((p[0] + dx, p[1] + dy))
+                    for dx in range(-off, off + 1, off // 4)
+                    for dy in range(-off, off + 1, off // 4)
+                }
                 if len(around) == 1 and None not in around:
                     asked += 1
                     self.assertTrue(around == {False} or has(low, p), (board.text, p))
@@ -565,9 +827,8 @@ class Objects(unittest.TestCase):
         self.assertGreater(asked, 15 * MANY)
 
 
-
 def nm(v):
-    return round(v * 10 ** 6)
+    return round(v * 10**6)
 
 
 def closed(*spots):
@@ -581,7 +842,17 @@ def draw(tool, *spots):
 class Plane:
     """A plane with n times n vias: every other one joined by four spokes, the others within antipads; tilted by a slope of 1 : tilt."""
 
-    HEAD = ["%FSLAX46Y46*%", "%MOMM*%", "G75*", "G01*", "%ADD10C,0.6*%", "%ADD11C,1.0*%", "%ADD12C,0.2*%", "%AMTH*7,0,0,1.0,0.6,0.2,45*%", "%ADD14TH*%"]
+    HEAD = [
+        "%FSLAX46Y46*%",
+        "%MOMM*%",
+        "G75*",
+        "G01*",
+        "%ADD10C,0.6*%",
+        "%ADD11C,1.0*%",
+        "%ADD12C,0.2*%",
+        "%AMTH*7,0,0,1.0,0.6,0.2,45*%",
+        "%ADD14TH*%",
+    ]
 
     def __init__(self, n, tilt=0, how="flash"):
         self.tilt, self.how, self.broken, self.shorted, self.more = tilt, how, (), (), []
@@ -594,7 +865,7 @@ class Plane:
 
     def spoke(self, via, d):
         x, y, _, _ = via
-        return draw(12, self.at(x, y), self.at(x + .62 * d[0], y + .62 * d[1]))
+        return draw(12, self.at(x, y), self.at(x + 0.62 * d[0], y + 0.62 * d[1]))
 
     def antipad(self, via):
         x, y = self.at(*via[:2])
@@ -612,7 +883,11 @@ class Plane:
             lines += self.antipad(via)
         lines.append("%LPD*%")
         for via in self.vias:
-            for d in ((1, 0), (0, 1), (-1, 0), (0, -1)) if via[2] and self.how != "thermal" and via[3] not in self.broken else ():
+            for d in (
+                ((1, 0), (0, 1), (-1, 0), (0, -1))
+                if via[2] and self.how != "thermal" and via[3] not in self.broken
+                else ()
+            ):
                 lines += self.spoke(via, d)
             if via[3] in self.shorted:
                 lines += self.spoke(via, (1, 0))
@@ -622,7 +897,7 @@ class Plane:
 
     def records(self):
         for k, (x, y, joined, _) in enumerate(self.vias):
-            yield record("GND" if joined else f"N{k}", f"V{k}.1", *(v / 10 ** 6 for v in self.at(x, y)))
+            yield record("GND" if joined else f"N{k}", f"V{k}.1", *(v / 10**6 for v in self.at(x, y)))
 
 
 @unittest.skipUnless(built(), "the program is not built")
@@ -638,20 +913,30 @@ class Boards(made.Case):
 
     def test_agrees(self):
         for how in ("flash", "region", "thermal"):
-            for tilt in (0, 7, 3 * 10 ** 6):
+            for tilt in (0, 7, 3 * 10**6):
                 status, out = self.told(Plane(4, tilt, how))
                 self.assertEqual((status, "board: agrees, between two bounds" in out), (0, True), (how, tilt, out))
 
     def test_differs(self):
-        for tilt in (0, 10 ** 3, 3 * 10 ** 6):
+        for tilt in (0, 10**3, 3 * 10**6):
             plane = Plane(4, tilt, "region")
             plane.broken, plane.shorted = [(1, 1)], [(2, 1)]
             status, out = self.told(plane)
-            self.assertEqual((status, ["2 findings certain" in out.splitlines()[0], "bounds: lower differs, opens 1, shorts 1, missing 0; upper differs, opens 1, shorts 1" in out]), (1, [True] * 2), out)
+            self.assertEqual(
+                (
+                    status,
+                    [
+                        "2 findings certain" in out.splitlines()[0],
+                        "bounds: lower differs, opens 1, shorts 1, missing 0; upper differs, opens 1, shorts 1" in out,
+                    ],
+                ),
+                (1, [True] * 2),
+                out,
+            )
 
     def test_split(self):
         """A clear line through the plane parts its nets; dark copper over it joins them again."""
-        for tilt in (0, 10 ** 3, 3 * 10 ** 6):
+        for tilt in (0, 10**3, 3 * 10**6):
             plane = Plane(4, tilt)
             plane.vias = [via for via in plane.vias if via[3][0] != 1]
             plane.more = ["%LPC*%", *draw(12, plane.at(3, -1), plane.at(3, 11)), "%LPD*%"]
@@ -662,30 +947,59 @@ class Boards(made.Case):
 
     def test_dark_under_clear(self):
         """Tracks that leave the plane across its borders, drawn before the clear objects: joined copper stays joined."""
-        for tilt in (0, 10 ** 3, 10 ** 7):
+        for tilt in (0, 10**3, 10**7):
             plane, more = Plane(3, tilt), []
             for k in range(1, 8):
                 for x, y, dx, dy in ((k, 0, 0, -1.5), (k, 8, 0, 1.5), (0, k, -1.5, 0), (8, k, 1.5, 0)):
                     a, b = plane.at(x - dx / 5, y - dy / 5), plane.at(x + dx, y + dy)
                     plane.more += draw(12, a, b)
-                    more.append(record("GND", f"T{len(more)}.1", b[0] / 10 ** 6, b[1] / 10 ** 6))
+                    more.append(record("GND", f"T{len(more)}.1", b[0] / 10**6, b[1] / 10**6))
             plane.more += ["%LPC*%", "D12*"]
-            plane.more += [line for k in range(1, 8) for x, y in ((k + .5, -.6), (k + .5, 8.6)) for line in draw(12, plane.at(x, y), plane.at(x - .35, y))]
+            plane.more += [
+                line
+                for k in range(1, 8)
+                for x, y in ((k + 0.5, -0.6), (k + 0.5, 8.6))
+                for line in draw(12, plane.at(x, y), plane.at(x - 0.35, y))
+            ]
             status, out = self.told(plane, *more)
             self.assertEqual(status, 0, (tilt, out))
 
     def test_clear_rings(self):
         """A plane with a ring cleared out of it, by any aperture: what is within the ring is joined to nothing, but over a thermal's bars."""
         macro = lambda *lines: ["%AMRING*", *(line + "*" for line in lines[:-1]), lines[-1] + "*%", "%ADD20RING*%"]
-        rings = [macro("1,1,3,0,0", "1,0,2,0,0"), macro("21,1,3,3,0,0,0", "1,0,2,0,0"), macro("7,0,0,3,2,0,0"), macro("5,1,6,0,0,3,15", "1,0,2,0,0"),
-                 ["%ADD20O,4X3X2*%"], ["%ADD20O,3X4X2*%"], ["%ADD20P,4X6X0X2*%"], ["%ADD20P,4X3X10X1*%"], ["%ADD20R,4X3X2*%"], ["%ADD20C,4X2*%"]]
-        square = ["G36*", *draw(10, *((nm(x), nm(y)) for x, y in ((-4, -4), (4, -4), (4, 4), (-4, 4), (-4, -4))))[1:], "G37*"]
+        rings = [
+            macro("1,1,3,0,0", "1,0,2,0,0"),
+            macro("21,1,3,3,0,0,0", "1,0,2,0,0"),
+            macro("7,0,0,3,2,0,0"),
+            macro("5,1,6,0,0,3,15", "1,0,2,0,0"),
+            ["%ADD20O,4X3X2*%"],
+            ["%ADD20O,3X4X2*%"],
+            ["%ADD20P,4X6X0X2*%"],
+            ["%ADD20P,4X3X10X1*%"],
+            ["%ADD20R,4X3X2*%"],
+            ["%ADD20C,4X2*%"],
+        ]
+        square = [
+            "G36*",
+            *draw(10, *((nm(x), nm(y)) for x, y in ((-4, -4), (4, -4), (4, 4), (-4, 4), (-4, -4))))[1:],
+            "G37*",
+        ]
         records = [record("A", "J1.1", -3, 0), record("A", "J1.2", 3, 3.5), record("B", "J2.1", 0, 0)]
-        for lines, words in [(it, "agrees") for it in rings] + [(macro("7,0,0,3,2,0.4,0"), "differs"), (macro("7,0,0,3,2,0.4,45"), "differs")]:
+        for lines, words in [(it, "agrees") for it in rings] + [
+            (macro("7,0,0,3,2,0.4,0"), "differs"),
+            (macro("7,0,0,3,2,0.4,45"), "differs"),
+        ]:
             self.write("board/m.json", manifest())
-            self.write("board/top.gbr", "\n".join(["%FSLAX46Y46*%", "%MOMM*%", "G01*", *lines, *square, "%LPC*%", "D20*", "X0Y0D03*", "M02*", ""]))
+            self.write(
+                "board/top.gbr",
+                "\n".join(
+                    ["%FSLAX46Y46*%", "%MOMM*%", "G01*", *lines, *square, "%LPC*%", "D20*", "X0Y0D03*", "M02*", ""]
+                ),
+            )
             self.write("board/n.ipc", netlist(*records))
-            self.assertTrue(self.show("board", program=built())[1].startswith(f"board: {words}, between two bounds"), lines)
+            self.assertTrue(
+                self.show("board", program=built())[1].startswith(f"board: {words}, between two bounds"), lines
+            )
 
     def negative(self, plane, word, profile):
         """The same plane as a negative file: the voids are dark and what is in them is clear."""
@@ -694,11 +1008,24 @@ class Boards(made.Case):
         lines = whole().split("\n")
         first = lines.index("%LPC*%")
         plane.copper = lambda: "\n".join([*Plane.HEAD, word, *(other.get(line, line) for line in lines[first:])])
-        self.write("board/edge.gbr", "\n".join(["%TF.FileFunction,Profile,NP*%", *Plane.HEAD, *draw(12, (0, 0), (nm(size), 0), (nm(size), nm(size)), (0, nm(size)), (0, 0)), "M02*", ""]) if profile else "")
+        self.write(
+            "board/edge.gbr",
+            "\n".join(
+                [
+                    "%TF.FileFunction,Profile,NP*%",
+                    *Plane.HEAD,
+                    *draw(12, (0, 0), (nm(size), 0), (nm(size), nm(size)), (0, nm(size)), (0, 0)),
+                    "M02*",
+                    "",
+                ]
+            )
+            if profile
+            else "",
+        )
 
     def test_negative(self):
         """By both words, with and without a profile file; without one nobody knows where the plane ends."""
-        far = record("GND", "E1.1", .1, 9.9)
+        far = record("GND", "E1.1", 0.1, 9.9)
         for word in ("%IPNEG*%", "%TF.FilePolarity,Negative*%"):
             plane = Plane(4)
             self.negative(plane, word, True)
@@ -706,23 +1033,36 @@ class Boards(made.Case):
             plane = Plane(4)
             self.negative(plane, word, False)
             status, out = self.told(plane, far)
-            self.assertEqual((status, "no copper lies under E1 pin 1" in out, "since the board's outline is not known" in out), (11, False, True), out)
+            self.assertEqual(
+                (status, "no copper lies under E1 pin 1" in out, "since the board's outline is not known" in out),
+                (11, False, True),
+                out,
+            )
             plane = Plane(4)
             plane.broken, plane.shorted = [(1, 1)], [(2, 1)]
             self.negative(plane, word, True)
             status, out = self.told(plane)
-            self.assertEqual((status, "lower differs, opens 1, shorts 1, missing 0; upper differs, opens 1, shorts 1" in out), (1, True), out)
+            self.assertEqual(
+                (status, "lower differs, opens 1, shorts 1, missing 0; upper differs, opens 1, shorts 1" in out),
+                (1, True),
+                out,
+            )
 
     def test_negative_by_any_name(self):
         """The profile file is found however the board is named, past a file beside it that cannot be read."""
-        plane, far = Plane(2), record("GND", "E1.1", .1, 5.9)
+        plane, far = Plane(2), record("GND", "E1.1", 0.1, 5.9)
         self.negative(plane, "%IPNEG*%", True)
         self.told(plane, far)
         with zipfile.ZipFile(self.path("board.zip"), "w") as archive:
             for name in os.listdir(self.path("board")):
                 archive.write(self.path("board", name), name)
         os.symlink("/proc/self/mem", self.path("board", "a.gbr"))
-        for words, folder in (("board", None), ("board.zip", None), ("m.json", self.path("board")), (".", self.path("board"))):
+        for words, folder in (
+            ("board", None),
+            ("board.zip", None),
+            ("m.json", self.path("board")),
+            (".", self.path("board")),
+        ):
             status, out, _ = self.show(words, folder=folder, program=built())
             self.assertEqual((status, "agrees, between two bounds" in out), (0, True), (words, out))
 
@@ -735,13 +1075,18 @@ class Boards(made.Case):
     def test_long_contour(self):
         """A contour of more than 100,000 edges is cut along a chord: the answer is no bound."""
         steps = 50_300
-        left = [(nm(k % 2 * .001), 200 * k) for k in range(steps)]
-        right = [(nm(5 + k % 2 * .001), 200 * k) for k in range(steps)]
+        left = [(nm(k % 2 * 0.001), 200 * k) for k in range(steps)]
+        right = [(nm(5 + k % 2 * 0.001), 200 * k) for k in range(steps)]
         plane = Plane(1)
         plane.copper = lambda: "\n".join([*plane.HEAD, *closed(*left, *right[::-1]), "M02*", ""])
         plane.records = lambda: iter([record("A", "J1.1", 1, 1), record("A", "J1.2", 4, 9), record("B", "J2.1", 6, 9)])
         status, out = self.told(plane)
-        self.assertEqual((status, out.splitlines()[0]), (1, "board: differs, opens 0, shorts 0, missing 1, after 2 mends (audit true)"), out)
+        self.assertEqual(
+            (status, out.splitlines()[0]),
+            (1, "board: differs, opens 0, shorts 0, missing 1, after 2 mends (audit true)"),
+            out,
+        )
+
 
 if __name__ == "__main__":
     unittest.main()

@@ -6,8 +6,21 @@ import unittest
 from fractions import Fraction as Q
 
 from tests.fixtures.real_shapes import (
-    FINE, NEAR, Real, circle_ends, contour_of, encloses, every, fine, gerber_of, has, in_sector, macro_bounds,
-    on_circle, pieces_of, through
+    FINE,
+    NEAR,
+    Real,
+    circle_ends,
+    contour_of,
+    encloses,
+    every,
+    fine,
+    gerber_of,
+    has,
+    in_sector,
+    macro_bounds,
+    on_circle,
+    pieces_of,
+    through,
 )
 from boardnet_show.bounds.apertures.macros import bounds_of
 from boardnet_show.bounds.files.bounded_file import Copper
@@ -25,25 +38,36 @@ class Numbers(unittest.TestCase):
     def test_turns(self):
         rng = random.Random(3)
         for _ in range(300):
-            d = Q(rng.randrange(-10 ** 9, 10 ** 9), 10 ** rng.randrange(8))
+            d = Q(rng.randrange(-(10**9), 10**9), 10 ** rng.randrange(8))
             (c, s), (c2, _) = cos_sin(d), cos_sin(2 * d)
             one, double = plus(times(c, c), times(s, s)), plus(times(c, c), minus(times(s, s)))
-            self.assertTrue(one[0] <= 1 <= one[1] and one[1] - one[0] < Q(1, 10 ** 30))
+            self.assertTrue(one[0] <= 1 <= one[1] and one[1] - one[0] < Q(1, 10**30))
             self.assertTrue(double[0] <= c2[1] and c2[0] <= double[1])
             self.assertLess(abs(float(s[0]) - math.sin(math.radians(float(d % 360)))), 1e-12)
 
     def test_roots(self):
-        for n in (Q(2), Q(9, 4), Q(10 ** 12 + 1), Q(1, 3), Q(0)):
+        for n in (Q(2), Q(9, 4), Q(10**12 + 1), Q(1, 3), Q(0)):
             low, high = root(n)
             self.assertTrue(low * low <= n <= high * high)
         self.assertEqual(root(Q(9, 4)), (Q(3, 2), Q(3, 2)))
 
     def test_expressions(self):
-        for text, value in (("1+2x3", 7), ("(1+2)X3", 9), ("-$1/4", Q(-5, 4)), ("2--1", 3), ("1-2-3", -4), ("8/4/2", 1), ("$9", 0), (".5+1.", Q(3, 2))):
+        for text, value in (
+            ("1+2x3", 7),
+            ("(1+2)X3", 9),
+            ("-$1/4", Q(-5, 4)),
+            ("2--1", 3),
+            ("1-2-3", -4),
+            ("8/4/2", 1),
+            ("$9", 0),
+            (".5+1.", Q(3, 2)),
+        ):
             self.assertEqual(Expression(text, {1: Q(5)}).value(), value)
         for text in ("", "1+", "1/0", "(1", "a", "1 2)"):
             self.assertRaises(Refused, lambda: Expression(text, {}).value())
-        self.assertEqual(macro_bounds(["$3=$1x2", "$4=$3/2", "1,1,$4,0,0"], [Q(2)], 10)[0], [("capsule", (0, 0), (0, 0), 10)])
+        self.assertEqual(
+            macro_bounds(["$3=$1x2", "$4=$3/2", "1,1,$4,0,0"], [Q(2)], 10)[0], [("capsule", (0, 0), (0, 0), 10)]
+        )
 
 
 class Primitives(unittest.TestCase):
@@ -81,8 +105,15 @@ class Primitives(unittest.TestCase):
         self.assertGreater(kept, asked * 95 // 100)
 
     def test_whole_stays_exact(self):
-        body = ["1,1,$1,0,0", "21,1,$1+$1,$1,0,1.0,90", "4,1,3,0,0,1,0,1,1,0,0,180", "20,1,0.2,0,0,0.3,0.4,0", "22,1,1,1,0,0,270", "1,1,1,1,0,45x2"]
-        low, high, lost = macro_bounds(body, [Q(1)], 10 ** 7)
+        body = [
+            "1,1,$1,0,0",
+            "21,1,$1+$1,$1,0,1.0,90",
+            "4,1,3,0,0,1,0,1,1,0,0,180",
+            "20,1,0.2,0,0,0.3,0.4,0",
+            "22,1,1,1,0,0,270",
+            "1,1,1,1,0,45x2",
+        ]
+        low, high, lost = macro_bounds(body, [Q(1)], 10**7)
         self.assertEqual((low, lost), (high, 0))
 
 
@@ -92,7 +123,7 @@ class Arcs(unittest.TestCase):
         rng = random.Random(4)
         for _ in range(20 * MANY):
             radius, a, b = circle_ends(rng, 400)
-            pen = rng.randrange(1, 2 * 10 ** 6)
+            pen = rng.randrange(1, 2 * 10**6)
             chain, most = arc_chain((0, 0), a, b)
             self.assertLessEqual(2 * most, MICROMETRE)
             low, high = chain_bounds(chain, most, Q(pen))
@@ -112,7 +143,7 @@ class Arcs(unittest.TestCase):
 
     def truth(self, p, radius, a, b, pen):
         radius, pen, a, b = radius * FINE, pen * FINE, fine(a), fine(b)
-        if any((p[0] - e[0]) ** 2 + (p[1] - e[1]) ** 2 <= pen ** 2 for e in (a, b)):
+        if any((p[0] - e[0]) ** 2 + (p[1] - e[1]) ** 2 <= pen**2 for e in (a, b)):
             return True
         square = p[0] ** 2 + p[1] ** 2
         return in_sector(a, b, p) and square <= (radius + pen) ** 2 and (pen >= radius or square >= (radius - pen) ** 2)
@@ -136,7 +167,14 @@ class Arcs(unittest.TestCase):
     def test_once_round(self):
         """A chain that goes round twice is none."""
         quarter = [(9, 0), (0, 9), (-9, 0), (0, -9), (9, 0)]
-        rows = [(quarter, True), (quarter[:3], True), (quarter + quarter[1:], False), (quarter + quarter[1:2], False), (quarter[::-1], False), (quarter[:2] + quarter[3:], False)]
+        rows = [
+            (quarter, True),
+            (quarter[:3], True),
+            (quarter + quarter[1:], False),
+            (quarter + quarter[1:2], False),
+            (quarter[::-1], False),
+            (quarter[:2] + quarter[3:], False),
+        ]
         for chain, answer in rows:
             self.assertEqual(goes_once(lambda p, q: cross((0, 0), p, q), chain), answer, chain)
 
@@ -169,10 +207,14 @@ class SmallCircles(unittest.TestCase):
     def test_places(self):
         rng = random.Random(13)
         for radius in range(980, 1200, 14):
-            (x, y, r), pen = on_circle(rng, radius), rng.choice((2, 900, 1100, 5000, 10 ** 6))
+            (x, y, r), pen = on_circle(rng, radius), rng.choice((2, 900, 1100, 5000, 10**6))
             start = rng.choice(((r, 0), (x, y)))
-            text = gerber_of([start, ((0, 0), start, rng.random() < .5)])
-            drawn = text.replace("%MOMM*%", f"%MOMM*%\n%ADD10C,{pen * 2 / 10 ** 7:.7f}*%\nD10*").replace("G36*", "").replace("G37*", "")
+            text = gerber_of([start, ((0, 0), start, rng.random() < 0.5)])
+            drawn = (
+                text.replace("%MOMM*%", f"%MOMM*%\n%ADD10C,{pen * 2 / 10 ** 7:.7f}*%\nD10*")
+                .replace("G36*", "")
+                .replace("G37*", "")
+            )
             filled, outline = ([pieces_of(side) for side in Copper(it).sides] for it in (text, drawn))
             for _ in range(40):
                 t, off = rng.random() * 7, rng.choice((0, 3, 100))
@@ -190,13 +232,17 @@ class TwoRadii(unittest.TestCase):
     UPPER round it. A pie has its copper on the side of the centre, a fan beyond."""
 
     def contour(self, rng, is_pie):
-        turn, wide = rng.random() * 6.28, math.radians(rng.choice((2, 20, 80, 91, 130, 178, 200, 250, 275, 300, 340, 358)))
-        r, more = rng.choice((2000, 30000, 10 ** 6, 10 ** 7)) * rng.randint(1, 9), rng.choice((1, 2, 10, 254, 2540, 15000, 25400))
+        turn, wide = rng.random() * 6.28, math.radians(
+            rng.choice((2, 20, 80, 91, 130, 178, 200, 250, 275, 300, 340, 358))
+        )
+        r, more = rng.choice((2000, 30000, 10**6, 10**7)) * rng.randint(1, 9), rng.choice(
+            (1, 2, 10, 254, 2540, 15000, 25400)
+        )
         at = lambda far, angle: (round(far * math.cos(angle)), round(far * math.sin(angle)))
         start, end = at(r, turn), at(r + rng.choice((-1, 1)) * min(more, r // 3), turn + wide)
         fan = [] if is_pie else [at(3 * r, turn + wide * k / 24) for k in range(24, -1, -1)]
         contour = [start, ((0, 0), end, True), *(fan or [(0, 0)])]
-        if rng.random() < .5:
+        if rng.random() < 0.5:
             contour = [start, *reversed(contour[2:]), end, ((0, 0), start, False)]
         return start, end, contour
 
@@ -208,16 +254,28 @@ class TwoRadii(unittest.TestCase):
                 self.assertRaisesRegex(Refused, "too unlike", Copper, words_for(contour))
                 continue
             near, far = sorted((dot((0, 0), start, start), dot((0, 0), end, end)))
-            low, high = (pieces_of(side) for side in Copper(words_for(contour, *["%LPC*%", "%LPD*%"] * rng.randint(0, 1))).sides)
+            low, high = (
+                pieces_of(side) for side in Copper(words_for(contour, *["%LPC*%", "%LPD*%"] * rng.randint(0, 1))).sides
+            )
             given, cases = given + bool(low), cases + 1
             for _ in range(60):
                 a, t, off = rng.choice((start, end)), rng.random(), rng.choice((2, 300, 8000, 40000))
-                a = a if t < .3 else tuple(u * (1 - t) + v * t for u, v in zip(start, end)) if t < .5 else (math.cos(9 * t) * math.hypot(*start), math.sin(9 * t) * math.hypot(*start))
+                a = (
+                    a
+                    if t < 0.3
+                    else tuple(u * (1 - t) + v * t for u, v in zip(start, end))
+                    if t < 0.5
+                    else (math.cos(9 * t) * math.hypot(*start), math.sin(9 * t) * math.hypot(*start))
+                )
                 p = tuple(round(v * FINE) + rng.randint(-off, off) for v in a)
                 square = dot((0, 0), p, p)
-                if not in_sector(fine(start), fine(end), p) or not 0 < square < 2 * FINE ** 2 * near:
+                if not in_sector(fine(start), fine(end), p) or not 0 < square < 2 * FINE**2 * near:
                     continue
-                sure, never = (square < near * FINE ** 2, square > far * FINE ** 2) if n % 2 else (square > far * FINE ** 2, square < near * FINE ** 2)
+                sure, never = (
+                    (square < near * FINE**2, square > far * FINE**2)
+                    if n % 2
+                    else (square > far * FINE**2, square < near * FINE**2)
+                )
                 self.assertTrue(sure or not has(low, p), (contour, p))
                 self.assertTrue(never or has(high, p), (contour, p))
         self.assertGreater(given, cases * 8 // 10)
@@ -228,7 +286,7 @@ class Concave(unittest.TestCase):
         """Across a round clearance the bounds are at most a micrometre apart."""
         rng = random.Random(15)
         for _ in range(4 * MANY):
-            r = rng.choice((10 ** 5, 10 ** 6, 10 ** 7)) * rng.randint(1, 9)
+            r = rng.choice((10**5, 10**6, 10**7)) * rng.randint(1, 9)
             w = 2 * r
             contour = [(-w, -w), (w, -w), (w, 0), (r, 0), ((0, 0), (r, 0), False), (w, 0), (w, w), (-w, w), (-w, -w)]
             low, high = (pieces_of(side) for side in Copper(gerber_of(contour)).sides)
@@ -272,7 +330,7 @@ class Regions(unittest.TestCase):
         rng, lost, cases, kept = random.Random(6), 0, 0, 0
         for _ in range(25 * MANY):
             contour = contour_of(rng)
-            if rng.random() < .4:
+            if rng.random() < 0.4:
                 contour = [(tuple(v + rng.randint(-7, 7) for v in p[0]), *p[1:]) if len(p) == 3 else p for p in contour]
             parts = parts_of(contour)
             arcs = [p for p in parts if isinstance(p, Arc)]
@@ -321,16 +379,22 @@ class Regions(unittest.TestCase):
             spots = [tuple(2 * rng.randint(-size, size) for _ in "xy") for _ in range(rng.randrange(2, 5))]
             contour = spots[:1]
             for a, b in zip(spots, spots[1:] + spots[:1]):
-                half = ((a[0] + b[0]) // 2, (a[1] + b[1]) // 2), b, rng.random() < .5
-                contour += [] if a == b else [half] if rng.random() < .5 else [b]
+                half = ((a[0] + b[0]) // 2, (a[1] + b[1]) // 2), b, rng.random() < 0.5
+                contour += [] if a == b else [half] if rng.random() < 0.5 else [b]
             parts = parts_of(contour)
             arcs = [p for p in parts if isinstance(p, Arc)]
             corners = contour_bound(parts, False) if arcs else None
             given += bool(corners)
             outer = contour_bound(parts, True) if arcs else None
             for _ in range(60 if corners or outer else 0):
-                p = self.place(rng, arcs) if rng.random() < .7 else tuple(rng.randint(-8 * size, 8 * size) for _ in "xy")
-                self.assertFalse(corners and self.truth(p, contour) is False and has([("area", corners)], p), (contour, p))
+                p = (
+                    self.place(rng, arcs)
+                    if rng.random() < 0.7
+                    else tuple(rng.randint(-8 * size, 8 * size) for _ in "xy")
+                )
+                self.assertFalse(
+                    corners and self.truth(p, contour) is False and has([("area", corners)], p), (contour, p)
+                )
                 self.assertFalse(outer and self.truth(p, contour) and not has([("area", outer)], p), (contour, p))
         self.assertGreater(given, 12 * MANY)
 
@@ -338,17 +402,19 @@ class Regions(unittest.TestCase):
         """An edge that comes to the arc's end at a few degrees from its tangent, from either side and either way round."""
         rng, given = random.Random(9), 0
         for _ in range(45 * MANY):
-            r, v = rng.randrange(10 ** 5, 10 ** 7), rng.randrange(10 ** 4, 10 ** 6)
+            r, v = rng.randrange(10**5, 10**7), rng.randrange(10**4, 10**6)
             a = (r + rng.randint(-v, v) // rng.choice((3, 10, 20, 40)), v * rng.choice((-1, 1, 1)))
             start, end = (r, 0), rng.choice(((0, r), (0, -r), (-r, 0)))
-            contour = [a, start, ((0, 0), end, True), a] if rng.random() < .5 else [a, end, ((0, 0), start, False), a]
+            contour = [a, start, ((0, 0), end, True), a] if rng.random() < 0.5 else [a, end, ((0, 0), start, False), a]
             corners = contour_bound(parts_of(contour), False)
             given += bool(corners)
             outer = contour_bound(parts_of(contour), True)
             for _ in range(60 if corners or outer else 0):
                 t, off = rng.random() ** 3 / 2, rng.choice((2, 300, 5000))
                 p = tuple(round(x * FINE) + rng.randint(-off, off) for x in (r * math.cos(t), r * math.sin(t)))
-                self.assertFalse(corners and self.truth(p, contour) is False and has([("area", corners)], p), (contour, p))
+                self.assertFalse(
+                    corners and self.truth(p, contour) is False and has([("area", corners)], p), (contour, p)
+                )
                 self.assertFalse(outer and self.truth(p, contour) and not has([("area", outer)], p), (contour, p))
         self.assertGreater(given, 12 * MANY)
 

@@ -7,20 +7,25 @@ from boardnet_show.bounds.primitives.slanted_lines import line_bounds
 from boardnet_show.geometry.segments import cross, dot
 from tests.fixtures.real_shapes import are_placed
 
-FINE, BITS = 16_777_216, 2 ** 128
+FINE, BITS = 16_777_216, 2**128
 
 
 def is_within(start, end, width, p):
     along, length = dot(start, end, p), dot(start, end, end)
-    return 0 <= along <= length and (2 * cross(start, end, p)) ** 2 <= width ** 2 * length
+    return 0 <= along <= length and (2 * cross(start, end, p)) ** 2 <= width**2 * length
 
 
 def is_below(start, end, width, points):
     """The points are a closed contour, as a copper file has it."""
     length = dot(start, end, end)
     is_closed = len(points) > 3 and points[0] == points[-1]
-    return (are_placed([start, end, *points]) and length >= 1 and is_closed and width ** 2 * length < BITS
-            and all(is_within(start, end, width, p) for p in points))
+    return (
+        are_placed([start, end, *points])
+        and length >= 1
+        and is_closed
+        and width**2 * length < BITS
+        and all(is_within(start, end, width, p) for p in points)
+    )
 
 
 def keeps(start, end, width, root, b, c):
@@ -40,9 +45,16 @@ def is_above(start, end, width, points):
 def lines(count):
     """Lines of a tenth of a nanometre to 79 cm, along any direction or nearly along an axis, of any even width up to 50 mm."""
     for k in range(count):
-        length, width = 10 ** random.uniform(0, 9.9 if k % 3 else 3), 2 * int(10 ** random.uniform(0, 8.39 if k % 2 else 2))
-        angle = random.choice((random.uniform(0, 2 * pi), random.randrange(4) * pi / 2 + random.choice((pi / 4, 10 ** random.uniform(-9, 0)))))
-        start = (random.randint(-10 ** 8, 10 ** 8), random.randint(-10 ** 8, 10 ** 8))
+        length, width = 10 ** random.uniform(0, 9.9 if k % 3 else 3), 2 * int(
+            10 ** random.uniform(0, 8.39 if k % 2 else 2)
+        )
+        angle = random.choice(
+            (
+                random.uniform(0, 2 * pi),
+                random.randrange(4) * pi / 2 + random.choice((pi / 4, 10 ** random.uniform(-9, 0))),
+            )
+        )
+        start = (random.randint(-(10**8), 10**8), random.randint(-(10**8), 10**8))
         end = (start[0] + round(length * cos(angle)), start[1] + round(length * sin(angle)))
         if start != end:
             yield start, end, width
@@ -59,8 +71,10 @@ class TestSlants(unittest.TestCase):
                 self.assertTrue(is_above(start, end, width, corners + corners[:1]))
                 self.assertTrue(not below or is_below(start, end, width, below[0][1] + below[0][1][:1]))
                 if min(width, hypot(end[0] - start[0], end[1] - start[1])) > 8:
-                    (((_, inner),), off) = below, [abs(v - w) for p, q in zip(below[0][1], corners) for v, w in zip(p, q)]
-                    self.assertEqual((len(inner), max(off) <= 8 or width > 10 ** 6), (4, True))
+                    (((_, inner),), off) = below, [
+                        abs(v - w) for p, q in zip(below[0][1], corners) for v, w in zip(p, q)
+                    ]
+                    self.assertEqual((len(inner), max(off) <= 8 or width > 10**6), (4, True))
 
     def test_one_u_more_is_refused(self):
         """The checks take the rectangle itself, where its corners are whole, and none that is a u wider below or less wide above."""

@@ -10,10 +10,11 @@ from boardnet_show.bounds.primitives.turned_outlines import outline_bounds, plac
 from boardnet_show.geometry.exact import cos_sin, exact
 from tests.fixtures.real_shapes import RIGHT, Real, angles, has, macro_bounds
 
-MM = 10 ** 7
+MM = 10**7
 
 
 # ---- what is taken
+
 
 def meet(u, v):
     """Where the tangents at two turns meet; of one turn, its cosine and sine."""
@@ -43,10 +44,22 @@ def is_above(corners, angle, pieces):
     place of the cone."""
     (kind, spots), *draws = pieces
     first, last = cone_of(angle)
-    places, (c, s) = [meet(first, first), meet(first, last), meet(last, last)], (sum(its) / 2 for its in cos_sin(Q(angle, MM)))
-    are_near = all(abs(v - w) <= Q(1, 2) + Q(max(map(abs, p)), 10 ** 9) for p, q in zip(corners, spots) for v, w in zip(come(p, (c, s)), q))
+    places, (c, s) = [meet(first, first), meet(first, last), meet(last, last)], (
+        sum(its) / 2 for its in cos_sin(Q(angle, MM))
+    )
+    are_near = all(
+        abs(v - w) <= Q(1, 2) + Q(max(map(abs, p)), 10**9)
+        for p, q in zip(corners, spots)
+        for v, w in zip(come(p, (c, s)), q)
+    )
     stay = all(square(come(p, place), q) <= reach(corners) ** 2 for p, q in zip(corners, spots) for place in places)
-    return kind == "area" and len(spots) == len(corners) and are_near and stay and draws == [("capsule", a, b, reach(corners)) for a, b in ways(spots)]
+    return (
+        kind == "area"
+        and len(spots) == len(corners)
+        and are_near
+        and stay
+        and draws == [("capsule", a, b, reach(corners)) for a, b in ways(spots)]
+    )
 
 
 def turn(a, b, c):
@@ -69,16 +82,22 @@ def is_off(p, q, a, b, r):
 
 def is_in(p, corners):
     """An odd number of edges cross the ray from the place to the right."""
-    return sum((a[1] > p[1]) != (b[1] > p[1]) and (turn(a, b, p) > 0) == (b[1] > a[1]) for a, b in ways(corners)) % 2 == 1
+    return (
+        sum((a[1] > p[1]) != (b[1] > p[1]) and (turn(a, b, p) > 0) == (b[1] > a[1]) for a, b in ways(corners)) % 2 == 1
+    )
 
 
 def is_below(spots, radius, points):
     """The area keeps off all draws along the edges, and lies in the outline."""
-    return (all(is_off(p, q, a, b, radius) for p, q in ways(points) for a, b in ways(spots))
-            and is_in(points[0], spots) and not any(is_in(spot, points) for spot in spots))
+    return (
+        all(is_off(p, q, a, b, radius) for p, q in ways(points) for a, b in ways(spots))
+        and is_in(points[0], spots)
+        and not any(is_in(spot, points) for spot in spots)
+    )
 
 
 # ---- outlines
+
 
 def corner_box(rng, w, h):
     a, b = rng.randrange(1, w), rng.randrange(1, h)
@@ -99,12 +118,15 @@ def comb(rng, w, h):
 
 def star(rng, w, _):
     count = rng.randrange(3, 20)
-    points = ((math.pi * (k + rng.uniform(-.3, .3)) / count, w * (rng.uniform(.6, 1) if k % 2 else rng.uniform(.1, .5))) for k in range(2 * count))
+    points = (
+        (math.pi * (k + rng.uniform(-0.3, 0.3)) / count, w * (rng.uniform(0.6, 1) if k % 2 else rng.uniform(0.1, 0.5)))
+        for k in range(2 * count)
+    )
     return [(round(r * math.cos(at)), round(r * math.sin(at))) for at, r in points]
 
 
 def part_of_ring(rng, w, _):
-    count, start, wide, inner = rng.randrange(3, 30), rng.uniform(0, 7), rng.uniform(.5, 5.8), rng.uniform(.2, .9)
+    count, start, wide, inner = rng.randrange(3, 30), rng.uniform(0, 7), rng.uniform(0.5, 5.8), rng.uniform(0.2, 0.9)
     at = lambda k, r: (round(r * math.cos(start + wide * k / count)), round(r * math.sin(start + wide * k / count)))
     return [at(k, w) for k in range(count + 1)] + [at(k, inner * w) for k in range(count, -1, -1)]
 
@@ -113,16 +135,18 @@ def outlines(rng, least=2, most=8.5):
     """One of each kind, about any place, from any corner on, either way round."""
     for kind in (corner_box, slotted_box, comb, star, part_of_ring):
         size = int(10 ** rng.uniform(least, most))
-        at, found = rng.choice(((0, 0), (rng.randint(-size, size), rng.randint(-size, size)))), kind(rng, *(rng.randint(size // 5 + 50, size + 50) for _ in "wh"))
+        at, found = rng.choice(((0, 0), (rng.randint(-size, size), rng.randint(-size, size)))), kind(
+            rng, *(rng.randint(size // 5 + 50, size + 50) for _ in "wh")
+        )
         k = rng.randrange(len(found))
-        yield tuple([(x + at[0], y + at[1]) for x, y in found[k:] + found[:k]][::rng.choice((1, -1))])
+        yield tuple([(x + at[0], y + at[1]) for x, y in found[k:] + found[:k]][:: rng.choice((1, -1))])
 
 
 class Outline(Real):
     """An outline, turned, with its exact answer for a place."""
 
     def __init__(self, rng, corners, angle):
-        self.rng, self.code, self.corners, self.rotation = rng, 4, corners, Q(angle, 10 ** 7)
+        self.rng, self.code, self.corners, self.rotation = rng, 4, corners, Q(angle, 10**7)
 
 
 class TestTurnedOutlines(unittest.TestCase):
@@ -133,7 +157,9 @@ class TestTurnedOutlines(unittest.TestCase):
                 below, above = outline_bounds(corners, angle)
                 with self.subTest(angle=angle, corners=corners):
                     self.assertTrue(is_above(corners, angle, above))
-                    self.assertTrue(len(below) < 2 and all(is_below(above[0][1], reach(corners), points) for _, points in below))
+                    self.assertTrue(
+                        len(below) < 2 and all(is_below(above[0][1], reach(corners), points) for _, points in below)
+                    )
 
     def test_something_lies_below(self):
         """But in what is under a nanometre wide, or nearly so."""
@@ -143,7 +169,12 @@ class TestTurnedOutlines(unittest.TestCase):
                 below, above = outline_bounds(corners, angle)
                 if not below:
                     far = reach(corners) + 9
-                    is_thin = any(not is_off(*p, *q, 2 * far) for k, p in enumerate(ways(corners)) for m, q in enumerate(ways(corners)) if abs(k - m) not in (0, 1, len(corners) - 1))
+                    is_thin = any(
+                        not is_off(*p, *q, 2 * far)
+                        for k, p in enumerate(ways(corners))
+                        for m, q in enumerate(ways(corners))
+                        if abs(k - m) not in (0, 1, len(corners) - 1)
+                    )
                     self.assertTrue(is_thin, (angle, corners))
 
     def test_places(self):
@@ -162,13 +193,19 @@ class TestTurnedOutlines(unittest.TestCase):
         """At turns of the cone corners are within the radius of the spots, also a metre from the origin."""
         rng = random.Random(74)
         for angle in angles(rng, 60):
-            corners = [tuple(rng.randint(-far, far) for _ in "xy") for far in (9, MM - 1, MM, 10 * MM, 10 ** 9, 10 ** 10)]
+            corners = [
+                tuple(rng.randint(-far, far) for _ in "xy") for far in (9, MM - 1, MM, 10 * MM, 10**9, 10**10)
+            ]
             (u, v), (p, q) = cone_of(angle)
             for corner in corners:
-                ((_, (spot, *_)), *_) = outline_bounds((corner, (corner[0] + 1, corner[1]), (corner[0], corner[1] + 1)), angle)[1]
+                ((_, (spot, *_)), *_) = outline_bounds(
+                    (corner, (corner[0] + 1, corner[1]), (corner[0], corner[1] + 1)), angle
+                )[1]
                 for i, j in ((1, 0), (0, 1), (1, 1), (rng.randrange(99), rng.randrange(1, 99))):
                     way = i * u + j * p, i * v + j * q
-                    self.assertLessEqual(square(come(corner, meet(way, way)), spot), reach([corner]) ** 2, (angle, corner))
+                    self.assertLessEqual(
+                        square(come(corner, meet(way, way)), spot), reach([corner]) ** 2, (angle, corner)
+                    )
 
     def test_what_is_not_taken(self):
         """A draw that is wider, a spot that is further off, an area that comes to a draw or lies elsewhere."""
@@ -176,9 +213,15 @@ class TestTurnedOutlines(unittest.TestCase):
         below, above = outline_bounds(corners, angle)
         (_, spots), (_, points) = above[0], below[0]
         self.assertTrue(is_above(corners, angle, above) and is_below(spots, 4, points))
-        self.assertFalse(is_above(corners, angle, [*above[:-1], (*above[-1][:3], 5)]) or is_above(corners, angle, above[:-1]))
+        self.assertFalse(
+            is_above(corners, angle, [*above[:-1], (*above[-1][:3], 5)]) or is_above(corners, angle, above[:-1])
+        )
         self.assertFalse(is_above(corners, angle, [("area", [(1, 0), *spots[1:]]), *above[1:]]))
-        self.assertFalse(is_below(spots, 4, spots) or is_below(spots, 6 + 2, points) or is_below(spots[::-1], 4, [(9 * x, 9 * y) for x, y in points]))
+        self.assertFalse(
+            is_below(spots, 4, spots)
+            or is_below(spots, 6 + 2, points)
+            or is_below(spots[::-1], 4, [(9 * x, 9 * y) for x, y in points])
+        )
 
 
 class TestRows(unittest.TestCase):
@@ -194,7 +237,13 @@ class TestRows(unittest.TestCase):
         ("the first corner once more", [*DART, (0, 0)], 30, "turned outline", (1, 7)),
         ("a spot on a straight way", [*DART[:1], (1, 0), *DART[1:]], 30, "turned outline", (1, 7)),
         ("convex", DART[:3], 30, "turned", (1, 1)),
-        ("convex, of many corners", [(round(Q(math.cos(k * math.pi / 300)), 6), round(Q(math.sin(k * math.pi / 300)), 6)) for k in range(600)], 30, "turned outline", (1, 601)),
+        (
+            "convex, of many corners",
+            [(round(Q(math.cos(k * math.pi / 300)), 6), round(Q(math.sin(k * math.pi / 300)), 6)) for k in range(600)],
+            30,
+            "turned outline",
+            (1, 601),
+        ),
         ("thin", [(0, 0), (1, 0), (1, Q(6, MM)), (Q(1, 2), Q(5, MM)), (0, Q(6, MM))], 30, "turned outline", (0, 6)),
         ("thinner", [(0, 0), (1, 0), (1, Q(2, MM)), (Q(1, 2), Q(1, MM)), (0, Q(2, MM))], 30, "turned outline", (0, 6)),
         ("short edges", [*DART[:2], (2, Q(1, MM)), *DART[2:], (Q(-1, MM), 2)], 30, "turned outline", (1, 8)),
@@ -224,7 +273,14 @@ class TestRows(unittest.TestCase):
         for k in range(-4, 5):
             kind, found, angle = placed_outline(corners, Q(30 + 90 * k))
             (c, _), (s, _) = cos_sin(Q(90 * k))
-            self.assertEqual((kind, angle, found), ("turned outline", 30 * MM, tuple((x * c - y * s, x * s + y * c) for x, y in ((p * MM, q * MM) for p, q in self.DART))))
+            self.assertEqual(
+                (kind, angle, found),
+                (
+                    "turned outline",
+                    30 * MM,
+                    tuple((x * c - y * s, x * s + y * c) for x, y in ((p * MM, q * MM) for p, q in self.DART)),
+                ),
+            )
 
 
 if __name__ == "__main__":

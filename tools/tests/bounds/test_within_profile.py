@@ -28,17 +28,28 @@ class Within(unittest.TestCase):
         flash = "D10*\nX0Y0D03*\n"
         emptied = [word if k % 5 else "*" for k, word in enumerate(RING[:-2]) if k] + RING[-2:]
         # That a contour is open is for `check` to say.
-        for body in (region(RING), flash + region(RING), region(RING) + flash, region(RING) + region(RING),
-                     region(RING[:1] + emptied), region(RING[:-1])):
+        for body in (
+            region(RING),
+            flash + region(RING),
+            region(RING) + flash,
+            region(RING) + region(RING),
+            region(RING[:1] + emptied),
+            region(RING[:-1]),
+        ):
             self.assertTrue(self.said(body), body[:80])
 
     def test_others(self):
         arc = "G75*\nD10*\nX0Y0D02*\nG03X1000000Y1000000I0J1000000D01*\nG01*\n"
         rows = [
-            arc + region(RING), region(RING) + arc, "G75*\nG03*\n" + region(RING), "%LPC*%\n" + region(RING),
+            arc + region(RING),
+            region(RING) + arc,
+            "G75*\nG03*\n" + region(RING),
+            "%LPC*%\n" + region(RING),
             region([*RING[:600], "G03X1Y1I1J1D01*", *RING[600:]]),
-            region([*RING[:600], "X5Y5D02*", *RING[600:]]), "G04 a\n" + region(RING),
-            "%ADD11P,1.0X5*%\nD11*\nX0Y0D03*\n" + region(RING), region(RING[:90]),
+            region([*RING[:600], "X5Y5D02*", *RING[600:]]),
+            "G04 a\n" + region(RING),
+            "%ADD11P,1.0X5*%\nD11*\nX0Y0D03*\n" + region(RING),
+            region(RING[:90]),
         ]
         for body in rows:
             self.assertFalse(self.said(body), body[:80])

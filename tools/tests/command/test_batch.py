@@ -9,7 +9,11 @@ from tests.fixtures import made
 from tests.fixtures.hinted import files_of, with_netlist
 from tests.fixtures.made import flash, gerber, manifest, netlist, record
 
-GOOD = {"m.json": manifest(), "top.gbr": gerber(*flash(10, (0, 0), (5, 0))), "n.ipc": netlist(record("A", "J1.1", 0, 0), record("B", "J1.2", 5, 0))}
+GOOD = {
+    "m.json": manifest(),
+    "top.gbr": gerber(*flash(10, (0, 0), (5, 0))),
+    "n.ipc": netlist(record("A", "J1.1", 0, 0), record("B", "J1.2", 5, 0)),
+}
 BAD = {**GOOD, "n.ipc": netlist(record("A", "J1.1", 0, 0), record("A", "J1.2", 5, 0))}
 MOVED = with_netlist(files_of(), placement.FORMS[0][1], (12345, -678))
 
@@ -28,8 +32,13 @@ class Batch(made.Case):
         """A folder of packages and archives is these; each line has its hint, and the last one the sum."""
         status, out, _ = self.show("all")
         lines = out.splitlines()
-        self.assertEqual((status, [line.split(":")[0] for line in lines]), (1, ["all/bad", "all/good", "all/moved", "all/packed.zip", "4 boards"]))
-        self.assertTrue(lines[2].endswith(" [hint: with the netlist moved by (-12.345, 0.678) mm, `check` says: agrees]"), lines[2])
+        self.assertEqual(
+            (status, [line.split(":")[0] for line in lines]),
+            (1, ["all/bad", "all/good", "all/moved", "all/packed.zip", "4 boards"]),
+        )
+        self.assertTrue(
+            lines[2].endswith(" [hint: with the netlist moved by (-12.345, 0.678) mm, `check` says: agrees]"), lines[2]
+        )
         self.assertEqual(lines[-1], "4 boards: 2 agree, 2 differ")
         self.assertEqual(self.show("all", "--take-hints")[1].splitlines()[-1], "4 boards: 3 agree, 1 differs")
 
@@ -47,7 +56,9 @@ class Batch(made.Case):
     def test_quiet(self):
         """The verdict of each board stands before its hints and findings."""
         lines = self.show("all", "-q")[1].splitlines()
-        self.assertEqual([line.split(": ")[0] for line in lines[:4]], ["all/bad", "all/bad/n.ipc:3", "all/good", "all/moved"])
+        self.assertEqual(
+            [line.split(": ")[0] for line in lines[:4]], ["all/bad", "all/bad/n.ipc:3", "all/good", "all/moved"]
+        )
         self.assertTrue(lines[4].startswith("all/moved: hint: "), lines[4])
         self.assertEqual(lines[-1], "4 boards: 2 agree, 2 differ")
 
@@ -64,7 +75,10 @@ class Batch(made.Case):
         self.assertEqual(self.show("all", "--page", "out/list.html")[0], 5)
         os.mkdir(self.path("out"))
         self.assertEqual(self.show("all", "--page", "out/list.html")[0], 3)
-        self.assertEqual(sorted(os.listdir(self.path("out"))), ["list-1.html", "list-2.html", "list-3.html", "list-4.html", "list.html"])
+        self.assertEqual(
+            sorted(os.listdir(self.path("out"))),
+            ["list-1.html", "list-2.html", "list-3.html", "list-4.html", "list.html"],
+        )
         text = self.read("out/list.html")
         self.assertIn("5 boards: 2 agree, 2 differ, 1 is refused", text)
         self.assertEqual(text.count('<a href="list-'), 4)

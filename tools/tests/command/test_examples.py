@@ -16,10 +16,14 @@ class Examples(made.Case):
             folder = os.path.join(common.EXAMPLES, name)
             reports = []
             for path in (program, made.STAND_IN):
-                text = subprocess.run([path, "check", "m.json"], cwd=folder, stdout=subprocess.PIPE, stderr=subprocess.DEVNULL).stdout.decode()
+                text = subprocess.run(
+                    [path, "check", "m.json"], cwd=folder, stdout=subprocess.PIPE, stderr=subprocess.DEVNULL
+                ).stdout.decode()
                 reports.append(text)
             if reports[0].startswith("boardnet 1"):
-                reports[1] = re.sub(r"spots \d+\n(.*\n)*(?=(agrees|differs)\n)", "", reports[1].replace("boardnet 2", "boardnet 1"))
+                reports[1] = re.sub(
+                    r"spots \d+\n(.*\n)*(?=(agrees|differs)\n)", "", reports[1].replace("boardnet 2", "boardnet 1")
+                )
             with self.subTest(name=name):
                 self.assertEqual(reports[0], reports[1])
 
@@ -33,5 +37,9 @@ class Examples(made.Case):
                     self.assertEqual((status, board["status"], notes), (wanted, wanted, ""))
         ids = {it["id"]: it for it in board["findings"]}
         self.assertEqual(list(ids), ["open-0", "short-0", "missing-0"])
-        self.assertEqual((ids["open-0"]["gap"]["x"], ids["open-0"]["gap"]["y"], ids["open-0"]["gap"]["distance"]), (35, 10, 1.75))
-        self.assertEqual([(piece["command"], piece["copy"]) for piece in ids["short-0"]["meets"][0]["between"]], [(16, 0)])
+        self.assertEqual(
+            (ids["open-0"]["gap"]["x"], ids["open-0"]["gap"]["y"], ids["open-0"]["gap"]["distance"]), (35, 10, 1.75)
+        )
+        self.assertEqual(
+            [(piece["command"], piece["copy"]) for piece in ids["short-0"]["meets"][0]["between"]], [(16, 0)]
+        )

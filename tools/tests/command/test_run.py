@@ -20,14 +20,26 @@ from tests.fixtures.pages import unpacked
 
 PADS = [*flash(10, (0, 0), (10, 0), (0, 5), (3, 5))]
 GOOD = {
-    "m.json": manifest(), "top.gbr": gerber(*PADS, *draw(11, (0, 0), (10, 0)), *draw(11, (0, 5), (3, 5))),
-    "n.ipc": netlist(record("GND", "J1.1", 0, 0), record("GND", "U1.8", 10, 0), record("SIG", "J1.2", 0, 5), record("SIG", "R1.2", 3, 5)),
+    "m.json": manifest(),
+    "top.gbr": gerber(*PADS, *draw(11, (0, 0), (10, 0)), *draw(11, (0, 5), (3, 5))),
+    "n.ipc": netlist(
+        record("GND", "J1.1", 0, 0),
+        record("GND", "U1.8", 10, 0),
+        record("SIG", "J1.2", 0, 5),
+        record("SIG", "R1.2", 3, 5),
+    ),
 }
 # GND and VCC are joined by a track, SIG is in two parts, one point of SIG has no copper.
 BAD = {
-    **GOOD, "top.gbr": gerber(*PADS, *draw(11, (0, 0), (10, 0))),
-    "n.ipc": netlist(record("GND", "J1.1", 0, 0), record("VCC", "U1.8", 10, 0), record("SIG", "J1.2", 0, 5), record("SIG", "R1.2", 3, 5),
-                     record("SIG", "</b>.", -0.5, 9.999)),
+    **GOOD,
+    "top.gbr": gerber(*PADS, *draw(11, (0, 0), (10, 0))),
+    "n.ipc": netlist(
+        record("GND", "J1.1", 0, 0),
+        record("VCC", "U1.8", 10, 0),
+        record("SIG", "J1.2", 0, 5),
+        record("SIG", "R1.2", 3, 5),
+        record("SIG", "</b>.", -0.5, 9.999),
+    ),
 }
 QUIET = """\
 board: differs, opens 1, shorts 1, missing 1
@@ -67,10 +79,14 @@ class Told(unittest.TestCase):
         self.assertEqual(self.told(True), f"\r{first}\r{second}{last}")
         self.assertEqual((self.told(True, quiet=True), self.told(False)), ("", ""))
 
-
     def test_json_with_an_indent(self):
         """As the standard library writes it."""
-        value = {"a": [], "b": {}, "": [1, -2, 0.1, 1e-07, True, None, "\u00e9\U0001f600 \n\"\\", [[()], ({"x": [{"y": (1, 2)}]},)]], "c": {"d": False}}
+        value = {
+            "a": [],
+            "b": {},
+            "": [1, -2, 0.1, 1e-07, True, None, '\u00e9\U0001f600 \n"\\', [[()], ({"x": [{"y": (1, 2)}]},)]],
+            "c": {"d": False},
+        }
         for it in (value, [], {}, "x", [value, value]):
             self.assertEqual(indented_json.indented(it), json.dumps(it, indent=1))
 
@@ -107,33 +123,57 @@ class Answers(made.Case):
             self.assertEqual(self.show("board", program=program), (status, "board: asked for\n", ""))
         program = self.write("dies", "#!/bin/sh\nkill -9 $$\n", 0o755)
         self.assertEqual(self.show("board", program=program)[0], 127)
-        lies = self.write("lies", f'#!/bin/sh\n[ $1 != audit ] || {{ echo "audit untrue 4"; exit 1; }}\nexec {made.STAND_IN} "$@"\n', 0o755)
+        lies = self.write(
+            "lies",
+            f'#!/bin/sh\n[ $1 != audit ] || {{ echo "audit untrue 4"; exit 1; }}\nexec {made.STAND_IN} "$@"\n',
+            0o755,
+        )
         status, out, _ = self.show("board", program=lies)
-        self.assertEqual((status, out), (12, "board: NOTHING WAS JUDGED: `audit` does not confirm the report of `check`: audit untrue 4\n"))
+        self.assertEqual(
+            (status, out),
+            (12, "board: NOTHING WAS JUDGED: `audit` does not confirm the report of `check`: audit untrue 4\n"),
+        )
         broken = self.write("broken", "#!/bin/sh\necho 'boardnet 2'; echo 'boardnet: agrees' >&2\n", 0o755)
         self.assertEqual(self.show("board", program=broken)[0], 12)
 
     def test_words(self):
         self.board(GOOD)
-        for words in ([], ["--nonsense", "board"], ["board", "board", "--svg", "p.svg"], ["board", "board", "--page", "-"], ["board", "--at", "short-0"]):
+        for words in (
+            [],
+            ["--nonsense", "board"],
+            ["board", "board", "--svg", "p.svg"],
+            ["board", "board", "--page", "-"],
+            ["board", "--at", "short-0"],
+        ):
             status, out, notes = self.show(*words)
             self.assertEqual((status, out, notes.startswith("usage: boardnet show PATH..")), (2, "", True))
         for word in ("--help", "-h"):
             status, out, _ = self.show(word)
-            self.assertEqual((status, out.startswith("boardnet show PATH.. [OPTION ..]\ntells what is wrong")), (0, True))
+            self.assertEqual(
+                (status, out.startswith("boardnet show PATH.. [OPTION ..]\ntells what is wrong")), (0, True)
+            )
         self.assertEqual(self.show("nowhere")[:2], (4, "nowhere: cannot be read: No such file or directory\n"))
         os.makedirs(self.path("odd", "m.json"))
         self.assertEqual(self.show("odd")[:2], (4, "odd: m.json: cannot be read: Is a directory\n"))
         # Nothing is judged by another netlist than the one that is asked for.
         self.assertEqual(self.show("board", "--netlist", "n.ipc")[0], 0)
-        self.assertEqual(self.show("board", "--netlist", "other.ipc")[:2], (2, "board: --netlist other.ipc: m.json names n.ipc, so have it name the other\n"))
+        self.assertEqual(
+            self.show("board", "--netlist", "other.ipc")[:2],
+            (2, "board: --netlist other.ipc: m.json names n.ipc, so have it name the other\n"),
+        )
 
     def test_folder_without_a_manifest(self):
         files = {**GOOD, "top.gbr": "%TF.FileFunction,Copper,L1,Top*%\n" + GOOD["top.gbr"], "notes.txt": "hello"}
         files.pop("m.json")
         self.board(files)
         status, out, _ = self.show("board")
-        self.assertEqual((status, out), (0, "board: agrees (audit true)\nleft out, 1 of the folder's files: notes.txt: it is no Gerber, drill or IPC-D-356A file\n"))
+        self.assertEqual(
+            (status, out),
+            (
+                0,
+                "board: agrees (audit true)\nleft out, 1 of the folder's files: notes.txt: it is no Gerber, drill or IPC-D-356A file\n",
+            ),
+        )
         self.assertEqual(sorted(os.listdir(self.path("board"))), ["n.ipc", "notes.txt", "top.gbr"])
         with zipfile.ZipFile(self.path("board.zip"), "w") as archive:
             for name in files:
@@ -145,7 +185,9 @@ class Answers(made.Case):
         files = {name: text for name, text in GOOD.items() if name != "m.json"}
         self.board(files)
         status, out, _ = self.show("board")
-        self.assertEqual((status, "say --yes" in out, "would be taken: top.gbr as copper layer 1" in out), (10, True, True))
+        self.assertEqual(
+            (status, "say --yes" in out, "would be taken: top.gbr as copper layer 1" in out), (10, True, True)
+        )
         status, out, _ = self.show("board", "--yes")
         self.assertEqual((status, out.splitlines()[1].startswith("taken as top.gbr as copper layer 1")), (0, True))
         self.write("board/n.ipc", "no netlist")
@@ -162,10 +204,16 @@ class Answers(made.Case):
             self.board(files, folder)
         self.assertEqual(self.show("good", "good")[:2], (0, "good: agrees\ngood: agrees\n2 boards: 2 agree\n"))
         status, out, _ = self.show("bad", "good", "--json", "all.json")
-        self.assertEqual((status, out), (1, "bad: differs, opens 1, shorts 1, missing 1\ngood: agrees\n2 boards: 1 agrees, 1 differs\n"))
+        self.assertEqual(
+            (status, out),
+            (1, "bad: differs, opens 1, shorts 1, missing 1\ngood: agrees\n2 boards: 1 agrees, 1 differs\n"),
+        )
         self.assertEqual([board["status"] for board in json.loads(self.read("all.json"))["boards"]], [1, 0])
         status, out, _ = self.show("good", "bad", "refused", "nowhere")
-        self.assertEqual((status, len(out.splitlines()), out.splitlines()[-1]), (3, 5, "4 boards: 1 agrees, 1 differs, 1 is refused, 1 is not judged"))
+        self.assertEqual(
+            (status, len(out.splitlines()), out.splitlines()[-1]),
+            (3, 5, "4 boards: 1 agrees, 1 differs, 1 is refused, 1 is not judged"),
+        )
 
     def test_macros_are_flattened(self):
         lines = [*label("GND"), *flash(10, (0, 0)), MACRO, *flash(13, (10, 0)), *draw(11, (0, 0), (10, 0))]
@@ -179,10 +227,14 @@ class Answers(made.Case):
         self.assertEqual(self.show("board", "--keep", "kept")[0], 5)
         self.assertIn("AMRound", self.read("board/top.gbr"))
         status, out, _ = self.show("board", STAND_IN_LACKS="flatten")
-        self.assertEqual((status, out.startswith("board: differs, between two bounds: 3 findings certain\n")), (1, True))
+        self.assertEqual(
+            (status, out.startswith("board: differs, between two bounds: 3 findings certain\n")), (1, True)
+        )
         self.assertIn("top.gbr could not be flattened: words not understood\n", out)
         self.show("board", "--junit", "b.xml", "--rdb", "b.lyrdb", STAND_IN_LACKS="flatten")
-        self.assertEqual(minidom.parseString(self.read("b.xml")).getElementsByTagName("testsuite")[0].getAttribute("failures"), "3")
+        self.assertEqual(
+            minidom.parseString(self.read("b.xml")).getElementsByTagName("testsuite")[0].getAttribute("failures"), "3"
+        )
         self.assertEqual(len(minidom.parseString(self.read("b.lyrdb")).getElementsByTagName("item")), 3)
         self.board({**BAD, "top.gbr": gerber(*[line.replace("1,1,", "1,0,") for line in lines])}, "off")
         self.assertIn("top.gbr could not be flattened: top.gbr: flatten 34 ExposureOff", self.show("off")[1])
@@ -191,9 +243,17 @@ class Answers(made.Case):
         """What is said of each of twelve layers is said once."""
         names = [f"l{k}.gbr" for k in range(12)]
         told = list(one_board.flattened_notes(names, {name: f"{name}: flatten 34 ExposureOff" for name in names}))
-        self.assertEqual(told, ["l0.gbr, l1.gbr, l2.gbr, l3.gbr, l4.gbr, l5.gbr and 6 more have macros and were flattened: commands are those of the flattened files, which --keep keeps",
-                                "l0.gbr could not be flattened: l0.gbr: flatten 34 ExposureOff; nor could l1.gbr, l2.gbr, l3.gbr, l4.gbr, l5.gbr, l6.gbr and 5 more"])
-        self.assertEqual((list(one_board.flattened_notes([], {})), list(one_board.flattened_notes([], {"a": "why"}))), ([], ["a could not be flattened: why"]))
+        self.assertEqual(
+            told,
+            [
+                "l0.gbr, l1.gbr, l2.gbr, l3.gbr, l4.gbr, l5.gbr and 6 more have macros and were flattened: commands are those of the flattened files, which --keep keeps",
+                "l0.gbr could not be flattened: l0.gbr: flatten 34 ExposureOff; nor could l1.gbr, l2.gbr, l3.gbr, l4.gbr, l5.gbr, l6.gbr and 5 more",
+            ],
+        )
+        self.assertEqual(
+            (list(one_board.flattened_notes([], {})), list(one_board.flattened_notes([], {"a": "why"}))),
+            ([], ["a could not be flattened: why"]),
+        )
 
     def test_copper_that_is_not_known(self):
         """Where `flatten` fails, the report alone says what is wrong, with the files' labels."""
@@ -204,7 +264,15 @@ class Answers(made.Case):
         self.assertIn("VCC reaches the others over ", out)
         notes = self.show("board", "--page", "p.html", STAND_IN_LACKS="flatten")[2]
         self.assertEqual(notes, "boardnet: no picture is drawn, since the copper of board is not known\n")
-        labelled = [*label("GND"), *flash(10, (0, 0)), *label("VCC"), *flash(10, (10, 0)), *draw(11, (0, 0), (10, 0)), "%TD*%", *flash(10, (0, 5), (3, 5))]
+        labelled = [
+            *label("GND"),
+            *flash(10, (0, 0)),
+            *label("VCC"),
+            *flash(10, (10, 0)),
+            *draw(11, (0, 0), (10, 0)),
+            "%TD*%",
+            *flash(10, (0, 5), (3, 5)),
+        ]
         self.board({**BAD, "top.gbr": gerber(*labelled)}, "labelled")
         out = self.show("labelled", STAND_IN_LACKS="flatten")[1]
         self.assertIn("By the files' labels: top.gbr command 14 of VCC reaches top.gbr command 8 of GND.", out)
@@ -224,35 +292,82 @@ class Answers(made.Case):
         board = json.loads(self.read("b.json"))["boards"][0]
         self.assertEqual([it["id"] for it in board["findings"]], ["open-0", "short-0", "missing-0"])
         suite = minidom.parseString(self.read("b.xml")).getElementsByTagName("testsuite")[0]
-        self.assertEqual([suite.getAttribute(name) for name in ("name", "tests", "failures", "errors")], ["board", "3", "3", "0"])
-        self.assertIn("missing-0: no copper of top.gbr lies under </b>", suite.getElementsByTagName("failure")[2].firstChild.data)
+        self.assertEqual(
+            [suite.getAttribute(name) for name in ("name", "tests", "failures", "errors")], ["board", "3", "3", "0"]
+        )
+        self.assertIn(
+            "missing-0: no copper of top.gbr lies under </b>", suite.getElementsByTagName("failure")[2].firstChild.data
+        )
         items = minidom.parseString(self.read("b.lyrdb")).getElementsByTagName("item")
         values = [[value.firstChild.data for value in it.getElementsByTagName("value")] for it in items]
-        self.assertEqual([it[:-1] for it in values], [["edge: (3000,5000;0,5000)", "box: (1400,4900;1600,5100)"], ["box: (4900,-100;5100,100)"],
-                                                     ["box: (-600,9899;-400,10099)"]])
+        self.assertEqual(
+            [it[:-1] for it in values],
+            [
+                ["edge: (3000,5000;0,5000)", "box: (1400,4900;1600,5100)"],
+                ["box: (4900,-100;5100,100)"],
+                ["box: (-600,9899;-400,10099)"],
+            ],
+        )
         self.assertTrue(all(it[-1].startswith("text: '") for it in values))
         refused = self.board({**GOOD, "top.gbr": "%FSLAX46Y46*%\n"}, "refused")
         self.show(refused, "--junit", "r.xml")
-        self.assertIn("NotEnded", minidom.parseString(self.read("r.xml")).getElementsByTagName("error")[0].getAttribute("message"))
+        self.assertIn(
+            "NotEnded", minidom.parseString(self.read("r.xml")).getElementsByTagName("error")[0].getAttribute("message")
+        )
         self.show(refused, "--rdb", "r.lyrdb")
         self.assertIn("NotEnded", minidom.parseString(self.read("r.lyrdb")).getElementsByTagName("item")[0].toxml())
         # Where there is no such form, the standard error has the words.
         for name in ("--ipc", "--record", "--page", "--svg"):
             status, out, notes = self.show("nowhere", name, "-")
-            self.assertEqual((status, out, notes.split("\n")[0]), (4, "", "nowhere: cannot be read: No such file or directory"), name)
+            self.assertEqual(
+                (status, out, notes.split("\n")[0]), (4, "", "nowhere: cannot be read: No such file or directory"), name
+            )
         self.assertIn("<description>nowhere: cannot be read: No such file", self.show("nowhere", "--rdb", "-")[1])
 
     def test_controls(self):
         """What hides or turns round text reaches no form as it is: of aliases, pins, file names, names of pads, ties."""
         bad = "\x1b[2J\u202e\u2028\x9b\x07"
-        points = [record("NNAME1", "J1.1", 0, 0), f"C PIN,U{bad},1{bad}", record("NNAME1", "J1.2", 5, 5), record("VCC", "J1.3", 8, 8)]
-        own = {"one.gbr": gerber("%TF.FileFunction,Copper,L1,Top*%", f"%TO.P,U{bad},1*%", f"%TO.N,A{bad}*%", *flash(10, (0, 0), (5, 5)))}
-        files = {"m.json": manifest(), "top.gbr": gerber(*flash(10, (0, 0), (5, 5), (8, 8))), "n.ipc": f"P  NNAME1  GND{bad}\n" + netlist(*points)}
+        points = [
+            record("NNAME1", "J1.1", 0, 0),
+            f"C PIN,U{bad},1{bad}",
+            record("NNAME1", "J1.2", 5, 5),
+            record("VCC", "J1.3", 8, 8),
+        ]
+        own = {
+            "one.gbr": gerber(
+                "%TF.FileFunction,Copper,L1,Top*%", f"%TO.P,U{bad},1*%", f"%TO.N,A{bad}*%", *flash(10, (0, 0), (5, 5))
+            )
+        }
+        files = {
+            "m.json": manifest(),
+            "top.gbr": gerber(*flash(10, (0, 0), (5, 5), (8, 8))),
+            "n.ipc": f"P  NNAME1  GND{bad}\n" + netlist(*points),
+        }
         self.board(files, f"a{bad}")
         self.board({**own, f"x{bad}.txt": "text"}, "own")
         self.board({**files, "m.json": manifest([f"t{bad}.gbr"])}, "refused")
-        forms = ("--json", "f.json", "--junit", "f.xml", "--rdb", "f.lyrdb", "--page", "f.html", "--svg", "f.svg", "--record", "f.record")
-        for path, words in ((f"a{bad}", ()), (f"a{bad}", ("-q",)), ("own", ("--yes",)), ("own", ("-q",)), ("refused", ()), (f"nowhere{bad}", ())):
+        forms = (
+            "--json",
+            "f.json",
+            "--junit",
+            "f.xml",
+            "--rdb",
+            "f.lyrdb",
+            "--page",
+            "f.html",
+            "--svg",
+            "f.svg",
+            "--record",
+            "f.record",
+        )
+        for path, words in (
+            (f"a{bad}", ()),
+            (f"a{bad}", ("-q",)),
+            ("own", ("--yes",)),
+            ("own", ("-q",)),
+            ("refused", ()),
+            (f"nowhere{bad}", ()),
+        ):
             status, out, notes = self.show(path, *words, *forms)
             self.assertIn(status, (1, 3, 4, 10))
             texts = [out, notes, *(self.read(name) for name in (forms[1::2] if status == 1 else forms[1:6:2]))]
@@ -269,41 +384,78 @@ class Answers(made.Case):
         self.board(BAD)
         for name in ("--json", "--junit", "--rdb", "--page", "--svg"):
             status, _, notes = self.show("board", name, "no/such/folder")
-            self.assertEqual((status, notes), (5, "boardnet: no/such/folder: No such file or directory: cannot be written\n"), name)
+            self.assertEqual(
+                (status, notes), (5, "boardnet: no/such/folder: No such file or directory: cannot be written\n"), name
+            )
         with open("/dev/full", "w") as full:
-            done = subprocess.run([sys.executable, made.SHOW, "board"], cwd=self.scratch, env={**os.environ, "BOARDNET": made.STAND_IN}, stdout=full, stderr=subprocess.PIPE)
+            done = subprocess.run(
+                [sys.executable, made.SHOW, "board"],
+                cwd=self.scratch,
+                env={**os.environ, "BOARDNET": made.STAND_IN},
+                stdout=full,
+                stderr=subprocess.PIPE,
+            )
         self.assertEqual(done.returncode, 5)
-        rows = (("--help", ">/dev/full", "No space left on device"), ("board", ">&-", "Bad file descriptor"), ("--help", ">&-", "Bad file descriptor"))
+        rows = (
+            ("--help", ">/dev/full", "No space left on device"),
+            ("board", ">&-", "Bad file descriptor"),
+            ("--help", ">&-", "Bad file descriptor"),
+        )
         for word, where, why in rows:
-            told = self.run_words(["sh", "-c", f'exec "$0" "$@" {where}', sys.executable, made.SHOW, word], environment={"BOARDNET": made.STAND_IN})
+            told = self.run_words(
+                ["sh", "-c", f'exec "$0" "$@" {where}', sys.executable, made.SHOW, word],
+                environment={"BOARDNET": made.STAND_IN},
+            )
             self.assertEqual(told, (5, "", f"boardnet: -: {why}: cannot be written\n"), (word, where))
         self.assertEqual(sorted(os.listdir(self.scratch)), ["board"])
 
     def test_closed_standard_error(self):
         self.board(BAD)
-        for words, status, lines in ((["board", "-q"], 1, 4), (["nowhere", "--ipc", "-"], 4, 0), (["board", "--jso", "b.json"], 2, 0)):
-            told = self.run_words(["sh", "-c", 'exec "$0" "$@" 2>&-', sys.executable, made.SHOW, *words], environment={"BOARDNET": made.STAND_IN})
+        for words, status, lines in (
+            (["board", "-q"], 1, 4),
+            (["nowhere", "--ipc", "-"], 4, 0),
+            (["board", "--jso", "b.json"], 2, 0),
+        ):
+            told = self.run_words(
+                ["sh", "-c", 'exec "$0" "$@" 2>&-', sys.executable, made.SHOW, *words],
+                environment={"BOARDNET": made.STAND_IN},
+            )
             self.assertEqual((told[0], told[1].count("\n"), told[2]), (status, lines, ""), words)
 
     def test_no_program(self):
         self.board(GOOD)
         for name in ("nothing", "board"):
             path = self.path(name)
-            self.assertEqual(self.show("board", program=path), (127, "", f"boardnet: BOARDNET names {path}, which is no program that can be run\n"))
+            self.assertEqual(
+                self.show("board", program=path),
+                (127, "", f"boardnet: BOARDNET names {path}, which is no program that can be run\n"),
+            )
         status, _, notes = self.show("board", program="")
         if status == 127:
             self.assertIn("the program is not built", notes)
 
     def test_interrupted(self):
         self.board(GOOD)
-        program = self.write("slow", "#!/bin/sh\necho $$ >pid.txt\necho there >\"$OUT/there\"\nexec sleep 60\n", 0o755)
+        program = self.write("slow", '#!/bin/sh\necho $$ >pid.txt\necho there >"$OUT/there"\nexec sleep 60\n', 0o755)
         one, two, three = SIGNALS
         # What is sent, and what is ignored from the start; what comes behind the first that counts changes nothing.
-        for numbers, ignored in (([one], None), ([two], None), ([three], None), ([one] * 9, None), ([two, one, three], None), ([three, two], three)):
+        for numbers, ignored in (
+            ([one], None),
+            ([two], None),
+            ([three], None),
+            ([one] * 9, None),
+            ([two, one, three], None),
+            ([three, two], three),
+        ):
             out = self.path("out")
             os.makedirs(out, exist_ok=True)
-            how = {"env": {**os.environ, "BOARDNET": program, "OUT": out, "TMPDIR": self.temporary}, "stderr": subprocess.PIPE, "stdout": subprocess.PIPE, "cwd": self.scratch,
-                   "preexec_fn": (lambda: signal.signal(three, signal.SIG_IGN)) if ignored else None}
+            how = {
+                "env": {**os.environ, "BOARDNET": program, "OUT": out, "TMPDIR": self.temporary},
+                "stderr": subprocess.PIPE,
+                "stdout": subprocess.PIPE,
+                "cwd": self.scratch,
+                "preexec_fn": (lambda: signal.signal(three, signal.SIG_IGN)) if ignored else None,
+            }
             running = subprocess.Popen([sys.executable, made.SHOW, "board", "--json", "b.json"], **how)
             deadline = time.time() + 100
             while not os.path.exists(os.path.join(out, "there")) and time.time() < deadline:
@@ -336,5 +488,6 @@ sys.exit(run.main(["board"]))
         with open(os.path.join(common.TOOLS, "help.txt")) as file:
             page = file.read().split("\n= show ")[1].split("\n= ")[0]
         from boardnet_show.command import options
+
         for name in {*options.FLAGS, *options.WITH_VALUES, *options.OFTEN} - {"--help", "-h"}:
             self.assertIn(f"\n  {name} ", page, name)

@@ -39,8 +39,14 @@ class Hints(Case):
             for turn, by in rows if program != STAND_IN else rows[::3]:
                 with self.subTest(turn=turn, by=by):
                     status, words, found = self.told(with_netlist(files_of(), placement.FORMS[turn][1], by), program)
-                    self.assertEqual((status, len(words), found[0].kind, found[0].answer.status, bare_line(found[0].answer)), (1, 1, "placement", 0, "agrees"), words)
-                    self.assertTrue(words[0].startswith("with the netlist ") and words[0].endswith(", `check` says: agrees"), words)
+                    self.assertEqual(
+                        (status, len(words), found[0].kind, found[0].answer.status, bare_line(found[0].answer)),
+                        (1, 1, "placement", 0, "agrees"),
+                        words,
+                    )
+                    self.assertTrue(
+                        words[0].startswith("with the netlist ") and words[0].endswith(", `check` says: agrees"), words
+                    )
         status, words, _ = self.told(with_netlist(files_of(), placement.FORMS[0][1], (12345, -678)))
         self.assertEqual((status, words), (1, ["with the netlist moved by (-12.345, 0.678) mm, `check` says: agrees"]))
         status, words, _ = self.told(with_netlist(files_of(), placement.FORMS[1][1], (0, 0)))
@@ -48,18 +54,37 @@ class Hints(Case):
 
     def test_unit(self):
         for program in self.over_both():
-            self.assertEqual(self.told(files_of(unit="0"), program)[:2], (1, ["with the netlist read in the other unit (0.001 mm), `check` says: agrees"]))
+            self.assertEqual(
+                self.told(files_of(unit="0"), program)[:2],
+                (1, ["with the netlist read in the other unit (0.001 mm), `check` says: agrees"]),
+            )
 
     def test_unit_and_place(self):
         status, words, _ = self.told(with_netlist(files_of(unit="0"), placement.FORMS[0][1], (500, 40)))
-        self.assertEqual((status, words), (1, ["with the netlist read in the other unit (0.001 mm), moved by (-0.500, -0.040) mm, `check` says: agrees"]))
+        self.assertEqual(
+            (status, words),
+            (
+                1,
+                [
+                    "with the netlist read in the other unit (0.001 mm), moved by (-0.500, -0.040) mm, `check` says: agrees"
+                ],
+            ),
+        )
 
     def test_layers(self):
         for program in self.over_both():
             files = files_of()
             files["m.json"] = files["m.json"].replace('["a.gbr", "b.gbr"]', '["b.gbr", "a.gbr"]')
             status, words, _ = self.told(files, program)
-            self.assertEqual((status, words), (1, ["with the layers in the order a.gbr, b.gbr (where surface points have a pad of their own), `check` says: agrees"]))
+            self.assertEqual(
+                (status, words),
+                (
+                    1,
+                    [
+                        "with the layers in the order a.gbr, b.gbr (where surface points have a pad of their own), `check` says: agrees"
+                    ],
+                ),
+            )
 
     def test_layers_that_the_files_tell(self):
         """Where `check` refuses a file that says that it is another layer."""
@@ -69,20 +94,54 @@ class Hints(Case):
         files["m.json"] = files["m.json"].replace('["a.gbr", "b.gbr"]', '["b.gbr", "a.gbr"]')
         for program in self.over_both():
             if program != STAND_IN:
-                self.assertEqual(self.told(files, program)[:2], (3, ["with the layers in the order a.gbr, b.gbr, as the files say, `check` says: agrees"]))
+                self.assertEqual(
+                    self.told(files, program)[:2],
+                    (3, ["with the layers in the order a.gbr, b.gbr, as the files say, `check` says: agrees"]),
+                )
         package = self.package(files)
-        (change, told), = layer_order.as_labelled(package)
-        self.assertEqual((changes.words(change), told.copper), ("the layers in the order a.gbr, b.gbr, as the files say", ["a.gbr", "b.gbr"]))
+        ((change, told),) = layer_order.as_labelled(package)
+        self.assertEqual(
+            (changes.words(change), told.copper),
+            ("the layers in the order a.gbr, b.gbr, as the files say", ["a.gbr", "b.gbr"]),
+        )
 
     def test_inner_layers(self):
         """Of four layers in another order the outer ones are found; that the netlist cannot tell the inner ones is said."""
         files = files_of()
-        inner = "\n".join(["%FSLAX46Y46*%", "%MOMM*%", "%ADD10C,1.0*%", "D10*", *(line for line in files["a.gbr"].splitlines() if line.endswith("D03*"))][:4] + ["M02*", ""])
-        files = {**files, "c.gbr": inner, "d.gbr": inner, "n.ipc": files["n.ipc"].replace("A02X", "A04X"),
-                 "m.json": json.dumps({"copper": ["b.gbr", "c.gbr", "d.gbr", "a.gbr"], "drills": [{"file": "p.drl", "from": 1, "to": 4}], "netlist": "n.ipc"})}
+        inner = "\n".join(
+            [
+                "%FSLAX46Y46*%",
+                "%MOMM*%",
+                "%ADD10C,1.0*%",
+                "D10*",
+                *(line for line in files["a.gbr"].splitlines() if line.endswith("D03*")),
+            ][:4]
+            + ["M02*", ""]
+        )
+        files = {
+            **files,
+            "c.gbr": inner,
+            "d.gbr": inner,
+            "n.ipc": files["n.ipc"].replace("A02X", "A04X"),
+            "m.json": json.dumps(
+                {
+                    "copper": ["b.gbr", "c.gbr", "d.gbr", "a.gbr"],
+                    "drills": [{"file": "p.drl", "from": 1, "to": 4}],
+                    "netlist": "n.ipc",
+                }
+            ),
+        }
         status, words, _ = self.told(files)
-        self.assertEqual((status, words), (1, ["with the layers in the order a.gbr, c.gbr, d.gbr, b.gbr (where surface points have a pad of their own; "
-                                               "the netlist cannot tell the order of the inner layers), `check` says: agrees"]))
+        self.assertEqual(
+            (status, words),
+            (
+                1,
+                [
+                    "with the layers in the order a.gbr, c.gbr, d.gbr, b.gbr (where surface points have a pad of their own; "
+                    "the netlist cannot tell the order of the inner layers), `check` says: agrees"
+                ],
+            ),
+        )
 
     def test_moved_and_swapped(self):
         files = with_netlist(files_of(), placement.FORMS[0][1], (12345, -678))
@@ -90,15 +149,29 @@ class Hints(Case):
         status, words, _ = self.told(files)
         self.assertEqual((status, len(words)), (1, 2), words)
         self.assertIn("moved by (-12.345, 0.678) mm, `check` says: differs", words[0])
-        self.assertTrue(words[1].startswith("besides, with the layers in the order a.gbr, b.gbr") and words[1].endswith("`check` says: agrees"), words)
+        self.assertTrue(
+            words[1].startswith("besides, with the layers in the order a.gbr, b.gbr")
+            and words[1].endswith("`check` says: agrees"),
+            words,
+        )
 
     def test_another_board(self):
         lines = files_of(pads=12, seed=11)["n.ipc"].splitlines()
-        lines = lines[:1] + [f"{line[:42]}{'+' if k % 2 else '-'}{(k * k * 977) % 90000:06d}{line[49:]}" for k, line in enumerate(lines[1:-1])] + lines[-1:]
+        lines = (
+            lines[:1]
+            + [
+                f"{line[:42]}{'+' if k % 2 else '-'}{(k * k * 977) % 90000:06d}{line[49:]}"
+                for k, line in enumerate(lines[1:-1])
+            ]
+            + lines[-1:]
+        )
         for program in self.over_both():
             status, words, found = self.told({**files_of(), "n.ipc": "\n".join(lines) + "\n"}, program)
             self.assertEqual((status, [it.kind for it in found]), (1, ["no placement"]), words)
-            self.assertRegex(words[0], r"^no placement fits: .* leaves \d+ of 36 test points without copper; .* Of the best `check` says: differs, opens ")
+            self.assertRegex(
+                words[0],
+                r"^no placement fits: .* leaves \d+ of 36 test points without copper; .* Of the best `check` says: differs, opens ",
+            )
 
     def test_a_program_that_fails(self):
         """Where the program dies on a changed copy there is no hint, and the status stays."""
@@ -125,9 +198,16 @@ class Decimals(Case):
     def test_each_count(self):
         for program in self.programs():
             for decimals in (2, 3, 4, 5):
-                status, words, found = self.told(files_of(number=lambda v: f"{v * 10 ** decimals // 10 ** 4:08d}"), program)
+                status, words, found = self.told(
+                    files_of(number=lambda v: f"{v * 10 ** decimals // 10 ** 4:08d}"), program
+                )
                 self.assertEqual((status, found[0].kind), (3, "decimals"))
-                self.assertTrue(words[0].startswith(f"with {decimals} implied decimals in p.drl (leading zeros left out or none; 15 of 15 holes on a through point), `check` says: "), words)
+                self.assertTrue(
+                    words[0].startswith(
+                        f"with {decimals} implied decimals in p.drl (leading zeros left out or none; 15 of 15 holes on a through point), `check` says: "
+                    ),
+                    words,
+                )
             self.assertTrue(words[0].endswith("`check` says: agrees"), words)
 
     def test_leading_zeros_left_out(self):
@@ -138,7 +218,12 @@ class Decimals(Case):
     def test_trailing_zeros_left_out(self):
         for program in self.programs():
             status, words, _ = self.told(files_of(number=lambda v: f"{v:07d}".rstrip("0"), head="METRIC,LZ"), program)
-            wanted = [word for word in words if "3 digits before the point in p.drl (trailing zeros left out" in word and word.endswith("`check` says: agrees")]
+            wanted = [
+                word
+                for word in words
+                if "3 digits before the point in p.drl (trailing zeros left out" in word
+                and word.endswith("`check` says: agrees")
+            ]
             self.assertEqual((status, len(wanted)), (3, 1), words)
 
     def test_two_files(self):
@@ -149,10 +234,19 @@ class Decimals(Case):
         more = [f"{x}0Y{y}0" for x, y in (hole.split("Y") for hole in holes[8:])]
         files["q.drl"] = "\n".join(lines[:5] + more + ["M30", ""])
         files["p.drl"] = "\n".join(lines[:5] + holes[:8] + ["M30", ""])
-        files["m.json"] = json.dumps({"copper": ["a.gbr", "b.gbr"], "drills": [{"file": name, "from": 1, "to": 2} for name in ("p.drl", "q.drl")], "netlist": "n.ipc"})
+        files["m.json"] = json.dumps(
+            {
+                "copper": ["a.gbr", "b.gbr"],
+                "drills": [{"file": name, "from": 1, "to": 2} for name in ("p.drl", "q.drl")],
+                "netlist": "n.ipc",
+            }
+        )
         for program in self.programs():
             status, words, _ = self.told(files, program)
-            self.assertIn("with 3 implied decimals in p.drl (leading zeros left out or none; 8 of 8 holes on a through point) and 4 implied decimals in q.drl ", words[0])
+            self.assertIn(
+                "with 3 implied decimals in p.drl (leading zeros left out or none; 8 of 8 holes on a through point) and 4 implied decimals in q.drl ",
+                words[0],
+            )
 
     def test_no_through_points(self):
         """Where the netlist says nothing of holes, only a reading with which the board agrees is told."""
@@ -166,17 +260,26 @@ class Decimals(Case):
 
     def test_points_are_kept(self):
         text = b"M48\nMETRIC,TZ\nT1C0.4\n%\nT1\nX1.5Y-25\n;X5\nM30\n"
-        self.assertEqual(drill_decimals.with_point(text, drill_decimals.Reading(3, 0)), b"M48\nMETRIC\nT1C0.4\n%\nT1\nX1.5Y-0.025\n;X5\nM30\n")
+        self.assertEqual(
+            drill_decimals.with_point(text, drill_decimals.Reading(3, 0)),
+            b"M48\nMETRIC\nT1C0.4\n%\nT1\nX1.5Y-0.025\n;X5\nM30\n",
+        )
 
     def test_combined(self):
         """One form for all files where that fits, else the likeliest of all combinations, in their order; of many files at once."""
         chance, how = random.Random(5), [drill_decimals.Reading(d, width) for width in (0, 6) for d in range(2, 5)]
-        fits = lambda name, least: [drill_decimals.Fit(name, it, b"", chance.randrange(4), 4) for it in chance.sample(how, chance.randrange(least, 5))]
+        fits = lambda name, least: [
+            drill_decimals.Fit(name, it, b"", chance.randrange(4), 4)
+            for it in chance.sample(how, chance.randrange(least, 5))
+        ]
         for files in (1, 2, 3, 4) * 40:
             by_file = [fits(str(k), 1) for k in range(files)]
             every = list(product(*by_file))
             same = [its for its in every if len({(it.reading.decimals, it.reading.width > 0) for it in its}) == 1]
-            self.assertEqual(drill_decimals.combined(by_file), sorted(same or every, key=lambda its: -sum(it.on for it in its))[:drill_decimals.MOST])
+            self.assertEqual(
+                drill_decimals.combined(by_file),
+                sorted(same or every, key=lambda its: -sum(it.on for it in its))[: drill_decimals.MOST],
+            )
         self.assertEqual(len(drill_decimals.combined([fits(str(k), 3) for k in range(64)])), drill_decimals.MOST)
 
 
@@ -184,7 +287,9 @@ class Outside(Case):
     def test_decimals_and_copper(self):
         """A drill file without points beside copper that only bounds can answer."""
         files = files_of(number=lambda v: f"{v // 10:06d}")
-        files["a.gbr"] = files["a.gbr"].replace("M02*", "D12*\nX90000000Y90000000D02*\nG75*\nG03X91000000Y91000000I0J1000000D01*\nG01*\nM02*")
+        files["a.gbr"] = files["a.gbr"].replace(
+            "M02*", "D12*\nX90000000Y90000000D02*\nG75*\nG03X91000000Y91000000I0J1000000D01*\nG01*\nM02*"
+        )
         for program in [self.write("strict", STRICT, 0o755), *self.over_both()][::2]:
             status, words, _ = self.told(files, program)
             self.assertEqual(status, 3)
@@ -198,7 +303,10 @@ class Outside(Case):
         for program in self.over_both():
             status, words, found = self.told(files, program)
             self.assertEqual((status, len(found), found[0].answer.status), (3, 1, 0), words)
-            self.assertEqual(words[0], "with the netlist moved by (-5.000, 0.000) mm, `check` says of both bounds: agrees, between two bounds")
+            self.assertEqual(
+                words[0],
+                "with the netlist moved by (-5.000, 0.000) mm, `check` says of both bounds: agrees, between two bounds",
+            )
 
 
 class Parts(unittest.TestCase):
@@ -210,8 +318,10 @@ class Parts(unittest.TestCase):
 
     def test_reordered(self):
         told = Manifest({"copper": ["a", "b", "c"], "drills": [{"file": "d", "from": 1, "to": 3}], "netlist": "n"})
-        self.assertEqual(json.loads(layer_order.reordered(told, [2, 1, 0]).json_text()),
-                         {"copper": ["c", "b", "a"], "drills": [{"file": "d", "from": 1, "to": 3}], "netlist": "n"})
+        self.assertEqual(
+            json.loads(layer_order.reordered(told, [2, 1, 0]).json_text()),
+            {"copper": ["c", "b", "a"], "drills": [{"file": "d", "from": 1, "to": 3}], "netlist": "n"},
+        )
 
 
 if __name__ == "__main__":

@@ -63,14 +63,26 @@ class Lexer(common.Case):
     def test_words_with_their_places(self):
         data = b"G04 a*%FSLAX46Y46*\n%X1Y-2I3J4D01* G1X5*\nD02*\r\n%AMA*1,1,2,0,0*%\n*M02*"
         found = [*tokens(data)]
-        self.assertEqual([(it.text, it.inside, it.first) for it in found], [
-            (b"G04 a", False, True), (b"FSLAX46Y46", True, True), (b"X1Y-2I3J4D01", False, True), (b"G1X5", False, False),
-            (b"D02", False, False),
-            (b"AMA", True, True), (b"1,1,2,0,0", True, False), (b"", False, True), (b"M02", False, False)])
-        self.assertEqual([it.parts for it in found if it.parts], [
-            (None, b"1", b"-2", b"I3J4", b"1"), (b"1", b"5", None, b"", None), (None, None, None, b"", b"2")])
+        self.assertEqual(
+            [(it.text, it.inside, it.first) for it in found],
+            [
+                (b"G04 a", False, True),
+                (b"FSLAX46Y46", True, True),
+                (b"X1Y-2I3J4D01", False, True),
+                (b"G1X5", False, False),
+                (b"D02", False, False),
+                (b"AMA", True, True),
+                (b"1,1,2,0,0", True, False),
+                (b"", False, True),
+                (b"M02", False, False),
+            ],
+        )
+        self.assertEqual(
+            [it.parts for it in found if it.parts],
+            [(None, b"1", b"-2", b"I3J4", b"1"), (b"1", b"5", None, b"", None), (None, None, None, b"", b"2")],
+        )
         for it in found:
-            self.assertEqual((data[it.start:it.end], data[it.end:it.end + 1]), (it.text, b"*"))
+            self.assertEqual((data[it.start : it.end], data[it.end : it.end + 1]), (it.text, b"*"))
         self.assertEqual(line_numbers(data, [1, 3, 5, 8]), {1: 1, 3: 2, 5: 3, 8: 5})
         self.assertEqual([*pairs(data)], [it for it in found if it.inside])
         self.assertEqual([it.text for it in holding(data, b"D0")], [b"X1Y-2I3J4D01", b"D02"])
@@ -103,7 +115,7 @@ class Lexer(common.Case):
         data = b"%ADD12C,1*%D12*\nG54D12*X1Y1D01*D012*D120*D112*G04 D12*%D12*%D13*\nXD12*D11*"
         found = [*choosing(data, {12, 11})]
         self.assertEqual([it.text for it in found], [b"D12", b"G54D12", b"D012", b"D11"])
-        self.assertEqual([data[it.start:it.end] for it in found], [it.text for it in found])
+        self.assertEqual([data[it.start : it.end] for it in found], [it.text for it in found])
 
     def test_program_counts_alike(self):
         """Conformance with the crate `gerber_words`: a word that `check` refuses has the number and the byte that the
@@ -118,7 +130,7 @@ class Lexer(common.Case):
             inside = [it.inside for it in tokens(data)]
             at = rng.choice([it.end for it, within in zip(tokens(data), inside[1:]) if not it.inside and not within])
             before, refused = rng.choice([b"", b" ", b"\n\r\t", b"\n\n"]), rng.choice([b"Q*", b"G91*\n", b"X1*Q*"])
-            data = data[:at + 1] + before + refused + data[at + 1:] + b"M02*"
+            data = data[: at + 1] + before + refused + data[at + 1 :] + b"M02*"
             with open(path, "wb") as file:
                 file.write(data)
             said = "".join(self.run_words([program, "check", "m.json"], folder)[1:])
@@ -129,36 +141,69 @@ class Lexer(common.Case):
 
 class StateMachine(common.Case):
     def test_operations(self):
-        heard = Heard(HEAD + b"%TO.N,A*%X1Y2D02*X3D01*G04 #@! TO.N, B *Y5D01*%LPC*%%TD*%"
-                      b"G02*G75*X9Y9I1J-2D01*X0Y0D03*").heard
-        self.assertEqual([it[1:] for it in heard], [
-            ("move", (1, 2)), ("draw", (1, 2), 10, True, "A", (3, 2)), ("draw", (3, 2), 10, True, "B", (3, 5)),
-            ("arc", (3, 5), 2, "G75", (1, -2), (9, 9)), ("flash", 10, 0, (0, 0))])
+        heard = Heard(
+            HEAD + b"%TO.N,A*%X1Y2D02*X3D01*G04 #@! TO.N, B *Y5D01*%LPC*%%TD*%" b"G02*G75*X9Y9I1J-2D01*X0Y0D03*"
+        ).heard
+        self.assertEqual(
+            [it[1:] for it in heard],
+            [
+                ("move", (1, 2)),
+                ("draw", (1, 2), 10, True, "A", (3, 2)),
+                ("draw", (3, 2), 10, True, "B", (3, 5)),
+                ("arc", (3, 5), 2, "G75", (1, -2), (9, 9)),
+                ("flash", 10, 0, (0, 0)),
+            ],
+        )
 
     def test_regions_blocks_and_steps(self):
         heard = Heard(HEAD + b"G36*X1Y1D02*X2D01*Y2D01*G37*%SRX2Y1I1J0*%%ABD11*%D10*X0Y0D03*%AB*%%SR*%X7D03*").heard
-        self.assertEqual([it[1:] for it in heard], [
-            ("contour", (1, 1)), ("edge", (1, 1), (2, 1)), ("edge", (2, 1), (2, 2)), ("region", (2, 2)),
-            ("steps", "SRX2Y1I1J0", (2, 2)),
-            ("flash", 10, 1, (0, 0)), ("steps", "SR", (0, 0)), ("flash", 10, 0, (7, 0))])
+        self.assertEqual(
+            [it[1:] for it in heard],
+            [
+                ("contour", (1, 1)),
+                ("edge", (1, 1), (2, 1)),
+                ("edge", (2, 1), (2, 2)),
+                ("region", (2, 2)),
+                ("steps", "SRX2Y1I1J0", (2, 2)),
+                ("flash", 10, 1, (0, 0)),
+                ("steps", "SR", (0, 0)),
+                ("flash", 10, 0, (7, 0)),
+            ],
+        )
 
     def test_program_makes_as_many_pieces(self):
         """Conformance with the crates `gerber_layer` and `step_repeat`: each object has as many pieces as `flatten`
         makes of it."""
         rng, program, count = random.Random(9), common.program(), 0
-        place = lambda: "X%dY%d" % (rng.randrange(-9, 9) * 10 ** 5, rng.randrange(-9, 9) * 10 ** 5)
+        place = lambda: "X%dY%d" % (rng.randrange(-9, 9) * 10**5, rng.randrange(-9, 9) * 10**5)
         square = lambda: "X0Y0D02*X5D01*Y5D01*X0Y0D01*"
-        words = (lambda: f"D{rng.randrange(10, 15)}*", lambda: place() + "D03*", lambda: place() + "D02*",
-                 lambda: place() + "D01*", lambda: "G36*G37*",
-                 lambda: f"G01{place()}D1*", lambda: "X%dD01*" % rng.randrange(99), lambda: "D03*",
-                 lambda: f"G36*{square() * rng.randrange(3)}G37*",
-                 lambda: "%%SRX%dY2I9J.5*%%" % rng.randrange(1, 4), lambda: "%SR*%", lambda: "G04 D03*", lambda: "%TO.N,A*%")
+        words = (
+            lambda: f"D{rng.randrange(10, 15)}*",
+            lambda: place() + "D03*",
+            lambda: place() + "D02*",
+            lambda: place() + "D01*",
+            lambda: "G36*G37*",
+            lambda: f"G01{place()}D1*",
+            lambda: "X%dD01*" % rng.randrange(99),
+            lambda: "D03*",
+            lambda: f"G36*{square() * rng.randrange(3)}G37*",
+            lambda: "%%SRX%dY2I9J.5*%%" % rng.randrange(1, 4),
+            lambda: "%SR*%",
+            lambda: "G04 D03*",
+            lambda: "%TO.N,A*%",
+        )
         for turn in range(60):
-            text = ("%FSLAX46Y46*%%MOMM*%%ADD10C,1*%%ADD11R,1X2*%%ADD12O,2X1*%%AMM*1,1,1,0,0*21,1,1,1,0,0,90*%"
-                    "%ADD13M*%%ADD14C,0*%D10*" + place() + "D02*" + "".join(rng.choice(words)() for _ in range(rng.randrange(40))) + "%SR*%M02*")
+            text = (
+                "%FSLAX46Y46*%%MOMM*%%ADD10C,1*%%ADD11R,1X2*%%ADD12O,2X1*%%AMM*1,1,1,0,0*21,1,1,1,0,0,90*%"
+                "%ADD13M*%%ADD14C,0*%D10*"
+                + place()
+                + "D02*"
+                + "".join(rng.choice(words)() for _ in range(rng.randrange(40)))
+                + "%SR*%M02*"
+            )
             self.write("x.gbr", text)
             status, flat, notes = self.run_words([program, "flatten", "x.gbr"])
-            if "PenNotCircle" in notes:     # a draw with a rectangle
+            if "PenNotCircle" in notes:  # a draw with a rectangle
                 continue
             self.assertEqual(status, 0, notes + text)
             strokes = re.sub(r"(?s)G36\*\n.*?G37\*\n", "", flat).count("D01*")
@@ -168,9 +213,19 @@ class StateMachine(common.Case):
 
     def test_what_may_not_be_said(self):
         heard = Heard(HEAD + b"X1Y1*X2D02*X3*G02X1Y1D01*G01X2I0D01*X5J1I2D01*G91*XY*").heard
-        self.assertEqual([it[1:] for it in heard], [
-            ("implied", None, (0, 0)), ("move", (2, 1)), ("implied", 2, (2, 1)), ("move", (3, 1)),
-            ("mismatched", True, (1, 1)),
-            ("draw", (3, 1), 10, True, "", (1, 1)), ("mismatched", False, (2, 1)),
-            ("draw", (1, 1), 10, True, "", (2, 1)),
-            ("other", b"X5J1I2D01", (2, 1)), ("other", b"G91", (2, 1)), ("other", b"XY", (2, 1))])
+        self.assertEqual(
+            [it[1:] for it in heard],
+            [
+                ("implied", None, (0, 0)),
+                ("move", (2, 1)),
+                ("implied", 2, (2, 1)),
+                ("move", (3, 1)),
+                ("mismatched", True, (1, 1)),
+                ("draw", (3, 1), 10, True, "", (1, 1)),
+                ("mismatched", False, (2, 1)),
+                ("draw", (1, 1), 10, True, "", (2, 1)),
+                ("other", b"X5J1I2D01", (2, 1)),
+                ("other", b"G91", (2, 1)),
+                ("other", b"XY", (2, 1)),
+            ],
+        )

@@ -35,7 +35,7 @@ def ring(centre, start, end, k):
 def is_chord(centre, near, far, a, b):
     turn = cross(centre, a, b)
     lies_within = max(dot(centre, a, a), dot(centre, b, b)) <= far * far
-    return turn > 0 and lies_within and near * near * dot(a, b, b) <= turn * turn < 2 ** 128
+    return turn > 0 and lies_within and near * near * dot(a, b, b) <= turn * turn < 2**128
 
 
 def is_in_turn(centre, start, end, a, b):
@@ -66,20 +66,34 @@ def is_above(centre, start, end, width, chain, r):
 
 
 def is_loop(centre, start, end):
-    return dot(centre, start, start) != dot(centre, end, end) and cross(centre, start, end) == 0 <= dot(centre, start, end)
+    return dot(centre, start, start) != dot(centre, end, end) and cross(centre, start, end) == 0 <= dot(
+        centre, start, end
+    )
 
 
 def arcs(count):
     """Arcs of a tenth of a nanometre to 79 mm: ends at one distance (mirror images of a spot), at two by a rounding or by more, in one
     line with the centre, and whole turns."""
     for k in range(count):
-        radius, angle = int(10 ** random.uniform(0, 8.9 if k % 2 else 3)), random.choice((random.uniform(0, 2 * pi), random.randrange(4) * pi / 2))
-        centre = (random.randint(-10 ** 8, 10 ** 8), random.randint(-10 ** 8, 10 ** 8))
+        radius, angle = int(10 ** random.uniform(0, 8.9 if k % 2 else 3)), random.choice(
+            (random.uniform(0, 2 * pi), random.randrange(4) * pi / 2)
+        )
+        centre = (random.randint(-(10**8), 10**8), random.randint(-(10**8), 10**8))
         place = lambda t, far=1: (round(far * radius * cos(t)), round(far * radius * sin(t)))
         u, v = place(angle)
-        mirrored, n = [(u, v), (-v, u), (-u, -v), (v, -u), (u, -v), (v, u), (-u, v), (-v, -u)], random.choice((-2, -1, 2, 3))
-        further = random.choice((random.uniform(0.01, 6.25), 10 ** random.uniform(-6, 0), -10 ** random.uniform(-6, 0)))
-        x, y = (random.choice(mirrored), place(angle + further), (u, v), place(angle + further, random.uniform(.7, 1.4)), (n * u, n * v))[k % 5]
+        mirrored, n = [(u, v), (-v, u), (-u, -v), (v, -u), (u, -v), (v, u), (-u, v), (-v, -u)], random.choice(
+            (-2, -1, 2, 3)
+        )
+        further = random.choice(
+            (random.uniform(0.01, 6.25), 10 ** random.uniform(-6, 0), -(10 ** random.uniform(-6, 0)))
+        )
+        x, y = (
+            random.choice(mirrored),
+            place(angle + further),
+            (u, v),
+            place(angle + further, random.uniform(0.7, 1.4)),
+            (n * u, n * v),
+        )[k % 5]
         start, end = ((centre[0] + p, centre[1] + q) for p, q in ((u, v), (x, y)))
         if centre not in (start, end) and is_meant(centre, start, end):
             yield centre, start, end
@@ -107,8 +121,13 @@ class TestArcChains(unittest.TestCase):
 
     def test_ends_that_are_unlike_have_few_chords(self):
         """Where draws are millimetres wide, since nobody knows where the arc is, short chords would be thousands of edges that cross."""
-        mm = 10 ** 7
-        for centre, start, end in (((0, 0), (10 * mm, 0), (0, mm)), ((0, 0), (mm, 0), (-10 * mm, 10)), ((8 * mm, -9 * mm), (9 * mm, -9 * mm), (9 * mm, 9 * mm)), ((0, 0), (10 * mm, 0), (0, -11 * mm))):
+        mm = 10**7
+        for centre, start, end in (
+            ((0, 0), (10 * mm, 0), (0, mm)),
+            ((0, 0), (mm, 0), (-10 * mm, 10)),
+            ((8 * mm, -9 * mm), (9 * mm, -9 * mm), (9 * mm, 9 * mm)),
+            ((0, 0), (10 * mm, 0), (0, -11 * mm)),
+        ):
             chain, _ = arc_chain(centre, start, end)
             self.assertLess(len(chain), 60, (centre, start, end))
         self.assertGreater(len(arc_chain((0, 0), (10 * mm, 0), (0, 10 * mm))[0]), 90)
@@ -160,7 +179,10 @@ class TestArcChains(unittest.TestCase):
             x, y = (shift * (end[j] - start[j]) for j in (0, 1))
             radius = hypot(start[0] - x, start[1] - y)
             first, last = (atan2(p[1] - y, p[0] - x) for p in (start, end))
-            places = [(x + radius * cos(t), y + radius * sin(t)) for t in (first + (last - first) % (2 * pi) * k / 200 for k in range(201))]
+            places = [
+                (x + radius * cos(t), y + radius * sin(t))
+                for t in (first + (last - first) % (2 * pi) * k / 200 for k in range(201))
+            ]
             with self.subTest(start=start, end=end):
                 self.assertTrue(all(low - more - 1e-6 <= px * px + py * py <= high + more + 1e-6 for px, py in places))
                 self.assertTrue(all(a[0] * b[1] - a[1] * b[0] > 0 for a, b in zip(places, places[1:])))

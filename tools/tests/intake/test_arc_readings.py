@@ -22,7 +22,10 @@ def gerber(*parts):
 class Readings(common.Case):
     def test_taken(self):
         for parts, word, count in [
-            ([HALF], "G75", "all 1 arc fit"), ([SIGNED], "G75", "all 2 arcs fit"), ([QUARTER], "G75", "all 1 arc fit"), ([HALF, "X0Y0D02*\n", FULL], "G75", "all 2 arcs fit"),
+            ([HALF], "G75", "all 1 arc fit"),
+            ([SIGNED], "G75", "all 2 arcs fit"),
+            ([QUARTER], "G75", "all 1 arc fit"),
+            ([HALF, "X0Y0D02*\n", FULL], "G75", "all 2 arcs fit"),
             ([SINGLE], "G74", "the radii of 1 of 2 arcs differ"),
             ([QUARTER.replace("X2000000Y2000000", "X2000001Y1999999")], "G75", "all 1 arc fit"),
             (["G36*\n", SINGLE, "G01X0Y0D01*\nG37*\n"], "G74", "the radii of 1 of 2 arcs differ"),
@@ -70,17 +73,34 @@ class Readings(common.Case):
 
             def arc(self, start, centre):
                 self.heard.append(self.quadrants)
+
         self.assertEqual(Modes().heard, ["G75", "G74"])
 
     def test_show_asks(self):
         """A board whose track is an arc: asked, taken, and with another answer where the arc leads elsewhere."""
         netlist = "P  UNITS CUST 1\n327A                                  A01X+000000Y+000000\n327A                                  A01X+004000Y+000000\n999\n"
-        for name, track, status in (("agrees", SIGNED, 0), ("differs", SIGNED.replace("X4000000Y0I0", "X4000000Y0I0").replace("J-2000000D01", "J-2000000D02"), 1)):
+        for name, track, status in (
+            ("agrees", SIGNED, 0),
+            ("differs", SIGNED.replace("X4000000Y0I0", "X4000000Y0I0").replace("J-2000000D01", "J-2000000D02"), 1),
+        ):
             pads = "D10*\nX0Y0D03*\nX4000000D03*\nX0Y0D02*\n"
-            self.write(f"{name}/x.gbr", HEAD + "%TF.FileFunction,Copper,L1,Top*%\nG04 begin*\n" + pads + track.replace("I0J-2000000D02", "D02") + "M02*\n")
+            self.write(
+                f"{name}/x.gbr",
+                HEAD
+                + "%TF.FileFunction,Copper,L1,Top*%\nG04 begin*\n"
+                + pads
+                + track.replace("I0J-2000000D02", "D02")
+                + "M02*\n",
+            )
             self.write(f"{name}/n.ipc", netlist)
             show = [os.path.join(common.TOOLS, "show"), self.path(name)]
             asked = self.run_words(show, environment={"BOARDNET": common.program()})
-            self.assertEqual((asked[0], "would be taken: x.gbr with arcs of several quadrants (G75)" in asked[1] + asked[2]), (10, True), asked)
+            self.assertEqual(
+                (asked[0], "would be taken: x.gbr with arcs of several quadrants (G75)" in asked[1] + asked[2]),
+                (10, True),
+                asked,
+            )
             taken = self.run_words([*show, "--yes"], environment={"BOARDNET": common.program()})
-            self.assertEqual((taken[0], "taken as x.gbr with arcs of several quadrants" in taken[1]), (status, True), taken)
+            self.assertEqual(
+                (taken[0], "taken as x.gbr with arcs of several quadrants" in taken[1]), (status, True), taken
+            )

@@ -89,7 +89,7 @@ class SameCopper(unittest.TestCase):
     def test_many_crossings(self):
         """A contour that crosses itself more often than is looked at is none for a sweep."""
         chance = random.Random(1)
-        corners = [(chance.randrange(10 ** 6), chance.randrange(10 ** 6)) for _ in range(40)]
+        corners = [(chance.randrange(10**6), chance.randrange(10**6)) for _ in range(40)]
         with mock.patch.object(contour_sweep, "MOST_CROSSINGS", 20):
             self.assertRaises(contour_sweep.Crossed, contour_sweep.ContourSweep, corners, 2)
             self.assertIsNone(chords.parted(corners))

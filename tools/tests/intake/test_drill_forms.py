@@ -13,8 +13,8 @@ from boardnet_show.intake.evidence import drill_numbers
 from boardnet_show.intake.mends import drill_mends
 from tests.fixtures import common, made
 
-STEP = 127              # micrometres, 5 mils: places that all forms have exactly
-SIZES = {1: 508, 2: 1016, 3: 3302}      # of tools, in micrometres; the third is not plated
+STEP = 127  # micrometres, 5 mils: places that all forms have exactly
+SIZES = {1: 508, 2: 1016, 3: 3302}  # of tools, in micrometres; the third is not plated
 NC_PARAM = """# nc_param.txt
 FORMAT                    {format}
 COORDINATES               ABSOLUTE
@@ -55,7 +55,7 @@ PLATED = {(x * STEP, y * STEP, SIZES[tool]) for tool in (1, 2) for x, y in HOLES
 def digits(steps, unit, decimals):
     """A number of so many decimals without its point, as a whole number."""
     value = Fraction(steps * STEP, 1000) if unit == MM else Fraction(steps * STEP, 25400)
-    whole = value * 10 ** decimals
+    whole = value * 10**decimals
     assert whole.denominator == 1
     return whole.numerator
 
@@ -71,9 +71,11 @@ def no_leading(unit, decimals):
 
 def no_trailing(unit, whole, decimals):
     """Trailing zeros left out, the digits before the point kept."""
+
     def number(steps):
         text = f"{digits(steps, unit, decimals):0{whole + decimals}d}"
         return text[:whole] + text[whole:].rstrip("0")
+
     return number
 
 
@@ -92,7 +94,10 @@ def hits(number, tools=(1, 2, 3), pick="T{:02d}", between=(), modal=False):
         lines += [*(between if lines else ()), *([pick.format(tool)] if pick else [])]
         last = (None, None)
         for x, y in HOLES[tool]:
-            lines.append(("" if modal and x == last[0] else "X" + number(x)) + ("" if modal and y == last[1] else "Y" + number(y)))
+            lines.append(
+                ("" if modal and x == last[0] else "X" + number(x))
+                + ("" if modal and y == last[1] else "Y" + number(y))
+            )
             last = (x, y)
     return lines
 
@@ -125,22 +130,60 @@ def allegro_comments(with_tool=True, unit="MILS"):
     for tool, places in HOLES.items():
         value = SIZES[tool] / 25.4 if unit == "MILS" else SIZES[tool] / 1000
         name = f"T{tool:02d}" if with_tool else "  "
-        yield (f";{name} Holesize {tool}. = {value:.6f} Tolerance = +0.000000/-0.000000 {'NON_' if tool == 3 else ''}PLATED {unit} "
-               f"Quantity = {len(places)} ")
+        yield (
+            f";{name} Holesize {tool}. = {value:.6f} Tolerance = +0.000000/-0.000000 {'NON_' if tool == 3 else ''}PLATED {unit} "
+            f"Quantity = {len(places)} "
+        )
 
 
 def kicad(unit_line, words, number):
-    return text("M48", f"; FORMAT={{3:3/ absolute / metric / {words}}}", "; #@! TF.FileFunction,MixedPlating,1,2", "FMAT,2", unit_line,
-                *(line for tool in HOLES for line in (f"; #@! TA.AperFunction,{'NonPlated,NPTH' if tool == 3 else 'Plated,PTH'},ComponentDrill",
-                                                      f"T{tool}C{size(tool, MM)}")), "%", "G90", "G05", *hits(number, pick="T{}"), "M30")
+    return text(
+        "M48",
+        f"; FORMAT={{3:3/ absolute / metric / {words}}}",
+        "; #@! TF.FileFunction,MixedPlating,1,2",
+        "FMAT,2",
+        unit_line,
+        *(
+            line
+            for tool in HOLES
+            for line in (
+                f"; #@! TA.AperFunction,{'NonPlated,NPTH' if tool == 3 else 'Plated,PTH'},ComponentDrill",
+                f"T{tool}C{size(tool, MM)}",
+            )
+        ),
+        "%",
+        "G90",
+        "G05",
+        *hits(number, pick="T{}"),
+        "M30",
+    )
 
 
 def altium(layout, unit_line, unit, number):
-    return text("M48", ";Layer_Color=9474304", f";FILE_FORMAT={layout}", unit_line, ";TYPE=PLATED", *(f"T{t}F00S00C{size(t, unit, 5)}" for t in (1, 2)),
-                ";TYPE=NON_PLATED", f"T3F00S00C{size(3, unit, 5)}", "%", "G90", "G05", *hits(number, modal=True), "M30").replace("\n", "\r\n")
+    return text(
+        "M48",
+        ";Layer_Color=9474304",
+        f";FILE_FORMAT={layout}",
+        unit_line,
+        ";TYPE=PLATED",
+        *(f"T{t}F00S00C{size(t, unit, 5)}" for t in (1, 2)),
+        ";TYPE=NON_PLATED",
+        f"T3F00S00C{size(3, unit, 5)}",
+        "%",
+        "G90",
+        "G05",
+        *hits(number, modal=True),
+        "M30",
+    ).replace("\n", "\r\n")
 
 
-ALLEGRO_FRONT = (";LEADER: 12 ", ";HEADER: ", ";CODE  : ASCII ", ";FILE  : mini-1-2.drl  for board mini.brd ... layers TOP and BOTTOM ", ";DESIGN: mini.brd ")
+ALLEGRO_FRONT = (
+    ";LEADER: 12 ",
+    ";HEADER: ",
+    ";CODE  : ASCII ",
+    ";FILE  : mini-1-2.drl  for board mini.brd ... layers TOP and BOTTOM ",
+    ";DESIGN: mini.brd ",
+)
 FULL_25 = NC_PARAM.format(format="2.5", unit="ENGLISH", lead="NO", trail="NO")
 ONLY_PLATED = (1, 2)
 # By the writer: the name, the file, what lies beside it.
@@ -154,38 +197,244 @@ SAID = {
     "altium mm": ("m.TXT", altium("4:4", "METRIC,TZ", MM, no_leading(MM, 4)), {}),
     "altium mm trailing": ("m.TXT", altium("4:4", "METRIC,LZ", MM, no_trailing(MM, 4, 4)), {}),
     "altium no word on zeros": ("m.TXT", altium("2:5", "INCH", INCH, full(INCH, 2, 5)), {}),
-    "allegro": ("m-1-2.drl", text(*ALLEGRO_FRONT, *allegro_comments(), "%", "G90", *hits(full(INCH, 2, 5)), "M30"), {"nc_param.txt": FULL_25}),
-    "allegro stops": ("m-1-2.drl", text(*ALLEGRO_FRONT, *allegro_comments(False), "%", "G90", *hits(full(INCH, 2, 5), pick="", between=("M00",)), "M30"),
-                      {"nc_param.txt": FULL_25}),
-    "allegro stops and tools": ("m-1-2.drl", text(*ALLEGRO_FRONT, *allegro_comments(), "%", "G90", *hits(full(INCH, 2, 5), between=("M00",)), "M30"),
-                                {"nc_param.txt": FULL_25}),
-    "allegro repeats": ("m-1-2.drl", text(*ALLEGRO_FRONT, *allegro_comments(), "%", "G90", *repeated(full(INCH, 2, 5)), "M30"), {"nc_param.txt": FULL_25}),
-    "allegro metric": ("m-1-2.drl", text(*ALLEGRO_FRONT, *allegro_comments(unit="MM"), "%", "G90", *hits(no_leading(MM, 4)), "M30"),
-                       {"nc_param.txt": NC_PARAM.format(format="4.4", unit="METRIC", lead="YES", trail="NO")}),
-    "allegro enhanced": ("m-1-2.drl", text(*ALLEGRO_FRONT, *allegro_comments(unit="MM"), "M48", "METRIC,TZ", *(f"T{t:02d}C{size(t, MM)}" for t in SIZES), "%", "G90",
-                                           *hits(no_leading(MM, 4)), "M30"), {"nc_param.txt": NC_PARAM.format(format="4.4", unit="METRIC", lead="YES", trail="NO")}),
-    "eagle 9": ("drill_1_16.xln", text("M48", ";GenerationSoftware,Autodesk,EAGLE,9.6.2*%", "FMAT,2", "ICI,OFF", "METRIC,TZ,000.000",
-                                       *(f"T{t}C{size(t, MM)}" for t in ONLY_PLATED), "%", "G90", "M71", *hits(no_leading(MM, 3), ONLY_PLATED, "T{}"), "M30"), {}),
-    "eagle 6": ("mini.drd", text("%", "M48", "M72", *(f"T{t:02d}C{size(t, INCH, 4)}" for t in ONLY_PLATED), "%", *hits(full(INCH, 2, 4), ONLY_PLATED), "M30"),
-                {"mini.dri": DRI.format(over=10000, tools="\n".join(f" T{t:02d}   {size(t, INCH, 4)}inch   {len(HOLES[t])}" for t in ONLY_PLATED))}),
-    "easyeda": ("Drill_PTH.DRL", text("M48", "METRIC,LZ,000.000", ";FILE_FORMAT=3:3", ";TYPE=PLATED", ";Holesize 1 = 0.508 mm ", *(f"T{t:02d}C{size(t, MM)}" for t in ONLY_PLATED),
-                                      "%", "G05", "G90", *hits(full(MM, 3, 3), ONLY_PLATED), "M30"), {}),
-    "xpedition with points": ("Plated.ncd", text(";PARTNO mini.pcb  ", "M48", *(f"T{t:02d}C{size(t, MM)}" for t in ONLY_PLATED), "R,H", "/", "%", "G90", "M71", "G93X000000Y000000",
-                                                 "G05", *hits(pointed(MM), ONLY_PLATED), "T00", "M30", ";LEADER 240 CHARACTERS"), {}),
+    "allegro": (
+        "m-1-2.drl",
+        text(*ALLEGRO_FRONT, *allegro_comments(), "%", "G90", *hits(full(INCH, 2, 5)), "M30"),
+        {"nc_param.txt": FULL_25},
+    ),
+    "allegro stops": (
+        "m-1-2.drl",
+        text(
+            *ALLEGRO_FRONT,
+            *allegro_comments(False),
+            "%",
+            "G90",
+            *hits(full(INCH, 2, 5), pick="", between=("M00",)),
+            "M30",
+        ),
+        {"nc_param.txt": FULL_25},
+    ),
+    "allegro stops and tools": (
+        "m-1-2.drl",
+        text(*ALLEGRO_FRONT, *allegro_comments(), "%", "G90", *hits(full(INCH, 2, 5), between=("M00",)), "M30"),
+        {"nc_param.txt": FULL_25},
+    ),
+    "allegro repeats": (
+        "m-1-2.drl",
+        text(*ALLEGRO_FRONT, *allegro_comments(), "%", "G90", *repeated(full(INCH, 2, 5)), "M30"),
+        {"nc_param.txt": FULL_25},
+    ),
+    "allegro metric": (
+        "m-1-2.drl",
+        text(*ALLEGRO_FRONT, *allegro_comments(unit="MM"), "%", "G90", *hits(no_leading(MM, 4)), "M30"),
+        {"nc_param.txt": NC_PARAM.format(format="4.4", unit="METRIC", lead="YES", trail="NO")},
+    ),
+    "allegro enhanced": (
+        "m-1-2.drl",
+        text(
+            *ALLEGRO_FRONT,
+            *allegro_comments(unit="MM"),
+            "M48",
+            "METRIC,TZ",
+            *(f"T{t:02d}C{size(t, MM)}" for t in SIZES),
+            "%",
+            "G90",
+            *hits(no_leading(MM, 4)),
+            "M30",
+        ),
+        {"nc_param.txt": NC_PARAM.format(format="4.4", unit="METRIC", lead="YES", trail="NO")},
+    ),
+    "eagle 9": (
+        "drill_1_16.xln",
+        text(
+            "M48",
+            ";GenerationSoftware,Autodesk,EAGLE,9.6.2*%",
+            "FMAT,2",
+            "ICI,OFF",
+            "METRIC,TZ,000.000",
+            *(f"T{t}C{size(t, MM)}" for t in ONLY_PLATED),
+            "%",
+            "G90",
+            "M71",
+            *hits(no_leading(MM, 3), ONLY_PLATED, "T{}"),
+            "M30",
+        ),
+        {},
+    ),
+    "eagle 6": (
+        "mini.drd",
+        text(
+            "%",
+            "M48",
+            "M72",
+            *(f"T{t:02d}C{size(t, INCH, 4)}" for t in ONLY_PLATED),
+            "%",
+            *hits(full(INCH, 2, 4), ONLY_PLATED),
+            "M30",
+        ),
+        {
+            "mini.dri": DRI.format(
+                over=10000,
+                tools="\n".join(f" T{t:02d}   {size(t, INCH, 4)}inch   {len(HOLES[t])}" for t in ONLY_PLATED),
+            )
+        },
+    ),
+    "easyeda": (
+        "Drill_PTH.DRL",
+        text(
+            "M48",
+            "METRIC,LZ,000.000",
+            ";FILE_FORMAT=3:3",
+            ";TYPE=PLATED",
+            ";Holesize 1 = 0.508 mm ",
+            *(f"T{t:02d}C{size(t, MM)}" for t in ONLY_PLATED),
+            "%",
+            "G05",
+            "G90",
+            *hits(full(MM, 3, 3), ONLY_PLATED),
+            "M30",
+        ),
+        {},
+    ),
+    "xpedition with points": (
+        "Plated.ncd",
+        text(
+            ";PARTNO mini.pcb  ",
+            "M48",
+            *(f"T{t:02d}C{size(t, MM)}" for t in ONLY_PLATED),
+            "R,H",
+            "/",
+            "%",
+            "G90",
+            "M71",
+            "G93X000000Y000000",
+            "G05",
+            *hits(pointed(MM), ONLY_PLATED),
+            "T00",
+            "M30",
+            ";LEADER 240 CHARACTERS",
+        ),
+        {},
+    ),
 }
 SILENT = {
-    "orcad, pads": ("thruhole.tap", text("%", *(line for t in ONLY_PLATED for line in (f"T{t}C{size(t, INCH)}F200S100", *hits(full(INCH, 2, 4), (t,), ""))), "M30"), {}),
-    "sizes before the header's end": ("drl001.drl", text(*(f"T{t}C{size(t, INCH)}F200S100" for t in ONLY_PLATED), "%", "M72", *hits(no_trailing(INCH, 2, 4), ONLY_PLATED), "M30"), {}),
-    "xpedition": ("ThruHolePlated.ncd", text(";PARTNO mini.pcb  ", "M48", *(f"T{t:02d}C{size(t, MM)}" for t in ONLY_PLATED), "R,H", "/", "%", "G90", "M71", "G93X000000Y000000", "G05",
-                                             *hits(no_leading(MM, 3), ONLY_PLATED), "T00", "M30", ";LEADER 240 CHARACTERS"), {}),
-    "diptrace": ("Through.drl", text("M48", "INCH,TZ", *(f"T{t:02d}C{size(t, INCH)}" for t in ONLY_PLATED), "%", *hits(full(INCH, 2, 4, "+"), ONLY_PLATED), "T00", "M30"), {}),
-    "proteus": ("mini - CADCAM Drill.DRL", text("M48", "METRIC,TZ", *(f"T{t:02d}C{size(t, MM)}" for t in ONLY_PLATED), "%", *hits(no_leading(MM, 3), ONLY_PLATED), "M30"), {}),
-    "fritzing": ("mini_drill.txt", text("; NON-PLATED HOLES START AT T1", "; THROUGH (PLATED) HOLES START AT T100", "M48", "INCH",
-                                        f"T1C{size(3, INCH, 6)}", *(f"T{99 + t}C{size(t, INCH, 6)}" for t in ONLY_PLATED), "%",
-                                        *hits(full(INCH, 2, 4), (3,), "T1"), *hits(full(INCH, 2, 4), (1,), "T100"), *hits(full(INCH, 2, 4), (2,), "T101"), "T00", "M30"), {}),
-    "allegro alone": ("m-1-2.drl", text(*ALLEGRO_FRONT, *allegro_comments(), "%", "G90", *hits(full(INCH, 2, 5)), "M30"), {}),
-    "trailing zeros left out": ("m.drl", text("M48", "METRIC,LZ", *(f"T{t}C{size(t, MM)}" for t in ONLY_PLATED), "%", *hits(no_trailing(MM, 3, 3), ONLY_PLATED, "T{}"), "M30"), {}),
-    "digits without zeros": ("m.drl", text("M48", "METRIC", ";FILE_FORMAT=3:3", *(f"T{t}C{size(t, MM)}" for t in ONLY_PLATED), "%", *hits(no_leading(MM, 3), ONLY_PLATED, "T{}"), "M30"), {}),
+    "orcad, pads": (
+        "thruhole.tap",
+        text(
+            "%",
+            *(
+                line
+                for t in ONLY_PLATED
+                for line in (f"T{t}C{size(t, INCH)}F200S100", *hits(full(INCH, 2, 4), (t,), ""))
+            ),
+            "M30",
+        ),
+        {},
+    ),
+    "sizes before the header's end": (
+        "drl001.drl",
+        text(
+            *(f"T{t}C{size(t, INCH)}F200S100" for t in ONLY_PLATED),
+            "%",
+            "M72",
+            *hits(no_trailing(INCH, 2, 4), ONLY_PLATED),
+            "M30",
+        ),
+        {},
+    ),
+    "xpedition": (
+        "ThruHolePlated.ncd",
+        text(
+            ";PARTNO mini.pcb  ",
+            "M48",
+            *(f"T{t:02d}C{size(t, MM)}" for t in ONLY_PLATED),
+            "R,H",
+            "/",
+            "%",
+            "G90",
+            "M71",
+            "G93X000000Y000000",
+            "G05",
+            *hits(no_leading(MM, 3), ONLY_PLATED),
+            "T00",
+            "M30",
+            ";LEADER 240 CHARACTERS",
+        ),
+        {},
+    ),
+    "diptrace": (
+        "Through.drl",
+        text(
+            "M48",
+            "INCH,TZ",
+            *(f"T{t:02d}C{size(t, INCH)}" for t in ONLY_PLATED),
+            "%",
+            *hits(full(INCH, 2, 4, "+"), ONLY_PLATED),
+            "T00",
+            "M30",
+        ),
+        {},
+    ),
+    "proteus": (
+        "mini - CADCAM Drill.DRL",
+        text(
+            "M48",
+            "METRIC,TZ",
+            *(f"T{t:02d}C{size(t, MM)}" for t in ONLY_PLATED),
+            "%",
+            *hits(no_leading(MM, 3), ONLY_PLATED),
+            "M30",
+        ),
+        {},
+    ),
+    "fritzing": (
+        "mini_drill.txt",
+        text(
+            "; NON-PLATED HOLES START AT T1",
+            "; THROUGH (PLATED) HOLES START AT T100",
+            "M48",
+            "INCH",
+            f"T1C{size(3, INCH, 6)}",
+            *(f"T{99 + t}C{size(t, INCH, 6)}" for t in ONLY_PLATED),
+            "%",
+            *hits(full(INCH, 2, 4), (3,), "T1"),
+            *hits(full(INCH, 2, 4), (1,), "T100"),
+            *hits(full(INCH, 2, 4), (2,), "T101"),
+            "T00",
+            "M30",
+        ),
+        {},
+    ),
+    "allegro alone": (
+        "m-1-2.drl",
+        text(*ALLEGRO_FRONT, *allegro_comments(), "%", "G90", *hits(full(INCH, 2, 5)), "M30"),
+        {},
+    ),
+    "trailing zeros left out": (
+        "m.drl",
+        text(
+            "M48",
+            "METRIC,LZ",
+            *(f"T{t}C{size(t, MM)}" for t in ONLY_PLATED),
+            "%",
+            *hits(no_trailing(MM, 3, 3), ONLY_PLATED, "T{}"),
+            "M30",
+        ),
+        {},
+    ),
+    "digits without zeros": (
+        "m.drl",
+        text(
+            "M48",
+            "METRIC",
+            ";FILE_FORMAT=3:3",
+            *(f"T{t}C{size(t, MM)}" for t in ONLY_PLATED),
+            "%",
+            *hits(no_leading(MM, 3), ONLY_PLATED, "T{}"),
+            "M30",
+        ),
+        {},
+    ),
 }
 PADS = made.gerber(*made.flash(10, *((x / 1000, y / 1000) for x, y, _ in sorted(PLATED))))
 
@@ -261,32 +510,76 @@ class NearMisses(Case):
     def test_contradictions(self):
         """What is said in two ways, in a file or beside it, is refused by name."""
         name, drilled, beside = SAID["altium"]
-        for old, new, words in ((";FILE_FORMAT=2:5", ";FILE_FORMAT=2:5\r\n;FILE_FORMAT=2:4", "lines 3 and 4 say different digits"),
-                                ("INCH,LZ", "INCH,LZ\r\nINCH,TZ", "of leading and of trailing zeros"), ("INCH,LZ", "INCH,LZ\r\nM71", "different units"),
-                                ("INCH,LZ", "INCH,LZ,000.000", "different digits"), ("INCH,LZ", "INCH,TZ", "which is none of 2.5, leading zeros left out"),
-                                ("2:5", "3:5", "by it 0 of 290 holes lie on middles of pads")):
+        for old, new, words in (
+            (";FILE_FORMAT=2:5", ";FILE_FORMAT=2:5\r\n;FILE_FORMAT=2:4", "lines 3 and 4 say different digits"),
+            ("INCH,LZ", "INCH,LZ\r\nINCH,TZ", "of leading and of trailing zeros"),
+            ("INCH,LZ", "INCH,LZ\r\nM71", "different units"),
+            ("INCH,LZ", "INCH,LZ,000.000", "different digits"),
+            ("INCH,LZ", "INCH,TZ", "which is none of 2.5, leading zeros left out"),
+            ("2:5", "3:5", "by it 0 of 290 holes lie on middles of pads"),
+        ):
             self.refused(name, drilled.replace(old, new), (), words)
-        for words, why in (("absolute / inch", "says another unit"), ("incremental / metric", "says that places are steps")):
-            its = text("M48", "; FORMAT={3:3/ " + words + " / keep zeros}", "METRIC", "T1C0.5", "%", "T1", "X005000Y005000", "M30")
+        for words, why in (
+            ("absolute / inch", "says another unit"),
+            ("incremental / metric", "says that places are steps"),
+        ):
+            its = text(
+                "M48",
+                "; FORMAT={3:3/ " + words + " / keep zeros}",
+                "METRIC",
+                "T1C0.5",
+                "%",
+                "T1",
+                "X005000Y005000",
+                "M30",
+            )
             self.refused("m.drl", its, (), why)
         name, drilled, beside = SAID["allegro metric"]
-        rows = ((("4.4", "3.4"), ""), (("4.4", "4.5"), "by it 0 of 290 holes"), (("METRIC", "ENGLISH"), "by it 0 of 290 holes"), (("ABSOLUTE", "INCREMENTAL"), "COORDINATES"),
-                (("OUTPUT-UNITS", "FORMAT 3.3\nOUTPUT-UNITS"), "says FORMAT in two ways"),
-                (("TRAIL-ZEROES     NO", "TRAIL-ZEROES     YES"), "leading and trailing zeros are left out"))
+        rows = (
+            (("4.4", "3.4"), ""),
+            (("4.4", "4.5"), "by it 0 of 290 holes"),
+            (("METRIC", "ENGLISH"), "by it 0 of 290 holes"),
+            (("ABSOLUTE", "INCREMENTAL"), "COORDINATES"),
+            (("OUTPUT-UNITS", "FORMAT 3.3\nOUTPUT-UNITS"), "says FORMAT in two ways"),
+            (("TRAIL-ZEROES     NO", "TRAIL-ZEROES     YES"), "leading and trailing zeros are left out"),
+        )
         for (old, new), words in rows:
             if words:
                 self.refused(name, drilled, {"nc_param.txt": beside["nc_param.txt"].replace(old, new)}, words)
             else:
-                self.assertEqual(set(read(self.mended(name, drilled, {"nc_param.txt": beside["nc_param.txt"].replace(old, new)})[0])), PLATED)
-        self.refused(*SAID["allegro enhanced"][:2], {"nc_param.txt": FULL_25}, "it says a unit of millimetres, and nc_param.txt beside it inches")
-        self.refused(*SAID["allegro"][:2], {"nc_param.txt": FULL_25.replace("2.5", "2.4")}, "which is none of 2.4, as nc_param.txt beside it says FORMAT 2.4")
+                self.assertEqual(
+                    set(
+                        read(self.mended(name, drilled, {"nc_param.txt": beside["nc_param.txt"].replace(old, new)})[0])
+                    ),
+                    PLATED,
+                )
+        self.refused(
+            *SAID["allegro enhanced"][:2],
+            {"nc_param.txt": FULL_25},
+            "it says a unit of millimetres, and nc_param.txt beside it inches",
+        )
+        self.refused(
+            *SAID["allegro"][:2],
+            {"nc_param.txt": FULL_25.replace("2.5", "2.4")},
+            "which is none of 2.4, as nc_param.txt beside it says FORMAT 2.4",
+        )
 
     def test_another_board_beside(self):
         """An Eagle file's companion names the file's own tools and their holes, or it is that of another."""
         name, drilled, beside = SAID["eagle 6"]
-        for old, new in (("0.0200inch", "0.0210inch"), (f"inch   {len(HOLES[1])}", f"inch   {len(HOLES[1]) - 1}"), (" T02 ", " T07 "), ("Absolute", "Incremental")):
+        for old, new in (
+            ("0.0200inch", "0.0210inch"),
+            (f"inch   {len(HOLES[1])}", f"inch   {len(HOLES[1]) - 1}"),
+            (" T02 ", " T07 "),
+            ("Absolute", "Incremental"),
+        ):
             self.refused(name, drilled, {"mini.dri": beside["mini.dri"].replace(old, new)}, "no one meaning")
-        self.refused(name, drilled, {"mini.dri": beside["mini.dri"].replace("10000 Inch", "1000 mm")}, "it says a unit of inches, and mini.dri beside it millimetres")
+        self.refused(
+            name,
+            drilled,
+            {"mini.dri": beside["mini.dri"].replace("10000 Inch", "1000 mm")},
+            "it says a unit of inches, and mini.dri beside it millimetres",
+        )
         # One of another name says nothing.
         self.assertEqual(len(self.mended(name, drilled, {"other.dri": beside["mini.dri"]}, folder="c")[2]), 1)
 
@@ -301,6 +594,7 @@ class NearMisses(Case):
             data, _, doubts = self.mended(name, its, copper=copper)
             self.assertEqual(not doubts, b"." not in data.split(b"%")[1])
             return len(doubts)
+
         self.assertEqual([asked(holes[:n]) for n in (7, 8, 9)], [0, 1, 1])
         off = "X1234Y1234"
         self.assertEqual([asked([off, *holes[:n]]) for n in (8, 18, 19)], [0, 0, 1])
@@ -326,22 +620,41 @@ class NearMisses(Case):
         self.assertIn(b"M72", self.mended(name, late)[0])
         name, drilled, _ = SILENT["orcad, pads"]
         self.assertNotIn(b"M48", self.mended(name, drilled.replace("T2C0.040", "T1C0.040"))[0])
-        self.assertIn(b"\nT2C0.040C0.041F200S100\n", self.mended(name, drilled.replace("T2C0.040", "T2C0.040C0.041"))[0])
+        self.assertIn(
+            b"\nT2C0.040C0.041F200S100\n", self.mended(name, drilled.replace("T2C0.040", "T2C0.040C0.041"))[0]
+        )
 
     def test_plating_goes_with_a_tool(self):
         """What a comment says of a tool that the body defines goes to the header with it; where it says it of what stays, there is no header."""
-        own, of_allegro = "; #@! TA.AperFunction,NonPlated,NPTH", ";T02 Holesize 2. = 1.0 Tolerance = +0.0/-0.0 NON_PLATED MM Quantity = 1"
-        rows = ((("%", "M71", "T1C0.4", "X1.0Y1.0", own, "T2C1.0", "X2.0Y2.0"), 7), (("M48", "METRIC", "%", "T1C0.4", "X1.0Y1.0", own, "T2C1.0", "X2.0Y2.0"), 8),
-                (("%", "M71", "T1C0.4", "X1.0Y1.0", of_allegro, "T2C1.0", "X2.0Y2.0"), 7), ((";TYPE=PLATED", "%", "M71", "T1C0.4", "X1.0Y1.0", ";TYPE=NON_PLATED", "X2.0Y2.0"), 7))
+        own, of_allegro = (
+            "; #@! TA.AperFunction,NonPlated,NPTH",
+            ";T02 Holesize 2. = 1.0 Tolerance = +0.0/-0.0 NON_PLATED MM Quantity = 1",
+        )
+        rows = (
+            (("%", "M71", "T1C0.4", "X1.0Y1.0", own, "T2C1.0", "X2.0Y2.0"), 7),
+            (("M48", "METRIC", "%", "T1C0.4", "X1.0Y1.0", own, "T2C1.0", "X2.0Y2.0"), 8),
+            (("%", "M71", "T1C0.4", "X1.0Y1.0", of_allegro, "T2C1.0", "X2.0Y2.0"), 7),
+            ((";TYPE=PLATED", "%", "M71", "T1C0.4", "X1.0Y1.0", ";TYPE=NON_PLATED", "X2.0Y2.0"), 7),
+        )
         rows += ((("M48", "METRIC", ";TYPE=PLATED", "T1C0.4", "%", "T1", "X1.0Y1.0", ";TYPE=NON_PLATED", "R1X5.0"), 9),)
         for lines, line in rows:
             self.assertEqual(drill_plating.unplated_hole(text(*lines, "M30").encode()), line, lines)
-        data, _, _ = self.mended("m.drl", text(";TYPE=PLATED", "%", "M71", "T1C0.4", "X1.0Y1.0", ";TYPE=NON_PLATED", "T2C1.0", "X2.0Y2.0", "M30"))
+        data, _, _ = self.mended(
+            "m.drl",
+            text(";TYPE=PLATED", "%", "M71", "T1C0.4", "X1.0Y1.0", ";TYPE=NON_PLATED", "T2C1.0", "X2.0Y2.0", "M30"),
+        )
         self.assertEqual(read(data), [(1000, 1000, 400)])
-        for lines in (("%", "M71", "T1C0.4", own, "X1.0Y1.0", "T2C1.0", "X2.0Y2.0"), ("%", "M71", "T1C0.4", "X1.0Y1.0", own, "T1C0.4", "X2.0Y2.0"),
-                      ("M48", "METRIC", "T1C0.4", "%", "T1", "X1.0Y1.0", own, "T1C0.4", "X2.0Y2.0")):
+        for lines in (
+            ("%", "M71", "T1C0.4", own, "X1.0Y1.0", "T2C1.0", "X2.0Y2.0"),
+            ("%", "M71", "T1C0.4", "X1.0Y1.0", own, "T1C0.4", "X2.0Y2.0"),
+            ("M48", "METRIC", "T1C0.4", "%", "T1", "X1.0Y1.0", own, "T1C0.4", "X2.0Y2.0"),
+        ):
             its = text(*lines, "M30").encode()
-            self.assertEqual(drill_mends.mended(its, drill_numbers.settled("m.drl", its, ""))[0].count(b"T1C0.4"), its.count(b"T1C0.4"), lines)
+            self.assertEqual(
+                drill_mends.mended(its, drill_numbers.settled("m.drl", its, ""))[0].count(b"T1C0.4"),
+                its.count(b"T1C0.4"),
+                lines,
+            )
 
     def test_counts(self):
         """Stops between tools, and repeats, are read where as many holes are there as the comments say."""
@@ -395,13 +708,37 @@ class GerberDrills(Case):
 
     def test_refused(self):
         """All that is neither a hole nor a slot, with its line."""
-        rows = (("C,1.2*", "R,1.2X1*", "line 15: a hole is no flash"), ("C,1.2*", "C,1.2X0.3*", "no flash or draw of a circle"),
-                ("TA.AperFunction,ComponentDrill", "TA.AperFunction,NonPlated,NPTH,ComponentDrill", "line 5: it calls holes unplated"),
-                ("%TA.AperFunction,ComponentDrill*%", "G04 #@! TA.AperFunction,BackDrill*", "line 5: it calls holes unplated"), ("D01*", "I100J0D01*", "centre"),
-                ("G75*", "G75*\nG02*", "a slot is an arc"), ("D11*", "%LPC*%D11*", "is clear"), ("D11*", "%SRX2Y1I1.0J0*%D11*", "repeats"), ("D11*", "%ABD12*%D11*", "block"),
-                ("D11*", "%LR90*%D11*", "turns"), ("D11*", "G36*", "region"), ("FSLAX", "FSTAX", "line 2: its format"), ("FSLAX", "FSLIX", "format"), ("M02*\n", "", "no end"),
-                ("%MOMM*%\n", "", "before its unit"), ("G75*", "G91*", "not read"), ("-300000D01", "-300000", "no code"), ("G01*", "%IPNEG*%", "not read"),
-                ("G01*", "%TF.FilePolarity,Negative*%", "negative"), ("%ADD11C", "%ADD10C", "twice"), ("Plated,1,2,PTH,Drill*%", "Plated,1,2*%%TF.FileFunction,NonPlated*%", "no one"))
+        rows = (
+            ("C,1.2*", "R,1.2X1*", "line 15: a hole is no flash"),
+            ("C,1.2*", "C,1.2X0.3*", "no flash or draw of a circle"),
+            (
+                "TA.AperFunction,ComponentDrill",
+                "TA.AperFunction,NonPlated,NPTH,ComponentDrill",
+                "line 5: it calls holes unplated",
+            ),
+            (
+                "%TA.AperFunction,ComponentDrill*%",
+                "G04 #@! TA.AperFunction,BackDrill*",
+                "line 5: it calls holes unplated",
+            ),
+            ("D01*", "I100J0D01*", "centre"),
+            ("G75*", "G75*\nG02*", "a slot is an arc"),
+            ("D11*", "%LPC*%D11*", "is clear"),
+            ("D11*", "%SRX2Y1I1.0J0*%D11*", "repeats"),
+            ("D11*", "%ABD12*%D11*", "block"),
+            ("D11*", "%LR90*%D11*", "turns"),
+            ("D11*", "G36*", "region"),
+            ("FSLAX", "FSTAX", "line 2: its format"),
+            ("FSLAX", "FSLIX", "format"),
+            ("M02*\n", "", "no end"),
+            ("%MOMM*%\n", "", "before its unit"),
+            ("G75*", "G91*", "not read"),
+            ("-300000D01", "-300000", "no code"),
+            ("G01*", "%IPNEG*%", "not read"),
+            ("G01*", "%TF.FilePolarity,Negative*%", "negative"),
+            ("%ADD11C", "%ADD10C", "twice"),
+            ("Plated,1,2,PTH,Drill*%", "Plated,1,2*%%TF.FileFunction,NonPlated*%", "no one"),
+        )
         for old, new, words in rows:
             self.assertIn(old, GERBER)
             with self.subTest(words, new=new), self.assertRaises(Refused) as caught:
@@ -430,12 +767,19 @@ class Shown(made.Case):
     def files(self, writer, forms):
         name, drilled, beside = forms[writer]
         pads = made.flash(10, *((x / 1000, y / 1000) for x, y, _ in sorted(PLATED)))
-        nets = [made.record(f"N{k}", f"J1.{k}", x / 1000, y / 1000, "00") for k, (x, y, _) in enumerate(sorted(PLATED), 1)]
+        nets = [
+            made.record(f"N{k}", f"J1.{k}", x / 1000, y / 1000, "00") for k, (x, y, _) in enumerate(sorted(PLATED), 1)
+        ]
         first, second = (sorted(PLATED).index((x * STEP, 470 * STEP, SIZES[2])) for x in (100, 120))
         track = self.track(0)
         nets[second] = nets[second].replace(f"N{second + 1} ", f"N{first + 1} ")
-        return {"top.gbr": "%TF.FileFunction,Copper,L1,Top*%\n" + made.gerber(*pads, *track), "bot.gbr": "%TF.FileFunction,Copper,L2,Bot*%\n" + made.gerber(*pads),
-                "n.ipc": made.netlist(*nets), name: drilled, **beside}
+        return {
+            "top.gbr": "%TF.FileFunction,Copper,L1,Top*%\n" + made.gerber(*pads, *track),
+            "bot.gbr": "%TF.FileFunction,Copper,L2,Bot*%\n" + made.gerber(*pads),
+            "n.ipc": made.netlist(*nets),
+            name: drilled,
+            **beside,
+        }
 
     def test_asked(self):
         """What evidence alone says is told with all else that wants a yes; with the yes a spoilt board is one that differs."""
@@ -443,15 +787,21 @@ class Shown(made.Case):
         name = SILENT["proteus"][0]
         hit = next(line for line in files[name].splitlines() if line.startswith("X"))
         short = self.track(3)
-        spoilt = {"whole": {}, "hole": {name: files[name].replace(hit + "\n", "")},
-                  "short": {"top.gbr": files["top.gbr"].replace("M02*", "\n".join([*short, "M02*"]))},
-                  "draw": {"top.gbr": files["top.gbr"].replace("D01*", "D02*")},
-                  "names": {"n.ipc": exchanged(files["n.ipc"])}}
+        spoilt = {
+            "whole": {},
+            "hole": {name: files[name].replace(hit + "\n", "")},
+            "short": {"top.gbr": files["top.gbr"].replace("M02*", "\n".join([*short, "M02*"]))},
+            "draw": {"top.gbr": files["top.gbr"].replace("D01*", "D02*")},
+            "names": {"n.ipc": exchanged(files["n.ipc"])},
+        }
         for row, changed in spoilt.items():
             board = self.board({**files, **changed}, row)
             status, out, _ = self.show(board)
             self.assertEqual(status, 10)
-            self.assertIn("would be taken: mini - CADCAM Drill.DRL as a drill file of 3.3 millimetres, leading zeros left out: ", out)
+            self.assertIn(
+                "would be taken: mini - CADCAM Drill.DRL as a drill file of 3.3 millimetres, leading zeros left out: ",
+                out,
+            )
             self.assertIn("would be taken: mini - CADCAM Drill.DRL as plated holes", out)
             status, out, _ = self.show(board, "--yes")
             self.assertEqual(status, 0 if row == "whole" else 1, (row, out))
@@ -460,7 +810,10 @@ class Shown(made.Case):
     def test_said(self):
         """What is said wants no yes for that; an unplated hole that was plated is an open."""
         files = self.files("allegro repeats", SAID)
-        for row, (old, new), wanted in (("whole", ("", ""), 0), ("unplated", (" PLATED MILS Quantity = 150", " NON_PLATED MILS Quantity = 150"), 1)):
+        for row, (old, new), wanted in (
+            ("whole", ("", ""), 0),
+            ("unplated", (" PLATED MILS Quantity = 150", " NON_PLATED MILS Quantity = 150"), 1),
+        ):
             name = SAID["allegro repeats"][0]
             board = self.board({**files, name: files[name].replace(old, new)}, row)
             status, out, _ = self.show(board, "--yes")
@@ -471,7 +824,10 @@ class Shown(made.Case):
         files = self.files("eagle 9", SAID)
         sorted_files = {("Gerber/" if name.endswith(".gbr") else "Drill/") + name: text for name, text in files.items()}
         self.board({f"CAM/{name}": text for name, text in sorted_files.items()}, "nest")
-        told = [self.show(self.board(its, row), "--yes")[:2] for row, its in (("flat", files), ("folders", sorted_files), ("nest", {}))]
+        told = [
+            self.show(self.board(its, row), "--yes")[:2]
+            for row, its in (("flat", files), ("folders", sorted_files), ("nest", {}))
+        ]
         self.assertEqual([status for status, _ in told], [0, 0, 0])
         self.assertEqual(told[0][1].replace("flat:", "folders:"), told[1][1])
         self.board({"CAM/Other/top.gbr": files["top.gbr"]}, "nest")

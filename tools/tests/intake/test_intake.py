@@ -30,11 +30,22 @@ class Names(made.Case):
     def test_archives(self):
         """Names of an archive's manifest lead to files of the archive, by whatever way they say it."""
         self.write("top.gbr", TOP)
-        for name in ("../../dev/zero", "../../../../../../dev/zero", "/dev/zero", "/dev/stdin", "../top.gbr", self.path("top.gbr"), ".", "../unpacked"):
+        for name in (
+            "../../dev/zero",
+            "../../../../../../dev/zero",
+            "/dev/zero",
+            "/dev/stdin",
+            "../top.gbr",
+            self.path("top.gbr"),
+            ".",
+            "../unpacked",
+        ):
             for key, value in (("copper", [name]), ("netlist", name), ("drills", [{"file": name, "from": 1, "to": 1}])):
                 with self.subTest(name=name, key=key):
                     self.archive({**BOARD, "m.json": naming(**{key: value})})
-                    self.assertEqual(self.show("b.zip", "-q")[:2], (4, f"b.zip: {name}: cannot be read: it is not in the archive\n"))
+                    self.assertEqual(
+                        self.show("b.zip", "-q")[:2], (4, f"b.zip: {name}: cannot be read: it is not in the archive\n")
+                    )
         for name in ("top.gbr", "./top.gbr", "../unpacked/top.gbr"):
             self.archive({**BOARD, "m.json": naming(copper=[name])})
             self.assertEqual(self.show("b.zip", "-q")[:2], (0, "b.zip: agrees\n"), name)
@@ -52,8 +63,13 @@ class Names(made.Case):
         status, out, _ = self.show("b.zip", "-q")
         self.assertNotIn(status, (0, 1), out)
         if made.built():
-            self.assertEqual(self.show("b.zip", "-q", program=made.built())[:2],
-                             (3, "b.zip: top.gbr: Gerber 3 NotEnded at command 1, byte 0; line 1 of top.gbr; to export: the file anew: it is cut off\n"))
+            self.assertEqual(
+                self.show("b.zip", "-q", program=made.built())[:2],
+                (
+                    3,
+                    "b.zip: top.gbr: Gerber 3 NotEnded at command 1, byte 0; line 1 of top.gbr; to export: the file anew: it is cut off\n",
+                ),
+            )
 
     def test_no_plain_files(self):
         """Devices, pipes and what links lead to are not read; plain files elsewhere are, as a manifest by hand names them."""
@@ -65,7 +81,9 @@ class Names(made.Case):
                     if os.path.exists(path):
                         os.remove(path)
                     os.mkfifo(path) if kind == "pipe" else os.symlink("/dev/zero", path)
-                    self.assertEqual(self.show(folder, "-q")[:2], (4, f"{folder}: {name}: cannot be read: it is no plain file\n"))
+                    self.assertEqual(
+                        self.show(folder, "-q")[:2], (4, f"{folder}: {name}: cannot be read: it is no plain file\n")
+                    )
         self.board({**BOARD, "m.json": naming(copper=["/dev/zero"])})
         self.assertEqual(self.show("board", "-q")[:2], (4, "board: /dev/zero: cannot be read: it is no plain file\n"))
         os.makedirs(self.path("board", "sub"))
@@ -96,7 +114,9 @@ class Names(made.Case):
         """A file of the board may have the name that the report has in our folder, and is kept with it."""
         for name in ("report.txt", "./report.txt", "report1.txt", "lower.json", "counts.txt", "names.ipc"):
             with self.subTest(name=name):
-                folder = self.board({"m.json": naming(netlist=name), "top.gbr": TOP, name: NET}, f"board{name.replace('/', '')}")
+                folder = self.board(
+                    {"m.json": naming(netlist=name), "top.gbr": TOP, name: NET}, f"board{name.replace('/', '')}"
+                )
                 kept = f"kept{folder}"
                 self.assertEqual(self.show(folder, "-q", "--keep", kept)[:2], (0, f"{folder}: agrees\n"))
                 self.assertEqual(self.read(f"{kept}/{name}"), NET)

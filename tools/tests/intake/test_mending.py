@@ -24,7 +24,13 @@ X5.0Y5.0
 M30
 """
 TOLD = "p.drl: line 3, `; #@! TF.FileFunction,MixedPlating,1,2`, and each tool says whether it is plated: the holes of the unplated ones (T2) are left out, 1 line"
-BOARD = {"m.json": manifest(("top.gbr", "bot.gbr"), [("p.drl", 1, 2)]), "top.gbr": TOP, "bot.gbr": TRACK, "p.drl": DRILL, "n.ipc": POINTS}
+BOARD = {
+    "m.json": manifest(("top.gbr", "bot.gbr"), [("p.drl", 1, 2)]),
+    "top.gbr": TOP,
+    "bot.gbr": TRACK,
+    "p.drl": DRILL,
+    "n.ipc": POINTS,
+}
 
 
 class Answers(made.Case):
@@ -44,20 +50,41 @@ class Answers(made.Case):
         for program in self.over_both():
             _, out, _ = self.show("board", "--page", "p.html", "--record", "r.json", program=program)
             page = self.read("p.html")
-            self.assertIn('<p class="verdict">Agrees, after 1 mend. The copper joins exactly the points that the netlist joins.</p>', page)
-            self.assertIn("The report was audited: it is true of these files, with copies in place of p.drl (mended). ", page)
+            self.assertIn(
+                '<p class="verdict">Agrees, after 1 mend. The copper joins exactly the points that the netlist joins.</p>',
+                page,
+            )
+            self.assertIn(
+                "The report was audited: it is true of these files, with copies in place of p.drl (mended). ", page
+            )
             self.assertIn("<td>agrees, after 1 mend (status 0)</td>", page)
-            self.assertIn("the record is of these files, and its report passes the audit on the copies that were judged", self.show("board", "--verify", "r.json", program=program)[1])
+            self.assertIn(
+                "the record is of these files, and its report passes the audit on the copies that were judged",
+                self.show("board", "--verify", "r.json", program=program)[1],
+            )
         self.board({**BOARD, "p.drl": DRILL.replace("MixedPlating", "Plated").replace("T2\nX5.0Y5.0\n", "")})
         self.show("board", "--page", "p.html")
-        self.assertTrue('<p class="verdict">Agrees. The copper joins ' in self.read("p.html") and "it is true of these files. " in self.read("p.html"))
+        self.assertTrue(
+            '<p class="verdict">Agrees. The copper joins ' in self.read("p.html")
+            and "it is true of these files. " in self.read("p.html")
+        )
 
     def test_differs(self):
         """A hole of an unplated tool joins nothing, and lines are those of the file as it is."""
         middle = gerber(*flash(10, (0, 0), (10, 0), (5, 0)))
-        self.board({**BOARD, "top.gbr": middle, "bot.gbr": gerber(*flash(10, (0, 0), (10, 0), (5, 0))), "n.ipc": netlist(record("SIG", "J1.1", 5, 0, "00"))})
+        self.board(
+            {
+                **BOARD,
+                "top.gbr": middle,
+                "bot.gbr": gerber(*flash(10, (0, 0), (10, 0), (5, 0))),
+                "n.ipc": netlist(record("SIG", "J1.1", 5, 0, "00")),
+            }
+        )
         status, out, _ = self.show("board")
-        self.assertEqual((status, out.splitlines()[0]), (1, "board: differs, opens 1, shorts 0, missing 0, after 1 mend (audit true)"))
+        self.assertEqual(
+            (status, out.splitlines()[0]),
+            (1, "board: differs, opens 1, shorts 0, missing 0, after 1 mend (audit true)"),
+        )
 
     def test_nothing_to_mend(self):
         files = {**BOARD, "p.drl": DRILL.replace("MixedPlating", "Plated").replace("T2\nX5.0Y5.0\n", "")}
@@ -71,8 +98,13 @@ class Answers(made.Case):
         for number, program in enumerate(self.over_both()):
             self.board(BOARD)
             self.assertEqual(self.show("board", "--keep", f"kept{number}", program=program)[0], 0)
-            self.assertEqual(self.read(f"kept{number}/p.drl"), DRILL.replace("MixedPlating", "Plated").replace("X5.0Y5.0", ""))
-            self.assertEqual(self.run_words([program, "audit", "m.json", "report.txt"], self.path(f"kept{number}"))[:2], (0, "audit true\n"))
+            self.assertEqual(
+                self.read(f"kept{number}/p.drl"), DRILL.replace("MixedPlating", "Plated").replace("X5.0Y5.0", "")
+            )
+            self.assertEqual(
+                self.run_words([program, "audit", "m.json", "report.txt"], self.path(f"kept{number}"))[:2],
+                (0, "audit true\n"),
+            )
 
     def test_between_bounds(self):
         """Copper outside the profile beside a mend: the answer says both."""
@@ -86,12 +118,23 @@ class Answers(made.Case):
         if not made.built():
             self.skipTest("the program is not built")
         rows = [
-            ({"p.drl": DRILL.replace("; #@! TA.AperFunction,NonPlated,NPTH,ComponentDrill\n", "")},
-             "drill 13 MixedPlating at line 3, byte 31; to export: KiCad: Generate Drill Files, 'PTH and NPTH in single file' off (kicad-cli: --excellon-separate-th)"),
-            ({"p.drl": DRILL.replace("MixedPlating", "Plated")}, "line 14 makes a hole that the file itself calls unplated, and what it says of the others does not fit or is missing"),
-            ({"p.drl": DRILL.replace("X0.0", "X0")}, "drill 6 ImpliedDecimals at line 11, byte 194, after 1 mend; to export: KiCad: Generate Drill Files, zeros format 'Decimal format' "
-             "(kicad-cli: --excellon-zeros-format decimal)"),
-            ({"bot.gbr": TRACK.replace("D11*", "G91*\nD11*")}, "Gerber 9 Incremental at command 9, byte 98, after 1 mend; line 9 of bot.gbr; to export: absolute coordinates"),
+            (
+                {"p.drl": DRILL.replace("; #@! TA.AperFunction,NonPlated,NPTH,ComponentDrill\n", "")},
+                "drill 13 MixedPlating at line 3, byte 31; to export: KiCad: Generate Drill Files, 'PTH and NPTH in single file' off (kicad-cli: --excellon-separate-th)",
+            ),
+            (
+                {"p.drl": DRILL.replace("MixedPlating", "Plated")},
+                "line 14 makes a hole that the file itself calls unplated, and what it says of the others does not fit or is missing",
+            ),
+            (
+                {"p.drl": DRILL.replace("X0.0", "X0")},
+                "drill 6 ImpliedDecimals at line 11, byte 194, after 1 mend; to export: KiCad: Generate Drill Files, zeros format 'Decimal format' "
+                "(kicad-cli: --excellon-zeros-format decimal)",
+            ),
+            (
+                {"bot.gbr": TRACK.replace("D11*", "G91*\nD11*")},
+                "Gerber 9 Incremental at command 9, byte 98, after 1 mend; line 9 of bot.gbr; to export: absolute coordinates",
+            ),
         ]
         for files, words in rows:
             self.board({**BOARD, **files})
@@ -102,21 +145,35 @@ class Answers(made.Case):
     def test_one_whole_name(self):
         """Two aliases of one name: pads that stand apart are open, joined ones agree; what is unclear is refused."""
         aliases = "P  NNAME1  the whole name\nP  NNAME2  the whole name\n"
-        apart, joined = gerber(*flash(10, (0, 0), (5, 0))), gerber(*flash(10, (0, 0), (5, 0)), *draw(11, (0, 0), (5, 0)))
+        apart, joined = gerber(*flash(10, (0, 0), (5, 0))), gerber(
+            *flash(10, (0, 0), (5, 0)), *draw(11, (0, 0), (5, 0))
+        )
         points = aliases + netlist(record("NNAME1", "U1.1", 0, 0), record("NNAME2", "U1.2", 5, 0))
         told = "mended: n.ipc: line 5, `NNAME2`, stands for the same name as NNAME1: written as that"
         for program in self.over_both():
-            for number, (text, status, line) in enumerate(((apart, 1, "differs, opens 1, shorts 0, missing 0"), (joined, 0, "agrees"))):
+            for number, (text, status, line) in enumerate(
+                ((apart, 1, "differs, opens 1, shorts 0, missing 0"), (joined, 0, "agrees"))
+            ):
                 self.board({"m.json": manifest(), "top.gbr": text, "n.ipc": points}, f"row{number}")
                 done, out, _ = self.show(f"row{number}", program=program)
-                self.assertEqual((done, out.splitlines()[:2]), (status, [f"row{number}: {line}, after 1 mend (audit true)", told]))
+                self.assertEqual(
+                    (done, out.splitlines()[:2]), (status, [f"row{number}: {line}, after 1 mend (audit true)", told])
+                )
             self.assertIn("the whole name is in 2 parts", self.show("row0", program=program)[1])
         self.write("row0/n.ipc", points.replace("NNAME2  the", "NNAME1  the other"))
-        self.assertEqual(self.show("row0")[:2], (3, "row0: n.ipc: NNAME1 stands for two names: have each name stand for one net, and each net have one name\n"))
+        self.assertEqual(
+            self.show("row0")[:2],
+            (
+                3,
+                "row0: n.ipc: NNAME1 stands for two names: have each name stand for one net, and each net have one name\n",
+            ),
+        )
 
     def test_a_netlist_elsewhere(self):
         """A netlist that a manifest names by its whole path has no copy under that name."""
-        points = "P  NNAME1  A\nP  NNAME2  A\n" + netlist(record("NNAME1", "U1.1", 0, 0), record("NNAME2", "U1.2", 5, 0))
+        points = "P  NNAME1  A\nP  NNAME2  A\n" + netlist(
+            record("NNAME1", "U1.1", 0, 0), record("NNAME2", "U1.2", 5, 0)
+        )
         path = self.write("else/n.ipc", points)
         self.board({"m.json": manifest().replace("n.ipc", path), "top.gbr": gerber(*flash(10, (0, 0), (5, 0)))})
         self.assertNotEqual(self.show("board")[0], 0)

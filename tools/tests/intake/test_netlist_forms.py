@@ -31,14 +31,29 @@ FORMS = [
     (table.VIA, [UNITS, VIA], [UNITS, with_code(VIA, "317")]),
     (table.VIA, [UNITS, VIA, "C", ONE], [UNITS, with_code(VIA, "317"), "C", ONE]),
     (table.CONTINUED, [UNITS, ONE, behind("A03X+000001Y+000002")], [UNITS, ONE, ONE[:38] + "A03X+000001Y+000002"]),
-    (table.CONTINUED, [UNITS, ONE, with_code(ONE, "027").replace("A01", "A02")], [UNITS, ONE, ONE.replace("A01", "A02")]),
-    (table.CONTINUED, [UNITS, with_code(ONE, "317"), behind("A02", "017")], [UNITS, with_code(ONE, "317"), with_code(ONE, "317").replace("A01", "A02")]),
-    (table.CONTINUED, [UNITS, ONE + "X0100Y0200R000S1", behind("A02X+000001Y+000002X0300Y0000R090")],
-     [UNITS, ONE + "X0100Y0200R000S1", ONE[:38] + "A02X+000001Y+000002X0300Y0000R090"]),
+    (
+        table.CONTINUED,
+        [UNITS, ONE, with_code(ONE, "027").replace("A01", "A02")],
+        [UNITS, ONE, ONE.replace("A01", "A02")],
+    ),
+    (
+        table.CONTINUED,
+        [UNITS, with_code(ONE, "317"), behind("A02", "017")],
+        [UNITS, with_code(ONE, "317"), with_code(ONE, "317").replace("A01", "A02")],
+    ),
+    (
+        table.CONTINUED,
+        [UNITS, ONE + "X0100Y0200R000S1", behind("A02X+000001Y+000002X0300Y0000R090")],
+        [UNITS, ONE + "X0100Y0200R000S1", ONE[:38] + "A02X+000001Y+000002X0300Y0000R090"],
+    ),
     (table.CONTINUED, [UNITS, ONE, with_code(ONE, "027")], [UNITS, ONE, "C " + with_code(ONE, "027")]),
     (table.CONTINUED, [UNITS, ONE, "027\r"], [UNITS, ONE, "C 027\r"]),
     (table.NO_POINT, [UNITS, NOWHERE, ONE], [UNITS, "C " + NOWHERE, ONE]),
-    (table.NO_POINT, [UNITS, "390SOMETHING", "088  L02", ONE, "099"], [UNITS, "C 390SOMETHING", "C 088  L02", ONE, "C 099"]),
+    (
+        table.NO_POINT,
+        [UNITS, "390SOMETHING", "088  L02", ONE, "099"],
+        [UNITS, "C 390SOMETHING", "C 088  L02", ONE, "C 099"],
+    ),
     (table.PAPER, ["\x0c" + UNITS, ONE, "\x0c\r", ONE + "\x0c\r"], [UNITS, ONE, "\r", ONE + "\r"]),
     (table.PAPER, [UNITS, ONE, "999", "\x1a\x1a"], [UNITS, ONE, "999", ""]),
     (table.LAYER, [UNITS, ONE, ONE.replace("A01", "A64")], [UNITS, ONE, ONE.replace("A01", "A06")]),
@@ -48,7 +63,10 @@ SPANS = [
     ([UNITS, VIA, SPAN], [with_code(VIA, "317"), with_code(VIA, "317").replace("A02", "A05")]),
     ([UNITS, VIA.replace("A02", "A05"), SPAN], [with_code(VIA, "317").replace("A02", "A05"), with_code(VIA, "317")]),
     ([UNITS, NOWHERE, SPAN], [with_code(VIA, "317"), with_code(VIA, "317").replace("A02", "A05")]),
-    ([UNITS, NOWHERE, f"027{'':38}X+001000Y+002000  L2 - L5\r"], [with_code(VIA, "317"), with_code(VIA, "317").replace("A02", "A05")]),
+    (
+        [UNITS, NOWHERE, f"027{'':38}X+001000Y+002000  L2 - L5\r"],
+        [with_code(VIA, "317"), with_code(VIA, "317").replace("A02", "A05")],
+    ),
 ]
 # Lines that stay as they are, which `check` refuses, or takes as it takes them.
 STAYS = {
@@ -97,7 +115,10 @@ class Forms(unittest.TestCase):
     def test_all_kinds(self):
         """Each kind of netlists' mends has a row here, or tests of its own."""
         kinds = [row.kind for row in table.ROWS]
-        self.assertEqual({*kinds[kinds.index(table.ALIAS):]} - {table.ALIAS, table.NAME, table.CHARACTERS}, {row[0] for row in FORMS})
+        self.assertEqual(
+            {*kinds[kinds.index(table.ALIAS) :]} - {table.ALIAS, table.NAME, table.CHARACTERS},
+            {row[0] for row in FORMS},
+        )
 
     def test_spans(self):
         for lines, wanted in SPANS:
@@ -118,7 +139,13 @@ class Forms(unittest.TestCase):
             with self.subTest(why):
                 case = made.Case()
                 case.setUp()
-                case.board({"m.json": made.manifest(["top.gbr"] * 6), "top.gbr": made.gerber(), "n.ipc": self.told([UNITS, *lines])[0]})
+                case.board(
+                    {
+                        "m.json": made.manifest(["top.gbr"] * 6),
+                        "top.gbr": made.gerber(),
+                        "n.ipc": self.told([UNITS, *lines])[0],
+                    }
+                )
                 status, _, notes = case.run_words([program, "check", "m.json"], case.path("board"))
                 case.doCleanups()
                 self.assertEqual((status, "n.ipc: netlist" in notes), (3, True), notes)
@@ -149,19 +176,31 @@ class Names(unittest.TestCase):
         return f"327{name:<{width}}   {component:<6}-1          A01X+001000Y+002000"
 
     def test_blanks(self):
-        names, kinds, data = self.told(self.record("MY NET"), self.record("MY_NET"), self.record(" MY NET"), self.record("MY  NET"))
+        names, kinds, data = self.told(
+            self.record("MY NET"), self.record("MY_NET"), self.record(" MY NET"), self.record("MY  NET")
+        )
         self.assertEqual((names, kinds), (["MY NET", "MY_NET", "MY NET", "MY  NET"], [table.NAME]))
-        self.assertEqual(data.decode().split("\n")[-5:], [self.record("NNAME2"), "P  NNAME1  MY NET", "P  NNAME2  MY  NET", "999", ""])
+        self.assertEqual(
+            data.decode().split("\n")[-5:],
+            [self.record("NNAME2"), "P  NNAME1  MY NET", "P  NNAME2  MY  NET", "999", ""],
+        )
         self.assertEqual(netlist_mends.unclear(file_of([UNITS, self.record("MY NET")])), "")
 
     def test_an_alias_that_is_taken(self):
-        names, _, data = self.told("P  NNAME1  MY NET", self.record("NNAME3"), self.record("NNAME1"), self.record("MY NET"))
+        names, _, data = self.told(
+            "P  NNAME1  MY NET", self.record("NNAME3"), self.record("NNAME1"), self.record("MY NET")
+        )
         self.assertEqual(names, ["NNAME3", "MY NET", "MY NET"])
         self.assertEqual(len(set(it.name for it in ipc356.records(data))), 2)
 
     def test_letters(self):
         """Columns of bytes, of characters, of Latin-1; letters in a component alone."""
-        rows = (self.record("GR\u00d6SSE", width=13), self.record("GR\u00d6SSE"), self.record("GR\udcd6SSE"), self.record("GR\u00dcSSE"))
+        rows = (
+            self.record("GR\u00d6SSE", width=13),
+            self.record("GR\u00d6SSE"),
+            self.record("GR\udcd6SSE"),
+            self.record("GR\u00dcSSE"),
+        )
         self.assertEqual(self.told(*rows)[0], ["GR\u00d6SSE"] * 3 + ["GR\u00dcSSE"])
         self.assertEqual(len({it.name for it in ipc356.records(self.told(*rows)[2])}), 2)
         names, _, data = self.told("P  NNAME1  GR\udcd6SSE", self.record("NNAME1"), rows[1])
@@ -170,8 +209,14 @@ class Names(unittest.TestCase):
         self.assertEqual((names, kinds, ipc356.records(data)[0].component), (["GND"], [table.CHARACTERS], "?1"))
 
     def test_stays(self):
-        for line in (self.record("A\tB"), self.record("A\x01B"), self.record("GR\u00d6SSE", width=12), self.record("A B")[:-1], self.record("A B").replace("A01", " A1"),
-                     self.record("\u00c4", "\u00d6")[:-3]):
+        for line in (
+            self.record("A\tB"),
+            self.record("A\x01B"),
+            self.record("GR\u00d6SSE", width=12),
+            self.record("A B")[:-1],
+            self.record("A B").replace("A01", " A1"),
+            self.record("\u00c4", "\u00d6")[:-3],
+        ):
             self.assertEqual(self.told(line)[2], file_of([UNITS, line]), line)
 
     def test_no_end(self):
@@ -188,8 +233,14 @@ class Names(unittest.TestCase):
     def test_names_that_run_on(self):
         """Two names of which the columns have the same are refused; one such name is read as ever."""
         long = "A" * 14
-        rows = [self.record(long + "1", width=15).replace("   ", "  ", 1), self.record(long + "2", width=15).replace("   ", "  ", 1)]
-        self.assertEqual(netlist_mends.unclear(file_of([UNITS, *rows]), 2), f"{long}1 and {long}2 run on behind their columns, and are one name within them")
+        rows = [
+            self.record(long + "1", width=15).replace("   ", "  ", 1),
+            self.record(long + "2", width=15).replace("   ", "  ", 1),
+        ]
+        self.assertEqual(
+            netlist_mends.unclear(file_of([UNITS, *rows]), 2),
+            f"{long}1 and {long}2 run on behind their columns, and are one name within them",
+        )
         for some in (rows[:1], [rows[0], self.record(long)], [self.record(long)] * 2):
             self.assertEqual(netlist_mends.unclear(file_of([UNITS, *some]), 2), "", some)
 
@@ -207,11 +258,18 @@ class Points(made.Case):
         program = common.program()
 
         def points(lines):
-            self.board({"m.json": made.manifest(["top.gbr"] * 6), "top.gbr": made.gerber(*made.flash(10, (1, 2))), "n.ipc": netlist_mends.mended(file_of(lines), 6)[0]})
+            self.board(
+                {
+                    "m.json": made.manifest(["top.gbr"] * 6),
+                    "top.gbr": made.gerber(*made.flash(10, (1, 2))),
+                    "n.ipc": netlist_mends.mended(file_of(lines), 6)[0],
+                }
+            )
             status, out, notes = self.run_words([program, "check", "m.json"], self.path("board"))
             self.assertIn(status, (0, 1), (notes, lines))
             told = Report(out.encode())
             return [(layer, told.names[name], spot) for (_, layer, name, _), spot in zip(told.points, told.spots)]
+
         for _, lines, wanted in FORMS:
             self.assertEqual(points(lines), points(wanted), lines)
         for lines, wanted in SPANS:
@@ -231,10 +289,17 @@ def read_strictly(data, layers):
         if code == b"999":
             has_end = True
         elif code in (b"317", b"327"):
-            name, access, numbers = body[3:17].strip(b" \t") or b"N/C", body[39:41].lstrip(b" \t"), [body[at:at + 8] for at in (41, 49)]
+            name, access, numbers = (
+                body[3:17].strip(b" \t") or b"N/C",
+                body[39:41].lstrip(b" \t"),
+                [body[at : at + 8] for at in (41, 49)],
+            )
             is_name = all(33 <= byte <= 126 for byte in name)
             is_access = body[38:39] == b"A" and len(access) > 0 and access.isdigit() and int(access) <= layers
-            is_place = all(it[:1] == letter and it[1:2] in b" \t+-" and it[2:].lstrip(b" \t").isdigit() for it, letter in zip(numbers, (b"X", b"Y")))
+            is_place = all(
+                it[:1] == letter and it[1:2] in b" \t+-" and it[2:].lstrip(b" \t").isdigit()
+                for it, letter in zip(numbers, (b"X", b"Y"))
+            )
             if not (has_unit and is_name and is_access and is_place):
                 return None
             x, y = (int(it[2:].lstrip(b" \t")) * (-1 if it[1:2] == b"-" else 1) for it in numbers)
@@ -257,7 +322,13 @@ class Tool:
         self.random, self.points, self.lines, self.layers = random.Random(seed), set(), [], 6
         self.is_bottom_16, self.counts_characters = self.random.random() < 0.3, self.random.random() < 0.5
         self.alias = {"a_name_of_over_14": ["NNAME1", "NNAME2"], "NNAME7": ["NNAME3"]}
-        self.lines += ["C a tool", "P  NNAME1  a_name_of_over_14", "P  NNAME2  a_name_of_over_14", "P  NNAME3  NNAME7", self.random.choice(["P  UNITS SI", "P  UNITS CUST 1"])]
+        self.lines += [
+            "C a tool",
+            "P  NNAME1  a_name_of_over_14",
+            "P  NNAME2  a_name_of_over_14",
+            "P  NNAME3  NNAME7",
+            self.random.choice(["P  UNITS SI", "P  UNITS CUST 1"]),
+        ]
         for number in range(self.random.randint(1, 12)):
             self.pin(number)
         self.lines += ["999", *(["\x1a"] if self.random.random() < 0.3 else [])]
@@ -309,7 +380,11 @@ class Tool:
 class Random(unittest.TestCase):
     def points(self, data, layers=6):
         found, whole = read_strictly(data, layers), ipc356.aliases(data)
-        return None if found is None else {(layer, whole.get(name.decode(), name.decode()), x, y) for layer, name, x, y in found}
+        return (
+            None
+            if found is None
+            else {(layer, whole.get(name.decode(), name.decode()), x, y) for layer, name, x, y in found}
+        )
 
     def test_all_points_are_kept(self):
         """Netlists in forms at random: what is read of the mended copy are the points that the tool meant, and names stay as distinct."""
@@ -319,7 +394,7 @@ class Random(unittest.TestCase):
             data, _ = netlist_mends.mended(tool.text(), tool.layers)
             found = self.points(data)
             if tool.is_bottom_16 and found is None:
-                continue            # a bottom of its own code, or of none
+                continue  # a bottom of its own code, or of none
             self.assertEqual(found, tool.points, tool.text().decode())
             taken += 1
         self.assertGreater(taken, 500)
@@ -331,8 +406,18 @@ class Random(unittest.TestCase):
             chance, tool = random.Random(seed), Tool(seed)
             text = tool.text()
             at = chance.randrange(len(text))
-            text = chance.choice([text[:at] + text[at + 1:], text[:at] + text[at:at + 1] + text[at:], text[:at] + chance.choice([b" ", b"0", b"A", b"X"]) + text[at + 1:]])
-            found = None if netlist_mends.unclear(text, tool.layers) else self.points(netlist_mends.mended(text, tool.layers)[0])
+            text = chance.choice(
+                [
+                    text[:at] + text[at + 1 :],
+                    text[:at] + text[at : at + 1] + text[at:],
+                    text[:at] + chance.choice([b" ", b"0", b"A", b"X"]) + text[at + 1 :],
+                ]
+            )
+            found = (
+                None
+                if netlist_mends.unclear(text, tool.layers)
+                else self.points(netlist_mends.mended(text, tool.layers)[0])
+            )
             refused += found is None
             if found is not None:
                 # One line is damaged: a pin with another side, or a via with its span, has two points.

@@ -10,7 +10,17 @@ from tests.fixtures import common, made
 from tests.fixtures.made import draw, flash, gerber, manifest, netlist, record
 
 # Ten pads of nets of two, each joined by a track, at places that both units say exactly.
-AT = [(x, y) for y, xs in ((2.54, (1.016, 5.08)), (7.62, (9.144, 12.7)), (11.43, (2.032, 17.78)), (15.24, (20.32, 7.366)), (19.05, (14.478, 23.114))) for x in xs]
+AT = [
+    (x, y)
+    for y, xs in (
+        (2.54, (1.016, 5.08)),
+        (7.62, (9.144, 12.7)),
+        (11.43, (2.032, 17.78)),
+        (15.24, (20.32, 7.366)),
+        (19.05, (14.478, 23.114)),
+    )
+    for x in xs
+]
 PAIRS = [(AT[k], AT[k + 1]) for k in range(0, 10, 2)]
 NAMES = "ABCDE"
 COPPER = gerber(*flash(10, *AT), *(line for pair in PAIRS for line in draw(11, *pair)))
@@ -58,9 +68,16 @@ class Units(made.Case):
     def test_what_stays_refused(self):
         """Too few points, points beside pads, a unit that is not known, one that comes late, two of them: the refusal of `check`."""
         fits = points()
-        rows = [(lines("", fits[:7]), "MissingUnits"), (lines("", [*fits[:9], record("E", "U9.1", 50, 50)]), "MissingUnits"), (lines("P  UNITS MM", fits), "BadUnits"),
-                ("\n".join([*fits, "P  UNITS CUST 1", "999", ""]), "MissingUnits"), (lines("P  UNITS CUST\nP  UNITS CUST", fits), "BadUnits"),
-                (lines("P  UNITS CUST 1\nP  UNITS CUST 1", fits), "UnitsTwice"), (lines("", fits).replace("999\n", ""), "NotEnded"), (lines("", points(0.01)), "MissingUnits")]
+        rows = [
+            (lines("", fits[:7]), "MissingUnits"),
+            (lines("", [*fits[:9], record("E", "U9.1", 50, 50)]), "MissingUnits"),
+            (lines("P  UNITS MM", fits), "BadUnits"),
+            ("\n".join([*fits, "P  UNITS CUST 1", "999", ""]), "MissingUnits"),
+            (lines("P  UNITS CUST\nP  UNITS CUST", fits), "BadUnits"),
+            (lines("P  UNITS CUST 1\nP  UNITS CUST 1", fits), "UnitsTwice"),
+            (lines("", fits).replace("999\n", ""), "NotEnded"),
+            (lines("", points(0.01)), "MissingUnits"),
+        ]
         for text, kind in rows:
             status, out, _ = self.told(text, COPPER, "--yes")
             self.assertEqual((status, kind in out), (3, True), out)
@@ -70,12 +87,20 @@ class Units(made.Case):
         at = [(x, y) for x in (0.0, 0.254, 0.508) for y in (0.0, 0.254, 0.508)]
         text = lines("", [record("A", f"U{k}.1", x, y) for k, (x, y) in enumerate(at)])
         spots = {(it.x, it.y) for it in ipc356.places(text.encode())}
-        both = {(x * unit / 10 ** 7, y * unit / 10 ** 7) for x, y in spots for unit in (10_000, 25_400)}
+        both = {(x * unit / 10**7, y * unit / 10**7) for x, y in spots for unit in (10_000, 25_400)}
         status, out, _ = self.told(text, gerber(*flash(11, *sorted(both))), "--yes")
         self.assertEqual((status, "MissingUnits" in out), (3, True), out)
 
     def test_what_is_clear(self):
-        rows = [(8, 8, [2], True), (7, 7, [0], False), (95, 100, [31], True), (94, 100, [0], False), (95, 100, [32], False), (9, 9, [3], True), (9, 9, [4], False)]
+        rows = [
+            (8, 8, [2], True),
+            (7, 7, [0], False),
+            (95, 100, [31], True),
+            (94, 100, [0], False),
+            (95, 100, [32], False),
+            (9, 9, [3], True),
+            (9, 9, [4], False),
+        ]
         for count, places, others, answer in rows:
             self.assertEqual(readings.is_clear(count, places, others), answer, (count, places, others))
 
@@ -94,34 +119,66 @@ class Units(made.Case):
         """A place is on a pad where it is at most so far from its middle; other units and formats of copper are read."""
         inches = "%FSLAX24Y24*%\n%MOIN*%\n%ADD10C,.05*%\nD10*\nX10000Y-5000D03*\nX0D02*\nY0D03*\nM02*\n"
         middles = Middles([inches.encode(), b"%FSLAX46Y46*%\nX0D03*\n", b"", gerber(*flash(10, (1, 1))).encode()])
-        self.assertEqual([middles.is_at(spot, 10) for spot in ((254_000_010, -127_000_010), (254_000_011, -127_000_000), (0, 0), (10_000_000, 10_000_000), (0, -127_000_000))],
-                         [True, False, True, True, False])
+        self.assertEqual(
+            [
+                middles.is_at(spot, 10)
+                for spot in (
+                    (254_000_010, -127_000_010),
+                    (254_000_011, -127_000_000),
+                    (0, 0),
+                    (10_000_000, 10_000_000),
+                    (0, -127_000_000),
+                )
+            ],
+            [True, False, True, True, False],
+        )
 
 
 class Layers(made.Case):
     def files(self, code="04", more=()):
         points = [record("A", "J1.1", 0, 0), record("B", "J1.2", 5, 5), record("A", "J2.1", 3, 0, code), *more]
-        return {"m.json": manifest(["top.gbr", "bot.gbr"], [("p.drl", 1, 2)]), "top.gbr": gerber(*flash(10, (0, 0), (5, 5))), "p.drl": made.drill((0.0, 0.0)),
-                "bot.gbr": gerber(*flash(10, (3, 0)), *draw(11, (3, 0), (0, 0))), "n.ipc": netlist(*points)}
+        return {
+            "m.json": manifest(["top.gbr", "bot.gbr"], [("p.drl", 1, 2)]),
+            "top.gbr": gerber(*flash(10, (0, 0), (5, 5))),
+            "p.drl": made.drill((0.0, 0.0)),
+            "bot.gbr": gerber(*flash(10, (3, 0)), *draw(11, (3, 0), (0, 0))),
+            "n.ipc": netlist(*points),
+        }
 
     def test_a_code_over_the_layers(self):
         self.board(self.files())
         status, out, _ = self.show("board")
-        self.assertEqual((status, "would be taken: n.ipc as a netlist whose code A04 is the last layer, 02: no record has that" in out), (10, True), out)
+        self.assertEqual(
+            (
+                status,
+                "would be taken: n.ipc as a netlist whose code A04 is the last layer, 02: no record has that" in out,
+            ),
+            (10, True),
+            out,
+        )
         status, out, _ = self.show("board", "--yes")
-        self.assertEqual((status, "taken as n.ipc as a netlist whose code A04 is the last layer" in out), (0, True), out)
+        self.assertEqual(
+            (status, "taken as n.ipc as a netlist whose code A04 is the last layer" in out), (0, True), out
+        )
         self.board({**self.files(), "bot.gbr": gerber(*flash(10, (3, 0)))})
         self.assertEqual(self.show("board", "--yes")[0], 1)
 
     def test_a_code_of_the_bottom(self):
         self.board(self.files("16"))
         status, out, _ = self.show("board")
-        self.assertEqual((status, out.splitlines()[1]), (0, "mended: n.ipc: line 4, `A16`, is no layer of this board: read as the last, 02"))
+        self.assertEqual(
+            (status, out.splitlines()[1]),
+            (0, "mended: n.ipc: line 4, `A16`, is no layer of this board: read as the last, 02"),
+        )
 
     def test_what_stays_refused(self):
         """Two codes over the layers, one beside that of the last layer, one of vias alone."""
         via = record("A", "VIA", 0, 0, "00").replace("A00", "A07")
-        for files in (self.files(more=[record("A", "J3.1", 3, 0, "03")]), self.files(more=[record("A", "J3.1", 3, 0, "02")]), self.files("01", [via])):
+        for files in (
+            self.files(more=[record("A", "J3.1", 3, 0, "03")]),
+            self.files(more=[record("A", "J3.1", 3, 0, "02")]),
+            self.files("01", [via]),
+        ):
             self.board(files)
             status, out, _ = self.show("board", "--yes", program=common.program())
             self.assertEqual((status, "BadAccess" in out), (3, True), out)
@@ -129,7 +186,16 @@ class Layers(made.Case):
 
 class Notes(made.Case):
     def test_records_that_name_no_point(self):
-        self.board({"m.json": manifest(), "top.gbr": gerber(*flash(10, (0, 0), (5, 5))),
-                    "n.ipc": netlist(record("A", "J1.1", 0, 0), "379A", "379B", "367N/C", record("B", "J1.2", 5, 5))})
+        self.board(
+            {
+                "m.json": manifest(),
+                "top.gbr": gerber(*flash(10, (0, 0), (5, 5))),
+                "n.ipc": netlist(record("A", "J1.1", 0, 0), "379A", "379B", "367N/C", record("B", "J1.2", 5, 5)),
+            }
+        )
         status, out, _ = self.show("board")
-        self.assertEqual((status, "n.ipc: 3 records that name no test point are passed over: 1 of 367 and 2 of 379\n" in out), (0, True), out)
+        self.assertEqual(
+            (status, "n.ipc: 3 records that name no test point are passed over: 1 of 367 and 2 of 379\n" in out),
+            (0, True),
+            out,
+        )

@@ -10,7 +10,11 @@ class Unjudged(made.Case):
         rows = [
             # records, status, what the line has
             ([], 12, "NOTHING WAS JUDGED: the netlist has no test point"),
-            ([record("N/C", "J1.1", 0, 0), record("N/C", "J1.2", 10, 0), record("", "J1.3", 0, 5)], 12, "NOTHING WAS JUDGED: all test points (3) are without net (N/C), "),
+            (
+                [record("N/C", "J1.1", 0, 0), record("N/C", "J1.2", 10, 0), record("", "J1.3", 0, 5)],
+                12,
+                "NOTHING WAS JUDGED: all test points (3) are without net (N/C), ",
+            ),
             ([record("A", "J1.1", 0, 0)], 12, "NOTHING WAS JUDGED: there is one test point alone, of A, "),
             # Two points of one name may be parted, two of other names joined; so may one without net.
             ([record("A", "J1.1", 0, 0), record("A", "J1.2", 10, 0)], 0, "agrees"),
@@ -27,18 +31,33 @@ class Unjudged(made.Case):
 
     def test_own_names(self):
         """The same for the names of the copper."""
-        lines = ["%TF.FileFunction,Copper,L1,Top*%", *(line for k, place in enumerate(((0, 0), (0, 5))) for line in (f"%TO.P,U1,{k}*%", *flash(10, place)))]
+        lines = [
+            "%TF.FileFunction,Copper,L1,Top*%",
+            *(line for k, place in enumerate(((0, 0), (0, 5))) for line in (f"%TO.P,U1,{k}*%", *flash(10, place))),
+        ]
         self.board({"top.gbr": gerber(*lines)})
         status, out, _ = self.show("board")
-        self.assertEqual((status, out.startswith("board: NOTHING WAS JUDGED: all test points (2) are without net (N/C)")), (12, True), out)
+        self.assertEqual(
+            (status, out.startswith("board: NOTHING WAS JUDGED: all test points (2) are without net (N/C)")),
+            (12, True),
+            out,
+        )
 
     def test_joined_pins(self):
         """Records without net on one net are told with their places; twice one pin is one pin."""
         others = [record("A", "J2.1", 0, 5)]
-        note = ("records without net (N/C) are joined: J1 pin 1 (the one layer, 0.000, 0.000 mm) and J1 pin 2 (the one layer, 10.000, 0.000 mm). "
-                "Each such pin should stand alone; a pad and its via may be two records\n")
+        note = (
+            "records without net (N/C) are joined: J1 pin 1 (the one layer, 0.000, 0.000 mm) and J1 pin 2 (the one layer, 10.000, 0.000 mm). "
+            "Each such pin should stand alone; a pad and its via may be two records\n"
+        )
         for program in self.over_both():
             for other, is_told in (("J1.2", True), ("J1.1", False)):
-                self.board({"m.json": manifest(), "top.gbr": COPPER, "n.ipc": netlist(record("N/C", "J1.1", 0, 0), record("N/C", other, 10, 0), *others)})
+                self.board(
+                    {
+                        "m.json": manifest(),
+                        "top.gbr": COPPER,
+                        "n.ipc": netlist(record("N/C", "J1.1", 0, 0), record("N/C", other, 10, 0), *others),
+                    }
+                )
                 status, out, _ = self.show("board", program=program)
                 self.assertEqual((status, note in out, "should stand alone" in out), (0, is_told, is_told), out)

@@ -115,15 +115,22 @@ class Checkout(common.Case):
         self.write(build, self.read(build).replace("MEMORY_OF_A_CHECK = 3 << 30", "MEMORY_OF_A_CHECK = 1"), 0o755)
         # A program that is copied while it runs is no script: this one answers in its place.
         module = f"{name}/tools/launch/trial.py"
-        self.write(module, self.read(module).replace("return data", f"return open({self.write('trial', TRIAL)!r}, 'rb').read()"))
-        self.write(f"{name}/crates.txt", "# lowest first\nlow:\nhigh: low thiserror\nboardnet: high low\nlow_tests: low\n")
+        self.write(
+            module,
+            self.read(module).replace("return data", f"return open({self.write('trial', TRIAL)!r}, 'rb').read()"),
+        )
+        self.write(
+            f"{name}/crates.txt", "# lowest first\nlow:\nhigh: low thiserror\nboardnet: high low\nlow_tests: low\n"
+        )
         for crate in ("low", "high", "boardnet", "low_tests"):
             self.write(f"{name}/crates/{crate}/src/{'main' if crate == 'boardnet' else 'lib'}.rt", "// a source\n")
 
     def environment(self, **more):
         path = self.path("bin") + os.pathsep + os.environ["PATH"]
         os.makedirs(self.path("tmp"), exist_ok=True)
-        return dict(PATH=path, RT_CALLS=self.path("calls"), XDG_CACHE_HOME=self.path("cache"), TMPDIR=self.path("tmp"), **more)
+        return dict(
+            PATH=path, RT_CALLS=self.path("calls"), XDG_CACHE_HOME=self.path("cache"), TMPDIR=self.path("tmp"), **more
+        )
 
     def launch(self, *words, top="top", **more):
         return self.run_words([self.path(top, "boardnet"), *words], environment=self.environment(**more))
@@ -134,8 +141,15 @@ class Checkout(common.Case):
 
     def begun(self, *words, folder="", **more):
         """A call that runs by itself."""
-        how = {"env": dict(os.environ, **self.environment(**more)), "stdout": subprocess.PIPE, "stderr": subprocess.PIPE, "start_new_session": True}
-        running = subprocess.Popen([self.path("top", "boardnet"), *words], cwd=self.path(folder) if folder else self.scratch, **how)
+        how = {
+            "env": dict(os.environ, **self.environment(**more)),
+            "stdout": subprocess.PIPE,
+            "stderr": subprocess.PIPE,
+            "start_new_session": True,
+        }
+        running = subprocess.Popen(
+            [self.path("top", "boardnet"), *words], cwd=self.path(folder) if folder else self.scratch, **how
+        )
         self.addCleanup(running.stdout.close)
         self.addCleanup(running.stderr.close)
         return running
@@ -170,7 +184,14 @@ class Checkout(common.Case):
 
     def nothing_is_left(self):
         self.assertEqual(os.listdir(self.path("tmp")), [])
-        self.assertEqual([name for name in os.listdir(self.path("cache")) if name not in ("boardnet", "boardnet-proved", "boardnet-python", "boardnet-trials")], [])
+        self.assertEqual(
+            [
+                name
+                for name in os.listdir(self.path("cache"))
+                if name not in ("boardnet", "boardnet-proved", "boardnet-python", "boardnet-trials")
+            ],
+            [],
+        )
         inside = [name for name in os.listdir("/proc") if name.isdigit() and self.works_here(name)]
         self.assertEqual(inside, [])
 
@@ -233,7 +254,11 @@ class Build(Checkout):
         self.assertEqual([k for k, path in enumerate(kept) if not os.path.exists(path)], [0, 1, 2])
 
     def test_a_call_waits_for_another(self):
-        how = {"env": dict(os.environ, **self.environment(RT_PROOF="held")), "stdout": subprocess.PIPE, "stderr": subprocess.PIPE}
+        how = {
+            "env": dict(os.environ, **self.environment(RT_PROOF="held")),
+            "stdout": subprocess.PIPE,
+            "stderr": subprocess.PIPE,
+        }
         calls = [subprocess.Popen([self.path("top", "boardnet"), "--wait", "x"], cwd=self.scratch, **how)]
         self.wait_for(": build high")
         calls.append(subprocess.Popen([self.path("top", "boardnet"), "--wait", "y"], cwd=self.scratch, **how))
@@ -255,7 +280,9 @@ class Build(Checkout):
         self.assertEqual([name for name in os.listdir(self.path("cache")) if "proof" in name], [])
 
     def test_memory_does_not_last(self):
-        self.assertEqual((self.waited("x", RT_PROOF="large")[1], self.calls()), ("built x\n", ["low", "high", "high", "boardnet"]))
+        self.assertEqual(
+            (self.waited("x", RT_PROOF="large")[1], self.calls()), ("built x\n", ["low", "high", "high", "boardnet"])
+        )
 
     def test_another_user(self):
         """What lies in a folder of another user does not count as proved."""
@@ -264,7 +291,10 @@ class Build(Checkout):
         os.makedirs(self.path("cache", "boardnet-proved"))
         os.chown(self.path("cache", "boardnet-proved"), 1, 1)
         status, _, notes = self.waited("x")
-        self.assertEqual((status, "boardnet-proved: it belongs to another user: nothing can be proved" in notes, self.calls()), (70, True, []))
+        self.assertEqual(
+            (status, "boardnet-proved: it belongs to another user: nothing can be proved" in notes, self.calls()),
+            (70, True, []),
+        )
 
     def test_touched_and_changed(self):
         self.waited("x")
@@ -306,7 +336,9 @@ class Build(Checkout):
         self.write("top/tools/test", "#!/bin/sh\nexit ${RT_TESTS-0}\n", 0o755)
         os.makedirs(self.path("top", ".ci"), exist_ok=True)
         shutil.copy(os.path.join(common.TOP, ".ci", "run"), self.path("top", ".ci"))
-        status, _, notes = self.run_words(["bash", self.path("top", ".ci", "run")], environment=self.environment(**more))
+        status, _, notes = self.run_words(
+            ["bash", self.path("top", ".ci", "run")], environment=self.environment(**more)
+        )
         return status, notes
 
     def test_what_the_gate_left(self):
@@ -321,8 +353,20 @@ class Build(Checkout):
             # what happens while rt ci runs, how the tests end, how the gate ends, whether it notes the program, what it says
             ("", "5", 5, True, ""),
             ("exit 3", "5", 3, False, ""),
-            ("echo '// changed' >>crates/low/src/lib.rt", "0", 0, False, "boardnet: the sources changed during the gate: its program is not noted as proved\n"),
-            ("rm crates/boardnet/out/boardnet", "0", 0, False, f"boardnet: {self.path('top', 'crates', 'boardnet', 'out', 'boardnet')}: No such file or directory\n"),
+            (
+                "echo '// changed' >>crates/low/src/lib.rt",
+                "0",
+                0,
+                False,
+                "boardnet: the sources changed during the gate: its program is not noted as proved\n",
+            ),
+            (
+                "rm crates/boardnet/out/boardnet",
+                "0",
+                0,
+                False,
+                f"boardnet: {self.path('top', 'crates', 'boardnet', 'out', 'boardnet')}: No such file or directory\n",
+            ),
         ]
         for meanwhile, tests, wanted, is_noted, said in rows:
             with self.subTest(meanwhile=meanwhile):
@@ -337,13 +381,18 @@ class Build(Checkout):
         self.waited("x")
         self.calls()
         module = "top/tools/launch/kept.py"
-        self.write(module, self.read(module).replace("os.utime(program_of(top), ns=(now, now))", "raise PermissionError"))
+        self.write(
+            module, self.read(module).replace("os.utime(program_of(top), ns=(now, now))", "raise PermissionError")
+        )
         ahead = time.time() + 1000
         os.utime(self.path("top", "crates", "low", "src", "lib.rt"), (ahead, ahead))
         self.assertEqual((self.waited("x")[:2], self.calls()), ((0, "built x\n"), []))
 
     def test_failed(self):
-        for how, error in (({"RT_PROOF": "refused-last"}, "error: boardnet is not proved"), ({"RT_FAILS": "1"}, "error: not linked")):
+        for how, error in (
+            ({"RT_PROOF": "refused-last"}, "error: boardnet is not proved"),
+            ({"RT_FAILS": "1"}, "error: not linked"),
+        ):
             status, out, notes = self.waited("x", **how)
             self.assertEqual((status, out), (70, ""))
             self.assertIn("the build failed; ", notes)
@@ -365,7 +414,11 @@ class Build(Checkout):
 
     def test_interrupted(self):
         """A proof, as a terminal interrupts it, to all of the group, or to the one process; by a signal, or as the terminal closes."""
-        for number, is_for_all, words in ((signal.SIGINT, True, ["prove"]), (signal.SIGTERM, False, ["--wait", "x"]), (signal.SIGHUP, False, ["prove"])):
+        for number, is_for_all, words in (
+            (signal.SIGINT, True, ["prove"]),
+            (signal.SIGTERM, False, ["--wait", "x"]),
+            (signal.SIGHUP, False, ["prove"]),
+        ):
             with self.subTest(signal=number):
                 self.calls()
                 running = self.begun(*words, RT_PROOF="slow")
@@ -384,7 +437,9 @@ class Build(Checkout):
         self.assertEqual((self.launch("x")[0], self.calls()), (75, []))
         status, out, notes = self.launch("prove")
         self.assertEqual((status, out, notes.endswith(PROVED), self.calls()), (0, "", True, ["high", "boardnet"]))
-        self.assertEqual((self.launch("x"), self.launch("prove"), self.calls()), ((0, "built x\n", ""), (0, "", PROVED), []))
+        self.assertEqual(
+            (self.launch("x"), self.launch("prove"), self.calls()), ((0, "built x\n", ""), (0, "", PROVED), [])
+        )
 
     def test_signals_together(self):
         script = """
@@ -404,8 +459,10 @@ try:
 except KeyboardInterrupt:
     print("interrupted")
 """
-        self.assertEqual(self.run_words([sys.executable, "-c", script, os.path.join(common.TOOLS, "launch")]), (0, "cleaned up\ninterrupted\n", ""))
-
+        self.assertEqual(
+            self.run_words([sys.executable, "-c", script, os.path.join(common.TOOLS, "launch")]),
+            (0, "cleaned up\ninterrupted\n", ""),
+        )
 
 
 class Trials(Checkout):
@@ -426,18 +483,32 @@ class Trials(Checkout):
         """A yes or a no is none before the proof; what else a call ends with stays."""
         for status in range(7):
             self.assertEqual(self.launch("check", "x", TRIAL_ENDS=str(status))[:2], (75 if status < 2 else status, ""))
-            self.assertEqual(self.launch("--trial", "check", "x", TRIAL_ENDS=str(status))[:2], (status, "tried check x\n"))
+            self.assertEqual(
+                self.launch("--trial", "check", "x", TRIAL_ENDS=str(status))[:2], (status, "tried check x\n")
+            )
         # Of which nothing was judged says so.
         notes = self.launch("check", "x", TRIAL_POINTS="0")[2]
-        self.assertEqual((notes.startswith(NOT_PROVED), "NOTHING WAS JUDGED: x names a netlist without test points" in notes), (True, True), notes)
-        status, out, notes = self.launch("check", "x", TRIAL_SAYS="t.gbr: Gerber 4 BadWord at command 1, byte 0", TRIAL_ENDS="3")
-        self.assertEqual((status, "no proof, says: t.gbr: Gerber 4 BadWord at command 1, byte 0. `" in notes), (3, True), notes)
+        self.assertEqual(
+            (notes.startswith(NOT_PROVED), "NOTHING WAS JUDGED: x names a netlist without test points" in notes),
+            (True, True),
+            notes,
+        )
+        status, out, notes = self.launch(
+            "check", "x", TRIAL_SAYS="t.gbr: Gerber 4 BadWord at command 1, byte 0", TRIAL_ENDS="3"
+        )
+        self.assertEqual(
+            (status, "no proof, says: t.gbr: Gerber 4 BadWord at command 1, byte 0. `" in notes), (3, True), notes
+        )
 
     def test_in_place(self):
         """It runs where the program would, with the same words."""
         self.write("a=b/m.json", "{}")
         self.write("r.txt", "")
-        for words, wanted in ((["check", "a=b"], "check m.json"), (["audit", "a=b", "r.txt"], f"audit m.json {os.path.realpath(self.path('r.txt'))}"), (["trial", "1", "2"], "trial 1 2")):
+        for words, wanted in (
+            (["check", "a=b"], "check m.json"),
+            (["audit", "a=b", "r.txt"], f"audit m.json {os.path.realpath(self.path('r.txt'))}"),
+            (["trial", "1", "2"], "trial 1 2"),
+        ):
             self.assertEqual(self.launch("--trial", *words)[:2], (0, f"tried {wanted}\n"))
 
     def test_beside_a_proof(self):
@@ -447,8 +518,11 @@ class Trials(Checkout):
         self.assertEqual(self.launch("x"), (75, "", MADE + NOT_PROVED))
         self.assertEqual(self.launch("x"), (75, "", NOT_PROVED))
         self.write("calls.proof", "")
-        self.assertEqual(proof.communicate(timeout=PATIENCE)[1].decode()[-len(PROVED):], PROVED)
-        self.assertEqual((proof.returncode, self.launch("x"), self.launch("--trial", "x")), (0, (0, "built x\n", ""), (0, "built x\n", "")))
+        self.assertEqual(proof.communicate(timeout=PATIENCE)[1].decode()[-len(PROVED) :], PROVED)
+        self.assertEqual(
+            (proof.returncode, self.launch("x"), self.launch("--trial", "x")),
+            (0, (0, "built x\n", ""), (0, "built x\n", "")),
+        )
         self.nothing_is_left()
 
     def test_a_proof_beside_a_trial(self):
@@ -474,7 +548,12 @@ class Trials(Checkout):
 
     def test_interrupted_trial(self):
         """An interrupt, a signal or a closed terminal leaves nothing; the next call makes it. A call that was killed leaves what the next removes."""
-        for number, is_for_all in ((signal.SIGINT, True), (signal.SIGTERM, True), (signal.SIGHUP, True), (signal.SIGKILL, False)):
+        for number, is_for_all in (
+            (signal.SIGINT, True),
+            (signal.SIGTERM, True),
+            (signal.SIGHUP, True),
+            (signal.SIGKILL, False),
+        ):
             self.calls()
             running = self.begun("check", "x", RT_TRIAL="slow")
             self.wait_for("rt try")
@@ -493,7 +572,9 @@ class Trials(Checkout):
         """Where the toolchain makes none, that is said, and the proof does not wait for it."""
         status, out, notes = self.launch("x", RT_TRIAL="refused")
         self.assertEqual((status, out), (70, ""))
-        self.assertIn("there is no trial build of these sources (error: it does not compile); `boardnet prove` proves them", notes)
+        self.assertIn(
+            "there is no trial build of these sources (error: it does not compile); `boardnet prove` proves them", notes
+        )
         self.nothing_is_left()
         self.assertEqual(self.waited("x", RT_TRIAL="refused")[:2], (0, "built x\n"))
 
@@ -501,7 +582,7 @@ class Trials(Checkout):
         """A trial of other sources, of another toolchain or with other bytes is not taken; the oldest go."""
         self.launch("x")
         kept = self.path("cache", "boardnet-trials")
-        name, = os.listdir(kept)
+        (name,) = os.listdir(kept)
         self.write(f"cache/boardnet-trials/{name}", "#!/bin/sh\necho boardnet: spoilt >&2\n", 0o755)
         self.assertEqual((self.launch("x")[2], self.tries()), (MADE + NOT_PROVED, 2))
         self.write("top/crates/low/src/lib.rt", "// another\n")
@@ -523,8 +604,15 @@ class Trials(Checkout):
     def test_the_bytes_of_what_runs(self):
         """The file of a program that runs from a folder, whichever loader runs it; none of another folder, and none of another name."""
         sleep = os.path.realpath(shutil.which("sleep"))
-        loader = [next(line.split()[-1] for line in self.read(f"/proc/{os.getpid()}/maps").splitlines() if "/ld-" in line)]
-        for name, by, is_found in (("a/program", [], True), ("a/program", loader, True), ("a/b/program", [], True), ("a/other", [], False)):
+        loader = [
+            next(line.split()[-1] for line in self.read(f"/proc/{os.getpid()}/maps").splitlines() if "/ld-" in line)
+        ]
+        for name, by, is_found in (
+            ("a/program", [], True),
+            ("a/program", loader, True),
+            ("a/b/program", [], True),
+            ("a/other", [], False),
+        ):
             shutil.rmtree(self.path("a"), ignore_errors=True)
             shutil.copy(sleep, self.write(name, ""))
             os.chmod(self.path(name), 0o755)
@@ -545,7 +633,11 @@ class Trials(Checkout):
     def test_a_trial_that_does_not_start(self):
         """A copy that the system does not run is not kept, and answers nothing."""
         status, out, notes = self.launch("x", TRIAL_STARTS="1")
-        self.assertEqual((status, out, "there is no trial build of these sources (it does not run on this system)" in notes), (70, "", True), notes)
+        self.assertEqual(
+            (status, out, "there is no trial build of these sources (it does not run on this system)" in notes),
+            (70, "", True),
+            notes,
+        )
         self.assertEqual(os.listdir(self.path("cache", "boardnet-trials")), [])
 
     def test_install_waits(self):
@@ -557,12 +649,26 @@ class Trials(Checkout):
         self.write("board/m.json", '{"copper":["t.gbr"],"drills":[],"netlist":"n.ipc"}')
         self.write("board/t.gbr", "M02*\n")
         self.write("board/n.ipc", "317A\n999\n")
-        status, out, notes = self.launch("show", "board", BOARDNET="", TRIAL_ENDS="3", TRIAL_SAYS="t.gbr: Gerber 4 BadWord at command 1, byte 0")
-        lines, refused = notes.splitlines(), f"board: {FIRST}t.gbr: Gerber 4 BadWord at command 1, byte 0; line 1 of t.gbr"
-        self.assertEqual(lines[0], "boardnet: board: 1 copper files (t.gbr), 0 drill files, netlist n.ipc with 1 test records")
-        self.assertEqual((status, out, lines[1] + "\n", lines[2][:len(refused)]), (3, "", MADE, refused))
-        status, out, notes = self.launch("--trial", "show", "board", BOARDNET="", TRIAL_ENDS="3", TRIAL_SAYS="t.gbr: Gerber 4 BadWord at command 1, byte 0")
-        self.assertEqual((status, out[:len(refused)], notes), (3, refused, ""))
+        status, out, notes = self.launch(
+            "show", "board", BOARDNET="", TRIAL_ENDS="3", TRIAL_SAYS="t.gbr: Gerber 4 BadWord at command 1, byte 0"
+        )
+        lines, refused = (
+            notes.splitlines(),
+            f"board: {FIRST}t.gbr: Gerber 4 BadWord at command 1, byte 0; line 1 of t.gbr",
+        )
+        self.assertEqual(
+            lines[0], "boardnet: board: 1 copper files (t.gbr), 0 drill files, netlist n.ipc with 1 test records"
+        )
+        self.assertEqual((status, out, lines[1] + "\n", lines[2][: len(refused)]), (3, "", MADE, refused))
+        status, out, notes = self.launch(
+            "--trial",
+            "show",
+            "board",
+            BOARDNET="",
+            TRIAL_ENDS="3",
+            TRIAL_SAYS="t.gbr: Gerber 4 BadWord at command 1, byte 0",
+        )
+        self.assertEqual((status, out[: len(refused)], notes), (3, refused, ""))
         # What could not be judged is no answer, whichever program says it.
         self.assertEqual((self.launch("show", "board", BOARDNET="")[0], self.calls(), self.tries()), (12, [], 0))
         os.makedirs(self.path("empty"))
@@ -576,11 +682,31 @@ class Trials(Checkout):
         """By a trial it is none, unless the caller asked for the trial; every form has the word."""
         for other, status in (("A", 0), ("B", 1)):
             copper = gerber(*flash(10, (0, 0)), *made.draw(11, (0, 0), (5, 0)), *flash(10, (5, 0)))
-            for name, text in (("m.json", manifest()), ("top.gbr", copper), ("n.ipc", netlist(record("A", "J1.1", 0, 0), record(other, "J1.2", 5, 0)))):
+            for name, text in (
+                ("m.json", manifest()),
+                ("top.gbr", copper),
+                ("n.ipc", netlist(record("A", "J1.1", 0, 0), record(other, "J1.2", 5, 0))),
+            ):
                 self.write(f"board/{name}", text)
             for how, wanted in (("unasked", 75), ("1", status), ("", status)):
-                told, out, _ = self.run_words([os.path.join(common.TOOLS, "show"), "board", "--page", "p.html", "--json", "j.json", "--junit", "u.xml"], environment={"BOARDNET": made.STAND_IN, "BOARDNET_TRIAL": how})
-                self.assertEqual((told, [FIRST in text for text in (out, self.read("p.html"), self.read("j.json"))]), (wanted, [bool(how)] * 3), out)
+                told, out, _ = self.run_words(
+                    [
+                        os.path.join(common.TOOLS, "show"),
+                        "board",
+                        "--page",
+                        "p.html",
+                        "--json",
+                        "j.json",
+                        "--junit",
+                        "u.xml",
+                    ],
+                    environment={"BOARDNET": made.STAND_IN, "BOARDNET_TRIAL": how},
+                )
+                self.assertEqual(
+                    (told, [FIRST in text for text in (out, self.read("p.html"), self.read("j.json"))]),
+                    (wanted, [bool(how)] * 3),
+                    out,
+                )
 
     def test_show_interrupted(self):
         self.write("board/m.json", '{"copper":[],"drills":[],"netlist":"n.ipc"}')
@@ -621,7 +747,13 @@ class Proved(common.Case):
 
 class Order(common.Case):
     def test_what_is_proved_next(self):
-        below = order.below(order.uses(order.named("# lowest first\nlow: thiserror\nwide may_abort=1:\nmiddle: low\nboardnet: middle low serde_json # more\n")))
+        below = order.below(
+            order.uses(
+                order.named(
+                    "# lowest first\nlow: thiserror\nwide may_abort=1:\nmiddle: low\nboardnet: middle low serde_json # more\n"
+                )
+            )
+        )
         self.assertEqual(below, {"low": set(), "wide": set(), "middle": {"low"}, "boardnet": {"low", "middle"}})
         self.assertEqual(list(order.wanted(below, "middle")), ["low", "middle"])
         chain = order.chains(below, {"low": 2, "wide": 5, "middle": 1, "boardnet": 3})
@@ -659,7 +791,15 @@ class Times(common.Case):
         self.write("log", times.head("low", 12.4) + "fn low::f: proved\n== high\n" + times.head("new", 3.6))
         self.write("seconds.txt", "high 30\nlow 7\n")
         note = f"import sys; sys.path.insert(0, sys.argv[2]); import times; times.TABLE = sys.argv[3]; sys.exit(times.main(sys.argv[1:2]))"
-        words = [sys.executable, "-B", "-c", note, self.path("log"), os.path.join(common.TOOLS, "launch"), self.path("seconds.txt")]
+        words = [
+            sys.executable,
+            "-B",
+            "-c",
+            note,
+            self.path("log"),
+            os.path.join(common.TOOLS, "launch"),
+            self.path("seconds.txt"),
+        ]
         self.assertEqual(self.run_words(words), (0, "", ""))
         self.assertEqual(self.read("seconds.txt"), "high 30\nlow 12\nnew 4\n")
 

@@ -25,23 +25,29 @@ class Installed(common.Case):
         self.top = self.path("top")
         os.makedirs(self.top)
         shutil.copy(os.path.join(common.TOP, "boardnet"), self.top)
-        shutil.copytree(common.TOOLS, os.path.join(self.top, "tools"), ignore=shutil.ignore_patterns("tests", "__pycache__"))
+        shutil.copytree(
+            common.TOOLS, os.path.join(self.top, "tools"), ignore=shutil.ignore_patterns("tests", "__pycache__")
+        )
         for name in install.DOCUMENTS:
             source = os.path.join(common.TOP, name)
             (shutil.copytree if os.path.isdir(source) else shutil.copy)(source, os.path.join(self.top, name))
         self.write("top/.gitignore", "out/\n")
         self.write("top/crates.txt", "boardnet:\n")
         self.write("top/crates/boardnet/src/main.rt", "// a source\n")
-        self.write("top/crates/boardnet/out/boardnet", "#!/bin/sh\necho ran \"$@\"\n", 0o755)
+        self.write("top/crates/boardnet/out/boardnet", '#!/bin/sh\necho ran "$@"\n', 0o755)
 
     def launch(self, *words, **environment):
         return self.run_words([os.path.join(self.top, "boardnet"), *words], environment=environment)
 
     def serves(self, command, said):
         """Whether an installed command has all that it is to have, where the checkout is gone."""
-        self.assertEqual(self.run_words([command, "show", "--help"])[1].split("\n")[0], "boardnet show PATH.. [OPTION ..]")
+        self.assertEqual(
+            self.run_words([command, "show", "--help"])[1].split("\n")[0], "boardnet show PATH.. [OPTION ..]"
+        )
         # The program is a stand-in that answers nothing that could be judged.
-        status, out, _ = self.run_words([command, "show", os.path.join(common.EXAMPLES, "two_layer")], environment={"BOARDNET": ""})
+        status, out, _ = self.run_words(
+            [command, "show", os.path.join(common.EXAMPLES, "two_layer")], environment={"BOARDNET": ""}
+        )
         self.assertEqual((status, "NOTHING WAS JUDGED" in out), (12, True))
         self.assertEqual(self.run_words([command, "trial", "1", "2"])[:2], (0, said))
         page = self.run_words([command, "--help"])[1]
@@ -72,12 +78,20 @@ class Install(Installed):
         self.assertEqual(status, 0)
         for path in out.splitlines():
             self.assertTrue(os.path.isfile(path), path)
-        for inside in ("bin/boardnet", "share/man/man1/boardnet.1", "share/bash-completion/completions/boardnet", "share/zsh/site-functions/_boardnet"):
+        for inside in (
+            "bin/boardnet",
+            "share/man/man1/boardnet.1",
+            "share/bash-completion/completions/boardnet",
+            "share/zsh/site-functions/_boardnet",
+        ):
             self.assertIn(os.path.join(prefix, inside), out)
         for name in ("README.md", "docs/FORMATS.md", "docs/using/answers.md", "examples/two_layer/m.json"):
             self.assertTrue(os.path.isfile(os.path.join(prefix, "share", "doc", "boardnet", name)), name)
         for name in ("page.html", "page.css", "data.js", "draw.js", "chosen.js", "act.js"):
-            self.assertTrue(os.path.isfile(os.path.join(prefix, "lib", "boardnet", "boardnet_show", "output", "page_assets", name)), name)
+            self.assertTrue(
+                os.path.isfile(os.path.join(prefix, "lib", "boardnet", "boardnet_show", "output", "page_assets", name)),
+                name,
+            )
         shutil.rmtree(self.top)
         # It can be moved, and a link leads to it.
         os.rename(prefix, self.path("moved"))
@@ -90,11 +104,19 @@ class Install(Installed):
         self.assertEqual((status, out.split()[0]), (0, "/usr/lib/boardnet/boardnet"))
         self.assertTrue(os.path.isfile(self.path("stage", "usr", "bin", "boardnet")))
 
-
     def test_not_installed(self):
         self.write("top/boardnet", "#!/bin/sh\nexit 3\n", 0o755)
-        told = self.run_words([sys.executable, self.path("top", "tools", "launch", "install.py"), self.top, self.path("here")])
-        self.assertEqual(told, (1, "", f"boardnet: not installed: Command '['{self.path('top', 'boardnet')}', '--version']' returned non-zero exit status 3.\n"))
+        told = self.run_words(
+            [sys.executable, self.path("top", "tools", "launch", "install.py"), self.top, self.path("here")]
+        )
+        self.assertEqual(
+            told,
+            (
+                1,
+                "",
+                f"boardnet: not installed: Command '['{self.path('top', 'boardnet')}', '--version']' returned non-zero exit status 3.\n",
+            ),
+        )
 
 
 class Written(common.Case):
@@ -131,7 +153,10 @@ class Compiled(Installed):
         for name in modules:
             data = files[compiled.beside(name)][1]
             # It holds for the bytes of its source, whatever the times of both files are.
-            self.assertEqual((data[:4], data[4:8], data[8:16]), (importlib.util.MAGIC_NUMBER, b"\3\0\0\0", importlib.util.source_hash(files[name][1])))
+            self.assertEqual(
+                (data[:4], data[4:8], data[8:16]),
+                (importlib.util.MAGIC_NUMBER, b"\3\0\0\0", importlib.util.source_hash(files[name][1])),
+            )
 
 
 class SelfTest(Installed):
@@ -162,16 +187,30 @@ class SelfTest(Installed):
             # what is spoilt of a program that answers as it must, and what is said of it
             ("cat report.txt", "echo other", "its report: WRONG"),
             ("cat report.txt; exit 0", "exit 1", "check of a board that agrees: status 1, WRONG, 0 is wanted"),
-            ('"audit two_layer report.txt") exit 0', '"audit two_layer report.txt") exit 3', "audit of that report: status 3, WRONG, 0 is wanted"),
-            ('shorts ") exit 1', 'shorts ") exit 0', "check of a board with opens and shorts: status 0, WRONG, 1 is wanted"),
-            ('../two_layer/report.txt") exit 1', '../two_layer/report.txt") exit 0', "audit of a report of another board: status 0, WRONG, 1 is wanted"),
+            (
+                '"audit two_layer report.txt") exit 0',
+                '"audit two_layer report.txt") exit 3',
+                "audit of that report: status 3, WRONG, 0 is wanted",
+            ),
+            (
+                'shorts ") exit 1',
+                'shorts ") exit 0',
+                "check of a board with opens and shorts: status 0, WRONG, 1 is wanted",
+            ),
+            (
+                '../two_layer/report.txt") exit 1',
+                '../two_layer/report.txt") exit 0',
+                "audit of a report of another board: status 0, WRONG, 1 is wanted",
+            ),
         ]
         for right, wrong, said in rows:
             with self.subTest(said=said):
                 self.write("top/crates/boardnet/out/boardnet", RIGHT.replace(right, wrong))
                 self.count_as_new()
                 status, out, notes = self.launch("selftest")
-                self.assertEqual((status, "all as it must be" in out, "selftest: something is wrong" in notes), (70, False, True))
+                self.assertEqual(
+                    (status, "all as it must be" in out, "selftest: something is wrong" in notes), (70, False, True)
+                )
                 self.assertIn(said, out)
 
 
@@ -215,7 +254,9 @@ class Package(Installed):
         """Makes both, and gives their paths."""
         status, out, notes = self.launch("package", self.path("made"), "--maintainer", self.MAINTAINER)
         commit = self.git("rev-parse", "--short=12", "HEAD")
-        archive, package = self.path("made", f"boardnet-0.9+{commit}.tar.xz"), self.path("made", f"boardnet_0.9+{commit}_amd64.deb")
+        archive, package = self.path("made", f"boardnet-0.9+{commit}.tar.xz"), self.path(
+            "made", f"boardnet_0.9+{commit}_amd64.deb"
+        )
         self.assertEqual((status, out, notes), (0, f"{archive}\n{package}\n", ""))
         return archive, package
 
@@ -229,12 +270,18 @@ class Package(Installed):
         commit = self.git("rev-parse", "--short=12", "HEAD")
         self.launch("install", self.path("installed"))
         os.makedirs(self.path("unpacked"))
-        for words in (["tar", "-C", "unpacked", "--strip-components=1", "-xf", archive], ["dpkg-deb", "-x", package, "root"]):
+        for words in (
+            ["tar", "-C", "unpacked", "--strip-components=1", "-xf", archive],
+            ["dpkg-deb", "-x", package, "root"],
+        ):
             self.assertEqual(self.run_words(words)[0], 0)
         installed = tree(self.path("installed"))
         self.assertEqual(tree(self.path("unpacked")), installed)
         told = self.run_words(["dpkg-deb", "-f", package, "Depends", "Recommends", "Maintainer"])[1]
-        self.assertRegex(told, r"Depends: libc6 \(>= 2\.\d+\)\nRecommends: python3 \(>= 3.8\)\nMaintainer: Ann Example <ann@example.org>\n")
+        self.assertRegex(
+            told,
+            r"Depends: libc6 \(>= 2\.\d+\)\nRecommends: python3 \(>= 3.8\)\nMaintainer: Ann Example <ann@example.org>\n",
+        )
         self.is_the_debian_tree(tree(self.path("root", "usr")), installed)
         # The guide says how the sum is made.
         with open(os.path.join(common.TOP, "docs", "using", "commands.md"), encoding="utf-8") as file:
@@ -243,7 +290,10 @@ class Package(Installed):
         shutil.rmtree(self.top)
         for command in (self.path("root", "usr", "bin", "boardnet"), self.path("unpacked", "bin", "boardnet")):
             lines = self.run_words([command, "--version"])[1].splitlines()
-            self.assertEqual([lines[0], lines[1], lines[3]], ["boardnet 0.9", f"commit {commit}", f"sources {sums.split()[0]}, proved with a kit logic 1"])
+            self.assertEqual(
+                [lines[0], lines[1], lines[3]],
+                ["boardnet 0.9", f"commit {commit}", f"sources {sums.split()[0]}, proved with a kit logic 1"],
+            )
         self.serves(command, "trial 1 2\n")
 
     def is_the_debian_tree(self, files, installed):
@@ -281,9 +331,18 @@ class Package(Installed):
 
         rows = [
             # the reason begins so, what is done to a checkout that has a package
-            ("the checkout is changed, so its commit does not name its sources: M crates/boardnet/src/main.rt", lambda: self.write(source, "// changed\n")),
-            ("the checkout is changed, so its commit does not name its sources: ?? tools/more", lambda: self.write("top/tools/more", "")),
-            ("the checkout is changed, so its commit does not name its sources: ?? HANDLES", lambda: self.write("top/HANDLES", "")),
+            (
+                "the checkout is changed, so its commit does not name its sources: M crates/boardnet/src/main.rt",
+                lambda: self.write(source, "// changed\n"),
+            ),
+            (
+                "the checkout is changed, so its commit does not name its sources: ?? tools/more",
+                lambda: self.write("top/tools/more", ""),
+            ),
+            (
+                "the checkout is changed, so its commit does not name its sources: ?? HANDLES",
+                lambda: self.write("top/HANDLES", ""),
+            ),
             ("the program was proved of other sources", other_sources),
             ("nothing says that this program was proved", lambda: shutil.copy(shutil.which("true"), program)),
             ("nothing says that this program was proved", lambda: os.remove(program + ".made")),
@@ -305,7 +364,7 @@ class Package(Installed):
                 self.note()
 
     def test_half_of_it_is_not_left(self):
-        self.write("bin/dpkg-deb", "#!/bin/sh\nfor path; do :; done\necho half >\"$path\"\nexit 2\n", 0o755)
+        self.write("bin/dpkg-deb", '#!/bin/sh\nfor path; do :; done\necho half >"$path"\nexit 2\n', 0o755)
         environment = {"PATH": self.path("bin") + os.pathsep + os.environ["PATH"]}
         status, out, notes = self.launch("package", self.path("made"), "--maintainer", self.MAINTAINER, **environment)
         self.assertEqual((status, out, notes.count("boardnet: no package: ")), (1, "", 1))
@@ -326,7 +385,14 @@ class Texts(common.Case):
         for line in self.run_words([os.path.join(common.TOP, "boardnet"), "audit", "--help"])[1].splitlines()[4:]:
             self.assertIn(line, [*page, "Status", ""])
         self.assertTrue(text.startswith(".TH BOARDNET 1"))
-        for part in (".SH NAME", ".SH SYNOPSIS", ".SH COMMANDS", ".SS boardnet check MANIFEST", ".SH FILES", ".SH EXIT STATUS"):
+        for part in (
+            ".SH NAME",
+            ".SH SYNOPSIS",
+            ".SH COMMANDS",
+            ".SS boardnet check MANIFEST",
+            ".SH FILES",
+            ".SH EXIT STATUS",
+        ):
             self.assertIn(part, text)
 
     def test_completions_read(self):
@@ -342,7 +408,9 @@ class Texts(common.Case):
     def test_bash_completes(self):
         if not shutil.which("bash"):
             self.skipTest("there is no bash")
-        script = texts.bash() + """
+        script = (
+            texts.bash()
+            + """
         compopt() { :; }
         COMP_WORDS=(boardnet "$1") COMP_CWORD=1; _boardnet; echo "${COMPREPLY[@]}"
         COMP_WORDS=(boardnet manifest --) COMP_CWORD=2; _boardnet; echo "${COMPREPLY[@]}"
@@ -350,7 +418,10 @@ class Texts(common.Case):
         COMP_WORDS=(boardnet between file.json fil) COMP_CWORD=3; _boardnet; echo "${COMPREPLY[@]}"
         COMP_WORDS=(boardnet check a) COMP_CWORD=2; _boardnet; printf '<%s>' "${COMPREPLY[@]}"
         """
+        )
         self.write("file.json", "")
         self.write("a b.json", "")
         out = self.run_words(["bash", "-c", script, "bash", "a"])[1].splitlines()
-        self.assertEqual(out, ["audit", "--help --netlist --yes --no-drills --mend", "file.json", "file.json", "<a b.json>"])
+        self.assertEqual(
+            out, ["audit", "--help --netlist --yes --no-drills --mend", "file.json", "file.json", "<a b.json>"]
+        )

@@ -64,7 +64,12 @@ export.export(board, sys.argv[2])
 def has_kicad():
     if not os.path.exists(PYTHON):
         return False
-    return subprocess.run([PYTHON, "-c", "import pcbnew"], stdout=subprocess.DEVNULL, stderr=subprocess.DEVNULL, check=False).returncode == 0
+    return (
+        subprocess.run(
+            [PYTHON, "-c", "import pcbnew"], stdout=subprocess.DEVNULL, stderr=subprocess.DEVNULL, check=False
+        ).returncode
+        == 0
+    )
 
 
 class Exported(made.Case):
@@ -83,13 +88,17 @@ class Exported(made.Case):
     def test_files(self):
         folder = self.exported("joined")
         names = sorted(os.listdir(folder))
-        self.assertEqual([name for name in names if name.endswith((".drl", ".d356"))], ["-NPTH.drl", "-PTH.drl", "netlist.d356"])
+        self.assertEqual(
+            [name for name in names if name.endswith((".drl", ".d356"))], ["-NPTH.drl", "-PTH.drl", "netlist.d356"]
+        )
         self.assertEqual(len([name for name in names if name.endswith(".gbr")]), 3, names)
 
     def test_answers(self):
         for how, status, word in (("joined", 0, "agrees"), ("parted", 1, "differs")):
             with self.subTest(how=how):
-                told = self.run_words([made.SHOW, self.exported(how), "--yes"], environment={"BOARDNET": common.program()})
+                told = self.run_words(
+                    [made.SHOW, self.exported(how), "--yes"], environment={"BOARDNET": common.program()}
+                )
                 self.assertEqual((told[0], word in told[1].splitlines()[0]), (status, True), told)
 
 
@@ -98,11 +107,22 @@ class Judged(common.Case):
 
     def judged(self, script, **environment):
         self.write("bin/boardnet", script, 0o755)
-        words = [sys.executable, "-B", "-c", "import sys, judge; told = judge.judge(sys.argv[1]); print(told.status, told.page); print(judge.message(told))"]
-        return self.run_words([*words, self.scratch], folder=PLUGINS, environment={"BOARDNET_COMMAND": self.path("bin", "boardnet"), **environment})
+        words = [
+            sys.executable,
+            "-B",
+            "-c",
+            "import sys, judge; told = judge.judge(sys.argv[1]); print(told.status, told.page); print(judge.message(told))",
+        ]
+        return self.run_words(
+            [*words, self.scratch],
+            folder=PLUGINS,
+            environment={"BOARDNET_COMMAND": self.path("bin", "boardnet"), **environment},
+        )
 
     def test_page(self):
-        status, out, _ = self.judged('#!/bin/sh\n[ "$1 $3" = "show --page" ] || exit 9\necho drawn >"$4"\necho "$2: differs"\nexit 1\n')
+        status, out, _ = self.judged(
+            '#!/bin/sh\n[ "$1 $3" = "show --page" ] || exit 9\necho drawn >"$4"\necho "$2: differs"\nexit 1\n'
+        )
         self.assertEqual((status, out), (0, f"1 {self.path('boardnet.html')}\n{self.scratch}: differs\n"))
 
     def test_no_page(self):
@@ -117,21 +137,38 @@ class Judged(common.Case):
 
     def test_no_command(self):
         script = "import judge; judge.CHECKOUT = '/nowhere'; print(judge.command())"
-        status, _, notes = self.run_words([sys.executable, "-B", "-c", script], folder=PLUGINS, environment={"PATH": "/nowhere", "BOARDNET_COMMAND": ""})
+        status, _, notes = self.run_words(
+            [sys.executable, "-B", "-c", script],
+            folder=PLUGINS,
+            environment={"PATH": "/nowhere", "BOARDNET_COMMAND": ""},
+        )
         self.assertEqual((status, "judge.NoCommand: There is no command `boardnet`" in notes), (1, True))
-        self.assertTrue(os.path.samefile(os.path.join(PLUGINS, *[os.pardir] * 3, "boardnet"), os.path.join(common.TOP, "boardnet")))
+        self.assertTrue(
+            os.path.samefile(os.path.join(PLUGINS, *[os.pardir] * 3, "boardnet"), os.path.join(common.TOP, "boardnet"))
+        )
 
 
 class Packed(common.Case):
     def test_archive(self):
         path = self.path("boardnet.zip")
-        self.assertEqual(self.run_words([os.path.join(FOLDER, "pack"), path, "Ann Example <ann@example.org>", "MIT"])[0], 0)
+        self.assertEqual(
+            self.run_words([os.path.join(FOLDER, "pack"), path, "Ann Example <ann@example.org>", "MIT"])[0], 0
+        )
         with zipfile.ZipFile(path) as archive:
             names, data = archive.namelist(), json.loads(archive.read("metadata.json"))
         self.assertEqual(names[0], "metadata.json")
-        for name in ("plugins/__init__.py", "plugins/export.py", "plugins/judge.py", "plugins/button.py", "plugins/icon.png", "resources/icon.png"):
+        for name in (
+            "plugins/__init__.py",
+            "plugins/export.py",
+            "plugins/judge.py",
+            "plugins/button.py",
+            "plugins/icon.png",
+            "resources/icon.png",
+        ):
             self.assertIn(name, names)
-        self.assertEqual((data["author"], data["license"]), ({"name": "Ann Example", "contact": {"email": "ann@example.org"}}, "MIT"))
+        self.assertEqual(
+            (data["author"], data["license"]), ({"name": "Ann Example", "contact": {"email": "ann@example.org"}}, "MIT")
+        )
         with open(os.path.join(common.TOOLS, "release"), encoding="ascii") as file:
             self.assertEqual(data["versions"][0]["version"], file.read().strip())
 

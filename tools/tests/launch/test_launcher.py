@@ -105,14 +105,34 @@ class Launcher(common.Case):
             (["check", "there"], "2", "0", ""),
             (["check", "there"], "10", "0", ""),
             (["check", "there"], "0", "0", f"{LOUD}: m.json names a netlist without test points"),
-            (["check", "there"], "1", "0", f"{LOUD}: there is one test point alone, so this yes says nothing about the board"),
+            (
+                ["check", "there"],
+                "1",
+                "0",
+                f"{LOUD}: there is one test point alone, so this yes says nothing about the board",
+            ),
             (["check", "there"], "1", "1", ""),
-            (["check", "there"], "3\nnames 1\nname 0 N/C", "0", f"{LOUD}: all test points are without net (N/C), so this yes says nothing about the board"),
+            (
+                ["check", "there"],
+                "3\nnames 1\nname 0 N/C",
+                "0",
+                f"{LOUD}: all test points are without net (N/C), so this yes says nothing about the board",
+            ),
             (["check", "there"], "3\nnames 2\nname 0 N/C", "0", ""),
             (["check", "there"], "3\nnames 1\nname 0 N/CX", "0", ""),
             (["between", "m.json", "l.json", "u.json", "c.txt"], "2\ncertain", "0", ""),
-            (["between", "m.json", "l.json", "u.json", "c.txt"], "1\ncertain", "0", f"{LOUD}: there is one test point alone"),
-            (["between", "m.json", "l.json", "u.json", "c.txt"], "0\ncertain", "0", f"{LOUD}: m.json names a netlist without test points"),
+            (
+                ["between", "m.json", "l.json", "u.json", "c.txt"],
+                "1\ncertain",
+                "0",
+                f"{LOUD}: there is one test point alone",
+            ),
+            (
+                ["between", "m.json", "l.json", "u.json", "c.txt"],
+                "0\ncertain",
+                "0",
+                f"{LOUD}: m.json names a netlist without test points",
+            ),
             (["check", "there"], "0", "3", ""),
             (["x2", "there"], "2", "0", ""),
             (["x2", "there"], "1", "0", f"{LOUD}: there is one test point alone"),
@@ -125,14 +145,24 @@ class Launcher(common.Case):
             (["audit", "there", "pipe"], "1", "0", "look at the line `points` of the text"),
             (["audit", "there", "pipe"], "1", "1", ""),
             (["trial", "1", "2"], "2", "0", ""),
-            (["trial", "1", "2"], "0", "0", f"{LOUD}: the made board has no test point, so this yes says nothing about the board"),
+            (
+                ["trial", "1", "2"],
+                "0",
+                "0",
+                f"{LOUD}: the made board has no test point, so this yes says nothing about the board",
+            ),
         ]
         for words, points, status, said in rows:
             with self.subTest(words=words, points=points, status=status):
                 self.write("here/r.txt", f"boardnet 2\nname 0 points 0\npoints {points}\nagrees\n")
                 self.write("calls", "")
-                told, out, notes = self.launch(*words, STAND_IN_POINTS=points, STAND_IN_ENDS=status, STAND_IN_CALLS=self.path("calls"))
-                self.assertEqual((told, out.splitlines()[1], self.read("calls")), (int(status), f"points {points}".split("\n")[0], "asked\n"))
+                told, out, notes = self.launch(
+                    *words, STAND_IN_POINTS=points, STAND_IN_ENDS=status, STAND_IN_CALLS=self.path("calls")
+                )
+                self.assertEqual(
+                    (told, out.splitlines()[1], self.read("calls")),
+                    (int(status), f"points {points}".split("\n")[0], "asked\n"),
+                )
                 lines = notes.splitlines()
                 self.assertEqual((lines[0], len(lines)), ("boardnet: agrees", 2 if said else 1))
                 self.assertIn(said, notes)
@@ -147,11 +177,21 @@ class Launcher(common.Case):
     def test_several_names(self):
         """x2 takes the first name of an object alone, which is said of each copper file that has more."""
         told = "t.gbr has objects of several nets (TO.N,GND,AGND), of which x2 takes the first name alone"
-        for text, is_told in (("%TO.N,GND,AGND*%", True), ("%TO.N,GND*%\n%TO.P,U1,1*%", False), ("%TO.N,GND,*%", False), ("%TO.N,*%", False), ("", False)):
+        for text, is_told in (
+            ("%TO.N,GND,AGND*%", True),
+            ("%TO.N,GND*%\n%TO.P,U1,1*%", False),
+            ("%TO.N,GND,*%", False),
+            ("%TO.N,*%", False),
+            ("", False),
+        ):
             self.write("here/there/t.gbr", text)
             for status in ("0", "1", "3"):
                 done, _, notes = self.launch("x2", "there", STAND_IN_POINTS="2", STAND_IN_ENDS=status)
-                self.assertEqual((done, told in notes, len(notes.splitlines())), (int(status), is_told and status != "3", 1 + (is_told and status != "3")), notes)
+                self.assertEqual(
+                    (done, told in notes, len(notes.splitlines())),
+                    (int(status), is_told and status != "3", 1 + (is_told and status != "3")),
+                    notes,
+                )
         self.write("here/there/t.gbr", "%TO.N,GND,AGND*%")
         self.assertNotIn("several nets", self.launch("check", "there", STAND_IN_POINTS="2")[2])
 
@@ -159,37 +199,73 @@ class Launcher(common.Case):
         """Every byte, also behind the last line feed, and of a text of megabytes."""
         for text in ("", "points 01", "a\n\n\x01\x80b", "points 0\r\nx", "line of a report\n" * 200_000):
             self.write("text", text)
-            done = subprocess.run([self.path("top", "boardnet"), "check", "there"], env=dict(os.environ, STAND_IN_TEXT=self.path("text")), cwd=self.path("here"), stdout=subprocess.PIPE, stderr=subprocess.PIPE)
-            self.assertEqual((done.returncode, done.stdout == text.encode(), done.stderr), (0, True, b"boardnet: agrees\n"))
+            done = subprocess.run(
+                [self.path("top", "boardnet"), "check", "there"],
+                env=dict(os.environ, STAND_IN_TEXT=self.path("text")),
+                cwd=self.path("here"),
+                stdout=subprocess.PIPE,
+                stderr=subprocess.PIPE,
+            )
+            self.assertEqual(
+                (done.returncode, done.stdout == text.encode(), done.stderr), (0, True, b"boardnet: agrees\n")
+            )
 
     def test_output_that_cannot_be_written(self):
         for words in ("check there >/dev/full", "x2 there >/dev/full"):
-            told = self.run_words(["sh", "-c", f"'{self.path('top', 'boardnet')}' {words}"], self.path("here"), environment={"STAND_IN_POINTS": "0"})
+            told = self.run_words(
+                ["sh", "-c", f"'{self.path('top', 'boardnet')}' {words}"],
+                self.path("here"),
+                environment={"STAND_IN_POINTS": "0"},
+            )
             self.assertEqual(told, (5, "", "boardnet: output cannot be written\n"))
         # Where it is closed the program is asked as it is.
-        status, _, notes = self.run_words(["sh", "-c", f"'{self.path('top', 'boardnet')}' check there >&-"], self.path("here"))
+        status, _, notes = self.run_words(
+            ["sh", "-c", f"'{self.path('top', 'boardnet')}' check there >&-"], self.path("here")
+        )
         self.assertIn("boardnet: agrees", notes)
         # A text goes behind what a file has already.
-        self.run_words(["sh", "-c", f"{{ echo before; '{self.path('top', 'boardnet')}' check there; echo behind; }} >out.txt"], self.path("here"))
+        self.run_words(
+            ["sh", "-c", f"{{ echo before; '{self.path('top', 'boardnet')}' check there; echo behind; }} >out.txt"],
+            self.path("here"),
+        )
         lines = self.read("here/out.txt").splitlines()
-        self.assertEqual((lines[0], lines[2:], lines[1].endswith("there")), ("before", ["check", "m.json", "behind"], True))
+        self.assertEqual(
+            (lines[0], lines[2:], lines[1].endswith("there")), ("before", ["check", "m.json", "behind"], True)
+        )
 
     def test_help(self):
         status, out, _ = self.launch("--help")
         self.assertEqual(status, 0)
-        for command in ("check", "audit", "trial", "write", "flatten", "x2", "gaps", "between", "manifest", "show", "install", "package"):
+        for command in (
+            "check",
+            "audit",
+            "trial",
+            "write",
+            "flatten",
+            "x2",
+            "gaps",
+            "between",
+            "manifest",
+            "show",
+            "install",
+            "package",
+        ):
             self.assertIn(f"  boardnet {command} ", out)
             for words in ([command, "--help"], ["help", command], [command, "-h"]):
                 status, page, _ = self.launch(*words)
                 self.assertEqual((status, page.split()[:2]), (0, ["boardnet", command]))
-                self.assertEqual("\nMANIFEST is a JSON file" in page, command in ("check", "audit", "write", "x2", "gaps", "between"))
+                self.assertEqual(
+                    "\nMANIFEST is a JSON file" in page, command in ("check", "audit", "write", "x2", "gaps", "between")
+                )
         self.assertIn("  6  out of memory\n", out)
         self.assertEqual(self.launch("other", "--help")[1].splitlines()[1:], ["other", "--help"])
 
     def test_version(self):
         status, out, _ = self.launch("--version")
         lines = out.splitlines()
-        self.assertEqual((status, [line.split()[0] for line in lines]), (0, ["boardnet", "commit", "toolchain", "sources"]))
+        self.assertEqual(
+            (status, [line.split()[0] for line in lines]), (0, ["boardnet", "commit", "toolchain", "sources"])
+        )
 
     def test_no_toolchain(self):
         os.remove(self.path("top", "crates", "boardnet", "out", "boardnet"))

@@ -21,14 +21,43 @@ def layer(number, side, *lines):
 
 
 # R1 and J1000001: a through pin of GND, a surface pin with a long name on an uneven place, and one of VCC below.
-TOP = [*pin("R1", "1", "GND"), *flash(10, (0, 0)), *pin("R1", "2,IN", LONG), *flash(12, (10.000123, 0)), *pin("J1000001", "GATE1", LONG), *flash(10, (10, 5)),
-       "%TD*%", *label("GND"), *draw(11, (0, 0), (0, 5)), *label(LONG), *draw(11, (10, 0), (10, 5))]
-BOTTOM = [*pin("R1", "1", "GND"), *flash(10, (0, 0)), *pin("U1", "1", "GND"), *flash(12, (5, 0)), "%TD*%", *label("GND"), *draw(11, (0, 0), (5, 0)),
-          *pin("U1", "2", "VCC"), *flash(12, (5, 5))]
+TOP = [
+    *pin("R1", "1", "GND"),
+    *flash(10, (0, 0)),
+    *pin("R1", "2,IN", LONG),
+    *flash(12, (10.000123, 0)),
+    *pin("J1000001", "GATE1", LONG),
+    *flash(10, (10, 5)),
+    "%TD*%",
+    *label("GND"),
+    *draw(11, (0, 0), (0, 5)),
+    *label(LONG),
+    *draw(11, (10, 0), (10, 5)),
+]
+BOTTOM = [
+    *pin("R1", "1", "GND"),
+    *flash(10, (0, 0)),
+    *pin("U1", "1", "GND"),
+    *flash(12, (5, 0)),
+    "%TD*%",
+    *label("GND"),
+    *draw(11, (0, 0), (5, 0)),
+    *pin("U1", "2", "VCC"),
+    *flash(12, (5, 5)),
+]
 HOLES = "; #@! TF.FileFunction,Plated,1,2,PTH\n"
-FILES = {"top.gbr": layer(1, "Top", *TOP), "bot.gbr": layer(2, "Bot", *BOTTOM), "p.drl": drill((0.0, 0.0)).replace("METRIC", HOLES + "METRIC", 1)}
-POINTS = [record("GND", "R1.1", 0, 0, "00"), record("NET-(R1-PAD2)O", "R1.2", 10, 0), record("NET-(R1-PAD2)O", "J10000.GATE", 10, 5), record("GND", "U1.1", 5, 0, "02"),
-          record("VCC", "U1.2", 5, 5, "02")]
+FILES = {
+    "top.gbr": layer(1, "Top", *TOP),
+    "bot.gbr": layer(2, "Bot", *BOTTOM),
+    "p.drl": drill((0.0, 0.0)).replace("METRIC", HOLES + "METRIC", 1),
+}
+POINTS = [
+    record("GND", "R1.1", 0, 0, "00"),
+    record("NET-(R1-PAD2)O", "R1.2", 10, 0),
+    record("NET-(R1-PAD2)O", "J10000.GATE", 10, 5),
+    record("GND", "U1.1", 5, 0, "02"),
+    record("VCC", "U1.2", 5, 5, "02"),
+]
 
 
 class Labels(made.Case):
@@ -50,10 +79,18 @@ class Labels(made.Case):
         """The kept package says the same again, and names pins and nets whole."""
         self.told(FILES, "--keep", "kept")
         self.assertEqual(self.show("kept")[:2], (0, f"kept: {FIRST}agrees (audit true)\n"))
-        self.assertEqual(sorted(os.listdir(self.path("kept"))), ["bot.gbr", "m.json", "names.ipc", "p.drl", "report.txt", "top.gbr"])
+        self.assertEqual(
+            sorted(os.listdir(self.path("kept"))), ["bot.gbr", "m.json", "names.ipc", "p.drl", "report.txt", "top.gbr"]
+        )
         records = read.records(self.read("kept/names.ipc").encode())
-        self.assertEqual([(it.component, it.pin) for it in records], [("R1", "1"), ("R1", "2"), ("J1000001", "GATE1"), ("R1", "1"), ("U1", "1"), ("U1", "2")])
-        self.assertEqual(read.spoken(["GND", "NNAME2", "VCC"], read.aliases(self.read("kept/names.ipc").encode())), ["GND", LONG, "VCC"])
+        self.assertEqual(
+            [(it.component, it.pin) for it in records],
+            [("R1", "1"), ("R1", "2"), ("J1000001", "GATE1"), ("R1", "1"), ("U1", "1"), ("U1", "2")],
+        )
+        self.assertEqual(
+            read.spoken(["GND", "NNAME2", "VCC"], read.aliases(self.read("kept/names.ipc").encode())),
+            ["GND", LONG, "VCC"],
+        )
 
     def test_differs(self):
         """A track that is lost, and one that joins too much, with whole names."""
@@ -71,11 +108,33 @@ class Labels(made.Case):
     @unittest.skipUnless(made.built(), "the program is not built")
     def test_names_stay_apart(self):
         """Names that differ in letters that are no ASCII, in control characters, in case or by a blank are different."""
-        for one, other in (("Netz_\xe4", "Netz_\xf6"), ("N\x01", "N\x02"), ("gnd", "GND"), ("GND ", "GND"), ("N" * 15 + "1", "N" * 15 + "2")):
-            lines = [*pin("U1", "1", one), *flash(10, (0, 0)), *pin("U1", "2", other), *flash(10, (5, 0)), "%TD*%", *draw(11, (0, 0), (5, 0))]
-            self.board({"top.gbr": layer(1, "Top", *lines).encode("latin-1"), "bot.gbr": layer(2, "Bot", *pin("U2", "1", "VCC"), *flash(10, (9, 0)))})
+        for one, other in (
+            ("Netz_\xe4", "Netz_\xf6"),
+            ("N\x01", "N\x02"),
+            ("gnd", "GND"),
+            ("GND ", "GND"),
+            ("N" * 15 + "1", "N" * 15 + "2"),
+        ):
+            lines = [
+                *pin("U1", "1", one),
+                *flash(10, (0, 0)),
+                *pin("U1", "2", other),
+                *flash(10, (5, 0)),
+                "%TD*%",
+                *draw(11, (0, 0), (5, 0)),
+            ]
+            self.board(
+                {
+                    "top.gbr": layer(1, "Top", *lines).encode("latin-1"),
+                    "bot.gbr": layer(2, "Bot", *pin("U2", "1", "VCC"), *flash(10, (9, 0))),
+                }
+            )
             status, out, _ = self.show("board", "--no-drills", program=made.built())
-            self.assertEqual((status, out.splitlines()[0]), (1, f"board: {FIRST}differs, opens 0, shorts 1, missing 0 (audit true)"), (one, other))
+            self.assertEqual(
+                (status, out.splitlines()[0]),
+                (1, f"board: {FIRST}differs, opens 0, shorts 1, missing 0 (audit true)"),
+                (one, other),
+            )
 
     def test_a_character_by_its_number(self):
         """A name that spells a character by its number is the name that has it: two pads of it that stand apart are an open."""
@@ -87,11 +146,28 @@ class Labels(made.Case):
     @unittest.skipUnless(made.built(), "the program is not built")
     def test_each_contour_is_a_point(self):
         """A pin's region of two contours, of which a track meets one alone."""
-        square = [f"X{x}Y{y}D0{code}*" for at in (0, 9_000_000) for x, y, code in ((at, 0, 2), (at + 1_000_000, 0, 1), (at + 1_000_000, 1_000_000, 1), (at, 0, 1))]
-        lines = [*pin("U1", "1", "GND"), "G36*", *square, "G37*", *pin("U1", "2", "GND"), *flash(10, (0, 5)), "%TD*%", *draw(11, (0, 0), (0, 5))]
-        self.board({"top.gbr": layer(1, "Top", *lines), "bot.gbr": layer(2, "Bot", *pin("U2", "1", "VCC"), *flash(10, (9, 9)))})
+        square = [
+            f"X{x}Y{y}D0{code}*"
+            for at in (0, 9_000_000)
+            for x, y, code in ((at, 0, 2), (at + 1_000_000, 0, 1), (at + 1_000_000, 1_000_000, 1), (at, 0, 1))
+        ]
+        lines = [
+            *pin("U1", "1", "GND"),
+            "G36*",
+            *square,
+            "G37*",
+            *pin("U1", "2", "GND"),
+            *flash(10, (0, 5)),
+            "%TD*%",
+            *draw(11, (0, 0), (0, 5)),
+        ]
+        self.board(
+            {"top.gbr": layer(1, "Top", *lines), "bot.gbr": layer(2, "Bot", *pin("U2", "1", "VCC"), *flash(10, (9, 9)))}
+        )
         status, out, _ = self.show("board", "--no-drills", program=made.built())
-        self.assertEqual((status, out.splitlines()[0]), (1, f"board: {FIRST}differs, opens 1, shorts 0, missing 0 (audit true)"))
+        self.assertEqual(
+            (status, out.splitlines()[0]), (1, f"board: {FIRST}differs, opens 1, shorts 0, missing 0 (audit true)")
+        )
 
     def test_no_holes(self):
         """Pins on several layers and no drill file: refused, unless it is said that there is none."""
@@ -105,7 +181,9 @@ class Labels(made.Case):
         self.assertEqual([self.told(bare)[k] for k in (0, 1)][0], 10)
         self.assertIn("there is no IPC-D-356A netlist", self.told(bare)[1])
         status, out, _ = self.told({**bare, "n.ipc": netlist(*POINTS)}, "--labels", folder="two")
-        self.assertEqual((status, "the copper files do not say of which pins or nets their pads are" in out), (10, True))
+        self.assertEqual(
+            (status, "the copper files do not say of which pins or nets their pads are" in out), (10, True)
+        )
 
     def test_nets_alone(self):
         """Where no file names a pin: each flash and region with a net."""
@@ -119,7 +197,16 @@ class Labels(made.Case):
         arcs = ["G36*", "X21000000Y0D02*", "G75*", "G03X21000000Y0I-1000000J0D01*", "G01*", "G37*"]
         erased = [*flash(10, (30, 0)), "%LPC*%", *flash(11, (30, 0)), "%LPD*%"]
         macro = ["%AMA*", "1,1,1.0,0.2,0*%", "%ADD20A*%", *flash(20, (40, 0))]
-        lines = [*pin("U2", "1", "A"), *arcs, *pin("U2", "2", "A"), *erased, "%TD*%", *draw(11, (20, 0), (29.7, 0)), *pin("U2", "3", "C"), *macro]
+        lines = [
+            *pin("U2", "1", "A"),
+            *arcs,
+            *pin("U2", "2", "A"),
+            *erased,
+            "%TD*%",
+            *draw(11, (20, 0), (29.7, 0)),
+            *pin("U2", "3", "C"),
+            *macro,
+        ]
         for program in self.over_both():
             status, out, board = self.told({"one.gbr": layer(1, "Top", *lines)}, program=program)
             self.assertEqual((status, out.startswith(f"board: {FIRST}agrees, between two bounds\n")), (0, True), out)
@@ -131,40 +218,87 @@ class Labels(made.Case):
         drawn = ["%ABD30*%", *draw(12, (0, 0), (0.5, 0)), "%AB*%"]
         nested = ["%ABD31*%", *region((0, 0), (1, 0), (1, 1), (0, 1)), "%AB*%", "%ABD30*%", *flash(31, (0, 0)), "%AB*%"]
         modal = ["D10*", "X0Y0D03*", *pin("U1", "2", "GND"), "X5000000Y0*"]
-        rows = [(defined, [*pin("U1", "2", "GND"), *flash(30, (5, 0))]) for defined in (block, drawn, nested)] + [([], modal)]
+        rows = [(defined, [*pin("U1", "2", "GND"), *flash(30, (5, 0))]) for defined in (block, drawn, nested)] + [
+            ([], modal)
+        ]
         rows.append(([], [*pin("U1", "2", "GND"), *draw(10, (5, 0), (5.5, 0))]))
         arcs = ["G36*", "X41000000Y0D02*", "G75*", "G03X41000000Y0I-1000000J0D01*", "G01*", "G37*"]
         for number, (defined, pad) in enumerate(rows):
             for end, status in ((2, 1), (5, 0)):
-                lines = [*arcs, *defined, *pin("U1", "1", "GND"), *flash(10, (0, 0)), *pad, "%TD*%", *draw(11, (0, 0), (end, 0))]
+                lines = [
+                    *arcs,
+                    *defined,
+                    *pin("U1", "1", "GND"),
+                    *flash(10, (0, 0)),
+                    *pad,
+                    "%TD*%",
+                    *draw(11, (0, 0), (end, 0)),
+                ]
                 for program in self.over_both():
-                    told, out, board = self.told({"one.gbr": layer(1, "Top", *lines)}, program=program, folder=f"row{number}")
+                    told, out, board = self.told(
+                        {"one.gbr": layer(1, "Top", *lines)}, program=program, folder=f"row{number}"
+                    )
                     self.assertEqual((told, board["points"], board["opens"]), (status, 2 + (pad == modal), status), out)
 
     def test_each_labelled_object(self):
         """Each object of a block has its own names, or those of the flash; what is no test point is told with why."""
+
         def points(*lines, wants_pins=True):
-            return [(it.label, it.pad and it.pad.middle, it.why) for it in pad_names.points_of(gerber(*lines), 1, wants_pins)]
-        first, second, bare = (pad_names.Label(*it) for it in (("U1", "1", ("GND",)), ("U1", "2", ("VCC",)), ("", "", ("GND",))))
-        inner = ["%ABD30*%", *pin("U1", "2", "VCC"), *flash(10, (1, 0)), "%TD*%", *flash(10, (3, 0)), *draw(11, (5, 0), (7, 0)), "%AB*%"]
+            return [
+                (it.label, it.pad and it.pad.middle, it.why)
+                for it in pad_names.points_of(gerber(*lines), 1, wants_pins)
+            ]
+
+        first, second, bare = (
+            pad_names.Label(*it) for it in (("U1", "1", ("GND",)), ("U1", "2", ("VCC",)), ("", "", ("GND",)))
+        )
+        inner = [
+            "%ABD30*%",
+            *pin("U1", "2", "VCC"),
+            *flash(10, (1, 0)),
+            "%TD*%",
+            *flash(10, (3, 0)),
+            *draw(11, (5, 0), (7, 0)),
+            "%AB*%",
+        ]
         parts = [(second, (10_000_000, 0), ""), (first, (30_000_000, 0), ""), (first, (60_000_000, 0), "")]
         self.assertEqual(points(*inner, *pin("U1", "1", "GND"), *flash(30, (0, 0))), parts)
         self.assertEqual(points(*inner, "%TD*%", *flash(30, (0, 0))), parts[:1])
         self.assertEqual(points(*pin("U1", "1", "GND"), "%LPC*%", *flash(10, (0, 0))), [(first, None, pad_names.CLEAR)])
-        self.assertEqual(points("%ADD20C,0*%", *pin("U1", "1", "GND"), *flash(20, (0, 0))), [(first, None, pad_names.NO_COPPER)])
-        self.assertEqual(points("%IPNEG*%", *pin("U1", "1", "GND"), *flash(10, (0, 0))), [(first, None, pad_names.NEGATIVE)])
+        self.assertEqual(
+            points("%ADD20C,0*%", *pin("U1", "1", "GND"), *flash(20, (0, 0))), [(first, None, pad_names.NO_COPPER)]
+        )
+        self.assertEqual(
+            points("%IPNEG*%", *pin("U1", "1", "GND"), *flash(10, (0, 0))), [(first, None, pad_names.NEGATIVE)]
+        )
         self.assertEqual(points(*pin("U1", "1", "GND"), *draw(10, (0, 0), (2, 0))), [(first, (10_000_000, 0), "")])
         two = ["%AMM*", "1,1,1.0,0,0*", "1,1,1.0,$1,0*%", "%ADD20M,5.0*%", "%ADD21M,0.5*%", *pin("U1", "1", "GND")]
         self.assertEqual(points(*two, *flash(20, (0, 0))), [(first, (0, 0), ""), (first, (50_000_000, 0), "")])
         self.assertEqual(points(*two, *flash(21, (0, 0))), [(first, (2_500_000, 0), "")])
         self.assertEqual(points(*pin("U1", "1", "GND"), "D10*", "G55X2000000Y0D03*"), [(first, (20_000_000, 0), "")])
-        self.assertEqual(points("%TO.P,U1*%", *label("GND"), *flash(10, (0, 0))), [(pad_names.Label("U1", "?", ("GND",)), (0, 0), "")])
+        self.assertEqual(
+            points("%TO.P,U1*%", *label("GND"), *flash(10, (0, 0))),
+            [(pad_names.Label("U1", "?", ("GND",)), (0, 0), "")],
+        )
         alone = [*label("GND"), *flash(10, (0, 0)), *region((0, 0), (1, 0), (1, 1))]
-        self.assertEqual([points(*alone), len(points(*alone, wants_pins=False))], [[(bare, None, pad_names.NET_ALONE)] * 2, 2])
+        self.assertEqual(
+            [points(*alone), len(points(*alone, wants_pins=False))], [[(bare, None, pad_names.NET_ALONE)] * 2, 2]
+        )
         track = [*label("GND"), *draw(10, (0, 0), (2, 0))]
         self.assertEqual([points(*track, wants_pins=it) for it in (True, False)], [[], [(bare, None, pad_names.DRAWN)]])
-        self.assertEqual(points(*label("GND"), *flash(10, (0, 0)), "D11*", "X4000000*", "Y0D02*", "X8000000D01*", "X9000000*", wants_pins=False),
-                         [(bare, None, pad_names.DRAWN)] * 2 + [(bare, (x, 0), "") for x in (0, 40_000_000)])
+        self.assertEqual(
+            points(
+                *label("GND"),
+                *flash(10, (0, 0)),
+                "D11*",
+                "X4000000*",
+                "Y0D02*",
+                "X8000000D01*",
+                "X9000000*",
+                wants_pins=False,
+            ),
+            [(bare, None, pad_names.DRAWN)] * 2 + [(bare, (x, 0), "") for x in (0, 40_000_000)],
+        )
 
     def test_no_silence(self):
         """Labelled objects that are no test points are noted."""
@@ -177,13 +311,32 @@ class Labels(made.Case):
         """A pad that a clear object erases is missing; one that it erases in part, or before, or that is drawn again, is not."""
         pad, clear = flash(10, (5, 0)), ["%LPC*%", *flash(12, (5, 0)), "%LPD*%"]
         ring = ["%LPC*%", *flash(11, (5, 0)), "%LPD*%"]
-        rows = [(pad + clear, 1, 1, 1), (flash(11, (5, 0)) + clear, 1, 1, 1), (pad + ring, 0, 0, 0), (clear + pad, 0, 0, 0), (pad + clear + pad, 0, 0, 1),
-                (pad + clear + ["%TD*%"] + pad, 0, 0, 1)]
+        rows = [
+            (pad + clear, 1, 1, 1),
+            (flash(11, (5, 0)) + clear, 1, 1, 1),
+            (pad + ring, 0, 0, 0),
+            (clear + pad, 0, 0, 0),
+            (pad + clear + pad, 0, 0, 1),
+            (pad + clear + ["%TD*%"] + pad, 0, 0, 1),
+        ]
         for lines, status, missing, notes in rows:
-            lines = [*pin("U2", "1", "A"), *flash(10, (0, 0)), *pin("U2", "2", "A"), *lines, "%TD*%", *draw(11, (0, 0), (4.6, 0))]
+            lines = [
+                *pin("U2", "1", "A"),
+                *flash(10, (0, 0)),
+                *pin("U2", "2", "A"),
+                *lines,
+                "%TD*%",
+                *draw(11, (0, 0), (4.6, 0)),
+            ]
             told, out, board = self.told({"one.gbr": layer(1, "Top", *lines)}, program=made.built())
             self.assertEqual((told, board["missing"]), (status, missing), out)
-            self.assertEqual(out.count("names: 1 pad, first U2 pin 2 (the one layer): later clear objects leave no place of its copper"), notes, out)
+            self.assertEqual(
+                out.count(
+                    "names: 1 pad, first U2 pin 2 (the one layer): later clear objects leave no place of its copper"
+                ),
+                notes,
+                out,
+            )
 
     def test_several_nets(self):
         """A pad of several nets is a point of each and declares their tie: what is lost of either is told."""
@@ -191,25 +344,54 @@ class Labels(made.Case):
         both, one = draw(11, (0, 0), (10, 0)), draw(11, (0, 0), (5, 0))
         rows = [
             ("GND,AGND", both, "AGND", 0, f"agrees, {tied}differs, opens 0, shorts 1, missing 0"),
-            ("GND,AGND", one, "AGND", 1, f"differs, opens 1, shorts 0, missing 0, open ties 0, {tied}differs, opens 1, shorts 1, missing 0"),
+            (
+                "GND,AGND",
+                one,
+                "AGND",
+                1,
+                f"differs, opens 1, shorts 0, missing 0, open ties 0, {tied}differs, opens 1, shorts 1, missing 0",
+            ),
             ("GND,AGND", one, "VCC", 0, f"agrees, {tied}differs, opens 0, shorts 1, missing 0"),
-            ("GND,AGND", both, "VCC", 1, f"differs, opens 0, shorts 1, missing 0, open ties 0, {tied}differs, opens 0, shorts 1, missing 0"),
+            (
+                "GND,AGND",
+                both,
+                "VCC",
+                1,
+                f"differs, opens 0, shorts 1, missing 0, open ties 0, {tied}differs, opens 0, shorts 1, missing 0",
+            ),
             ("GND", both, "AGND", 1, "differs, opens 0, shorts 1, missing 0"),
             ("GND,GND,", one, "AGND", 0, "agrees"),
             ("N/C,GND", one, "AGND", 0, "agrees"),
         ]
         for program in self.over_both():
             for names, track, other, status, line in rows:
-                lines = [*pin("J1", "1", "GND"), *flash(10, (0, 0)), *pin("NT1", "1", names), *flash(10, (5, 0)), *pin("U1", "1", other), *flash(10, (10, 0)),
-                         "%TD*%", *track]
+                lines = [
+                    *pin("J1", "1", "GND"),
+                    *flash(10, (0, 0)),
+                    *pin("NT1", "1", names),
+                    *flash(10, (5, 0)),
+                    *pin("U1", "1", other),
+                    *flash(10, (10, 0)),
+                    "%TD*%",
+                    *track,
+                ]
                 told, out, board = self.told({"one.gbr": layer(1, "Top", *lines)}, program=program)
                 self.assertEqual((told, out.splitlines()[0]), (status, f"board: {FIRST}{line} (audit true)"))
-                self.assertEqual([(it["names"], it["source"]) for it in board["ties"]], [(["GND", "AGND"], "one.gbr, NT1 pin 1 (the one layer)")] * (names == "GND,AGND"))
-                self.assertEqual("names: 1 pad, first NT1 pin 1 (the one layer): it is of several nets" in out, names == "GND,AGND")
+                self.assertEqual(
+                    [(it["names"], it["source"]) for it in board["ties"]],
+                    [(["GND", "AGND"], "one.gbr, NT1 pin 1 (the one layer)")] * (names == "GND,AGND"),
+                )
+                self.assertEqual(
+                    "names: 1 pad, first NT1 pin 1 (the one layer): it is of several nets" in out, names == "GND,AGND"
+                )
 
     def test_several_nets_are_kept(self):
         """With a name that no line of ties.txt can say the kept package has the short."""
-        for names, text, status in (("GND,AGND", "GND=AGND\n", 0), ("#WE,GND", "GND=#WE\n", 0), ("A=B,GND", "# not in a line: A=B=GND\n", 1)):
+        for names, text, status in (
+            ("GND,AGND", "GND=AGND\n", 0),
+            ("#WE,GND", "GND=#WE\n", 0),
+            ("A=B,GND", "# not in a line: A=B=GND\n", 1),
+        ):
             lines = [*pin("NT1", "1", names), *flash(10, (0, 0)), *pin("U1", "1", "VCC"), *flash(10, (5, 0))]
             self.assertEqual(self.told({"one.gbr": layer(1, "Top", *lines)}, "--keep", names)[0], 0)
             self.assertEqual((self.read(f"{names}/ties.txt"), self.show(names)[0]), (text, status))
@@ -217,29 +399,50 @@ class Labels(made.Case):
     def test_macros(self):
         """A pad that is a macro beside its origin: flattened, with its point in its copper, and no bounds."""
         macro = ["%AMA*", "1,1,1.0,0.8,0*%", "%ADD20A*%"]
-        lines = [*macro, *pin("U2", "1", "A"), *flash(20, (0, 0)), *pin("U2", "2", "A"), *flash(20, (10, 0)), "%TD*%", *draw(11, (0.8, 0), (10.8, 0))]
+        lines = [
+            *macro,
+            *pin("U2", "1", "A"),
+            *flash(20, (0, 0)),
+            *pin("U2", "2", "A"),
+            *flash(20, (10, 0)),
+            "%TD*%",
+            *draw(11, (0.8, 0), (10.8, 0)),
+        ]
         for program in self.over_both():
-            status, out, board = self.told({"one.gbr": layer(1, "Top", *lines)}, "--keep", f"kept{program == made.STAND_IN}", program=program)
+            status, out, board = self.told(
+                {"one.gbr": layer(1, "Top", *lines)}, "--keep", f"kept{program == made.STAND_IN}", program=program
+            )
             self.assertEqual((status, out.startswith(f"board: {FIRST}agrees (audit true)\n")), (0, True), out)
-        self.assertEqual([it.x for it in read.records(self.read("keptTrue/names.ipc").encode())], [8_000_000, 108_000_000])
+        self.assertEqual(
+            [it.x for it in read.records(self.read("keptTrue/names.ipc").encode())], [8_000_000, 108_000_000]
+        )
 
     def test_a_broken_word(self):
         """Words that are broken over lines say the same of pads."""
         broken = {**FILES, "top.gbr": FILES["top.gbr"].replace("%TO.P,R1,2,IN*%", "%TO.P,R1,\n2,IN*%")}
-        self.assertEqual([it.label for it in pad_names.points_of(broken["top.gbr"], 1, True)], [it.label for it in pad_names.points_of(FILES["top.gbr"], 1, True)])
+        self.assertEqual(
+            [it.label for it in pad_names.points_of(broken["top.gbr"], 1, True)],
+            [it.label for it in pad_names.points_of(FILES["top.gbr"], 1, True)],
+        )
 
     def test_beside_a_netlist(self):
         """What the netlist says otherwise is told; the names are the copper's own."""
         rows = [
             (POINTS, ["the netlist n.ipc says the same of all 5 pins"]),
             (POINTS[:4], ["the netlist n.ipc says otherwise: it has no record of U1 pin 2"]),
-            ([*POINTS[:3], record("NET-(R1-PAD2)O", "U1.1", 5, 0, "02"), POINTS[4]],
-             [f"the netlist n.ipc says otherwise: U1 pin 1 is of NET-(R1-PAD2)O there and of GND by the copper's names"]),
+            (
+                [*POINTS[:3], record("NET-(R1-PAD2)O", "U1.1", 5, 0, "02"), POINTS[4]],
+                [
+                    f"the netlist n.ipc says otherwise: U1 pin 1 is of NET-(R1-PAD2)O there and of GND by the copper's names"
+                ],
+            ),
             ([*POINTS, record("VCC", "X1.1", 0, 0)], ["the netlist n.ipc says otherwise: it alone has X1 pin 1"]),
         ]
         for program in self.over_both():
             for number, (records, wanted) in enumerate(rows):
-                status, out, board = self.told({**FILES, "n.ipc": netlist(*records)}, "--labels", program=program, folder=f"row{number}")
+                status, out, board = self.told(
+                    {**FILES, "n.ipc": netlist(*records)}, "--labels", program=program, folder=f"row{number}"
+                )
                 self.assertEqual((status, out.startswith(f"row{number}: {FIRST}agrees")), (0, True), out)
                 self.assertEqual([note for note in board["notes"] if note.startswith("the netlist")], wanted)
 
@@ -264,10 +467,18 @@ class Pairs(unittest.TestCase):
         ours = {"A1": "GND", "A2": "GND", "B1": "/in", "B2": "/in", "C1": "unconnected-(C1)"}
         rows = [
             ({"A1": "GND", "A2": "GND", "B1": "_IN", "B2": "_IN", "C1": "N/C"}, []),
-            ({"A1": "GND", "A2": "GND", "B1": "_IN", "B2": "_IN", "C1": "GND"}, ["C pin 1 is of GND there and of unconnected-(C1) by the copper's names"]),
-            ({"A1": "GND", "A2": "GND", "B1": "VCC", "B2": "VCC", "C1": "N/C"}, ["what is VCC there is /in by the copper's names"]),
-            ({"A1": "GND", "A2": "GND", "B1": "_IN", "B2": "N/C", "C1": "N/C"},
-             ["B pin 2 is of N/C there and of /in by the copper's names"]),
+            (
+                {"A1": "GND", "A2": "GND", "B1": "_IN", "B2": "_IN", "C1": "GND"},
+                ["C pin 1 is of GND there and of unconnected-(C1) by the copper's names"],
+            ),
+            (
+                {"A1": "GND", "A2": "GND", "B1": "VCC", "B2": "VCC", "C1": "N/C"},
+                ["what is VCC there is /in by the copper's names"],
+            ),
+            (
+                {"A1": "GND", "A2": "GND", "B1": "_IN", "B2": "N/C", "C1": "N/C"},
+                ["B pin 2 is of N/C there and of /in by the copper's names"],
+            ),
         ]
         for theirs, wanted in rows:
             self.assertEqual(self.told(theirs, ours), wanted)
@@ -286,17 +497,34 @@ class Places(unittest.TestCase):
         """Each place is copper of its pad, by whole numbers: off the grid, with a hole, small, beside its middle, slanted."""
         square = ("area", [(-19_000, -19_000), (19_000, -19_000), (19_000, 19_000), (-19_000, 19_000)])
         far = ("area", [(5_003, 0), (999_003, 994_000), (999_003, 1_006_000), (5_003, 12_000)])
-        rows = [[self.DISC], [("capsule", (12_345, 6_789), (12_345, 6_789), 8_000)], [square], [far], [("capsule", (3, 3), (700_003, 100_003), 6_000)]]
+        rows = [
+            [self.DISC],
+            [("capsule", (12_345, 6_789), (12_345, 6_789), 8_000)],
+            [square],
+            [far],
+            [("capsule", (3, 3), (700_003, 100_003), 6_000)],
+        ]
         for pieces in rows:
-            for gone in ([], [("capsule", (0, 0), (0, 0), 3_000)], [("capsule", (0, 0), (0, 0), 3_000_000)] if pieces == [self.DISC] else []):
+            for gone in (
+                [],
+                [("capsule", (0, 0), (0, 0), 3_000)],
+                [("capsule", (0, 0), (0, 0), 3_000_000)] if pieces == [self.DISC] else [],
+            ):
                 pad = pad_places.Pad((0, 0), pieces, gone)
                 place = pad_places.grid_place(pad, 10_000)
                 self.assertIsNotNone(place, pieces)
                 spot = (place.x * 10_000, place.y * 10_000)
-                self.assertTrue(any(pad_places.holds(piece, spot) for piece in pieces) and not any(pad_places.holds(piece, spot) for piece in gone), (pieces, place))
+                self.assertTrue(
+                    any(pad_places.holds(piece, spot) for piece in pieces)
+                    and not any(pad_places.holds(piece, spot) for piece in gone),
+                    (pieces, place),
+                )
 
     def test_nowhere(self):
         """A pad smaller than the grid and off it, and one farther than six digits."""
         small = pad_places.Pad((5_000, 5_000), [("capsule", (5_000, 5_000), (5_000, 5_000), 100)])
         far = pad_places.Pad((10_010_000_000, 0), [("capsule", (10_010_000_000, 0), (10_010_000_000, 0), 1_000_000)])
-        self.assertEqual((pad_places.grid_place(small, 10_000), pad_places.grid_place(far, 10_000), pad_places.settled([far])[0]), (None, None, 25_400))
+        self.assertEqual(
+            (pad_places.grid_place(small, 10_000), pad_places.grid_place(far, 10_000), pad_places.settled([far])[0]),
+            (None, None, 25_400),
+        )

@@ -17,11 +17,29 @@ def pad(pin, net, *at):
 
 class Rules(unittest.TestCase):
     def test_how_kicad_writes_names(self):
-        rows = [(SHORT, LONG), ("GND", "gnd"), ("/SDA", "/sda"), ("A?B", "a b"), ("?5V", "\u00e45V"), ("_NAME_OF_A_NET", "a_long_name_of_a_net"),
-                ("E_OF_A_NET#12", "a_long_name_of_a_net"), ("SHORT#1", "short"), ("a_long_name_of", "a_long_name_of_a_net"), ("ng_name_of_net", "a_long_name_of_net")]
+        rows = [
+            (SHORT, LONG),
+            ("GND", "gnd"),
+            ("/SDA", "/sda"),
+            ("A?B", "a b"),
+            ("?5V", "\u00e45V"),
+            ("_NAME_OF_A_NET", "a_long_name_of_a_net"),
+            ("E_OF_A_NET#12", "a_long_name_of_a_net"),
+            ("SHORT#1", "short"),
+            ("a_long_name_of", "a_long_name_of_a_net"),
+            ("ng_name_of_net", "a_long_name_of_net"),
+        ]
         for short, whole in rows:
             self.assertTrue(whole_names.is_written_so(short, whole), (short, whole))
-        for short, whole in ((SHORT, "Net-(U103-CAP+)"), ("GND", "GND_A"), ("GND#A", "GND"), ("GND#01", "GND"), ("GND#", "GND"), ("a_long_name", "a_long_name_of_a_net"), ("AME_OF_A_NET#1", "a_long_name_of_a_net")):
+        for short, whole in (
+            (SHORT, "Net-(U103-CAP+)"),
+            ("GND", "GND_A"),
+            ("GND#A", "GND"),
+            ("GND#01", "GND"),
+            ("GND#", "GND"),
+            ("a_long_name", "a_long_name_of_a_net"),
+            ("AME_OF_A_NET#1", "a_long_name_of_a_net"),
+        ):
             self.assertFalse(whole_names.is_written_so(short, whole), (short, whole))
 
     def matched(self, names, labels):
@@ -37,8 +55,15 @@ class Rules(unittest.TestCase):
     def test_what_stays(self):
         """Another label on a pin, one label on pins of two names, a label that is a name of the netlist, a pad of two nets, N/C, two names that are exchanged."""
         names, other = {SHORT: ["U1.1", "U2.1"], "GND": ["U1.2"]}, "NET-(U102-CAP+)"
-        for more, labels in (({}, {"U1.1": [LONG], "U2.1": [other]}), ({}, {"U1.1": [LONG], "U2.1": [LONG], "U1.2": [LONG]}), ({LONG: ["U9.1"]}, {"U1.1": [LONG], "U2.1": [LONG]}),
-                             ({}, {"U1.1": [LONG, "A"], "U2.1": [LONG]}), ({"N/C": ["U3.1"]}, {"U3.1": ["n/c"]}), ({}, {"U1.1": ["gnd"], "U2.1": ["gnd"], "U1.2": [LONG]}), ({}, {})):
+        for more, labels in (
+            ({}, {"U1.1": [LONG], "U2.1": [other]}),
+            ({}, {"U1.1": [LONG], "U2.1": [LONG], "U1.2": [LONG]}),
+            ({LONG: ["U9.1"]}, {"U1.1": [LONG], "U2.1": [LONG]}),
+            ({}, {"U1.1": [LONG, "A"], "U2.1": [LONG]}),
+            ({"N/C": ["U3.1"]}, {"U3.1": ["n/c"]}),
+            ({}, {"U1.1": ["gnd"], "U2.1": ["gnd"], "U1.2": [LONG]}),
+            ({}, {}),
+        ):
             self.assertEqual(self.matched({**names, **more}, labels), {}, labels)
 
     def test_pins_that_are_cut(self):
@@ -49,15 +74,51 @@ class Rules(unittest.TestCase):
 
     def test_labels(self):
         """A label is that in force at the object: not that of a pin whose net comes later; of a region where it ends; in comments and by numbers too."""
-        text = gerber(*pad("U1.1", "A", (0, 0)), "%TO.P,U1,2*%", "%TO.N,B*%", *flash(10, (1, 0)), "%TO.P,U1,3*%", "%TO.N,C*%", *flash(10, (2, 0), (3, 0)), "%TD.N*%", *flash(10, (4, 0)),
-                      "%TO.P,U1,4*%", "%TO.N,\\u00E4,E*%", *made.region((5, 0), (6, 0), (6, 1)), "%TD*%", "G04 #@! TO.P,U1,5*", "G04 #@! TO.N,F*", *flash(10, (9, 0)))
+        text = gerber(
+            *pad("U1.1", "A", (0, 0)),
+            "%TO.P,U1,2*%",
+            "%TO.N,B*%",
+            *flash(10, (1, 0)),
+            "%TO.P,U1,3*%",
+            "%TO.N,C*%",
+            *flash(10, (2, 0), (3, 0)),
+            "%TD.N*%",
+            *flash(10, (4, 0)),
+            "%TO.P,U1,4*%",
+            "%TO.N,\\u00E4,E*%",
+            *made.region((5, 0), (6, 0), (6, 1)),
+            "%TD*%",
+            "G04 #@! TO.P,U1,5*",
+            "G04 #@! TO.N,F*",
+            *flash(10, (9, 0)),
+        )
         found = whole_names.Labels(text.encode()).nets
-        self.assertEqual(found, {("U1", "1"): {"A"}, ("U1", "2"): {"B"}, ("U1", "3"): {"C"}, ("U1", "4"): {"\\u00E4", "E"}, ("U1", "5"): {"F"}})
+        self.assertEqual(
+            found,
+            {
+                ("U1", "1"): {"A"},
+                ("U1", "2"): {"B"},
+                ("U1", "3"): {"C"},
+                ("U1", "4"): {"\\u00E4", "E"},
+                ("U1", "5"): {"F"},
+            },
+        )
 
 
 class Told(made.Case):
-    TOP = gerber(*pad("U1.1", LONG, (0, 0)), *pad("U2.1", LONG, (5, 0)), *pad("U1.2", "gnd", (9, 0)), *pad("U2.2", "gnd", (9, 5)), *draw(11, (9, 0), (9, 5)))
-    POINTS = netlist(record(SHORT, "U1.1", 0, 0), record(SHORT, "U2.1", 5, 0), record("GND", "U1.2", 9, 0), record("GND", "U2.2", 9, 5))
+    TOP = gerber(
+        *pad("U1.1", LONG, (0, 0)),
+        *pad("U2.1", LONG, (5, 0)),
+        *pad("U1.2", "gnd", (9, 0)),
+        *pad("U2.2", "gnd", (9, 5)),
+        *draw(11, (9, 0), (9, 5)),
+    )
+    POINTS = netlist(
+        record(SHORT, "U1.1", 0, 0),
+        record(SHORT, "U2.1", 5, 0),
+        record("GND", "U1.2", 9, 0),
+        record("GND", "U2.2", 9, 5),
+    )
 
     def files(self, **more):
         return {"m.json": manifest(), "top.gbr": self.TOP, "n.ipc": self.POINTS, **more}
@@ -65,18 +126,25 @@ class Told(made.Case):
     def test_every_form(self):
         for program in self.over_both():
             self.board(self.files())
-            status, out, _ = self.show("board", "--json", "f.json", "--junit", "f.xml", "--page", "f.html", program=program)
+            status, out, _ = self.show(
+                "board", "--json", "f.json", "--junit", "f.xml", "--page", "f.html", program=program
+            )
             self.assertEqual(status, 1)
             self.assertEqual(out.splitlines()[1], LONG)
             self.assertIn(f"{LONG} is in 2 parts, here U2 pin 1, there U1 pin 1.\n", out)
             self.assertIn(f"      The netlist has {SHORT} for {LONG}.\n", out)
             (found,) = json.loads(self.read("f.json"))["boards"][0]["findings"]
-            self.assertEqual((found["names"], found["points"][0]["name"], found["hints"][-1]), ([LONG], LONG, f"The netlist has {SHORT} for {LONG}."))
+            self.assertEqual(
+                (found["names"], found["points"][0]["name"], found["hints"][-1]),
+                ([LONG], LONG, f"The netlist has {SHORT} for {LONG}."),
+            )
             for name in ("f.xml", "f.html"):
                 self.assertIn(LONG, self.read(name))
 
     def test_gaps(self):
-        self.board(self.files(**{"top.gbr": self.TOP.replace("M02*", "\n".join([*draw(11, (5, 0), (8.3, 0)), "M02*"]))}))
+        self.board(
+            self.files(**{"top.gbr": self.TOP.replace("M02*", "\n".join([*draw(11, (5, 0), (8.3, 0)), "M02*"]))})
+        )
         _, out, _ = self.show("board", "--gaps", "0.2")
         self.assertIn(f"gap-0: {LONG} and gnd are", out)
         self.assertIn(f"The netlist has {SHORT} for {LONG}.", out)
@@ -101,7 +169,11 @@ class Told(made.Case):
     def test_what_stays_short(self):
         """Labels that contradict the netlist, or that no pin has; a netlist whose names are not cut is not compared."""
         other = self.TOP.replace(f"%TO.P,U2,1*%\n%TO.N,{LONG}*%", "%TO.P,U2,1*%\n%TO.N,VCC*%")
-        for files in (self.files(**{"top.gbr": other}), self.files(**{"top.gbr": self.TOP.replace("TO.P", "TO.C")}), self.files(**{"n.ipc": self.POINTS.replace(SHORT, "CAP".ljust(14))})):
+        for files in (
+            self.files(**{"top.gbr": other}),
+            self.files(**{"top.gbr": self.TOP.replace("TO.P", "TO.C")}),
+            self.files(**{"n.ipc": self.POINTS.replace(SHORT, "CAP".ljust(14))}),
+        ):
             self.board(files)
             status, out, _ = self.show("board")
             self.assertEqual((status, "The netlist has" in out, LONG in out), (1, False, False), out)

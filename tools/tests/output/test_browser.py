@@ -79,7 +79,9 @@ class InABrowser(common.Case):
     def on_screen(self, x, y):
         """A place of the board in millimetres, in pixels of the window."""
         vx, vy, s, flip = map(float, self.data("view").split())
-        left, top, width, height = self.ask("(b => [b.left, b.top, b.width, b.height])(document.getElementById('marks').getBoundingClientRect())")
+        left, top, width, height = self.ask(
+            "(b => [b.left, b.top, b.width, b.height])(document.getElementById('marks').getBoundingClientRect())"
+        )
         return left + width / 2 + (x * 1e6 - vx) * s * flip, top + height / 2 - (y * 1e6 - vy) * s
 
     def point_at(self, x, y):
@@ -98,14 +100,19 @@ class InABrowser(common.Case):
     # ---- findings
 
     def test_findings_by_their_links(self):
-        rows = {"open-0": ((1500, 5000), "1", "R1 pin 2 (top, 3.000, 5.000 mm) is not joined to"), "short-0": ((5000, 0), "2", "GND and VCC meet on bottom"),
-                "missing-0": (None, "1", "no copper of top.gbr lies under </b>")}
+        rows = {
+            "open-0": ((1500, 5000), "1", "R1 pin 2 (top, 3.000, 5.000 mm) is not joined to"),
+            "short-0": ((5000, 0), "2", "GND and VCC meet on bottom"),
+            "missing-0": (None, "1", "no copper of top.gbr lies under </b>"),
+        }
         for name, (middle, front, words) in rows.items():
             self.open(place="#" + name)
             self.assertEqual((self.current(), self.data("chosen"), self.data("front")), (name, name, front))
             self.assertIn(words, self.text_of("#spoken"))
             self.assertIn(self.middle(), (middle, self.middle() if middle is None else None))
-            self.assertEqual(self.ask("document.getElementById('copper').classList.contains('pale')"), name != "missing-0")
+            self.assertEqual(
+                self.ask("document.getElementById('copper').classList.contains('pale')"), name != "missing-0"
+            )
             self.assertGreater(len(self.all(".more button")), 0)
 
     def test_an_open(self):
@@ -120,7 +127,11 @@ class InABrowser(common.Case):
         self.open(place="#short-0")
         self.assertLessEqual({BLUE}, self.colours("marks", -0.4, 0.3, 0.8, 0.1))
         self.assertLessEqual({ORANGE, WHITE}, self.colours("marks", 9.6, 0.25, 0.8, 0.15), "the other side is striped")
-        self.assertLessEqual({YELLOW, BLACK}, self.colours("marks", 4, -0.09, 2, 0.18), "what could be either's, and the place where the names meet")
+        self.assertLessEqual(
+            {YELLOW, BLACK},
+            self.colours("marks", 4, -0.09, 2, 0.18),
+            "what could be either's, and the place where the names meet",
+        )
         self.assertEqual(self.all("#legend div"), ["copper of GND", "copper of VCC", "could be either's: 1 piece"])
         self.assertIn("GND and VCC meet at bottom, 5.000, 0.000 mm", self.text_of(".more"))
         chain = [words.split(":")[0] for words in self.all(".more details button")]
@@ -188,7 +199,12 @@ class InABrowser(common.Case):
     def test_keyboard_in_the_list(self):
         self.open()
         self.ask("document.querySelector('#open-0 a').focus()")
-        for key, wanted in (("ArrowDown", "short-0"), ("ArrowDown", "missing-0"), ("ArrowDown", "missing-0"), ("ArrowUp", "short-0")):
+        for key, wanted in (
+            ("ArrowDown", "short-0"),
+            ("ArrowDown", "missing-0"),
+            ("ArrowDown", "missing-0"),
+            ("ArrowUp", "short-0"),
+        ):
             self.browser.key(key)
             self.assertEqual(self.ask("document.activeElement.parentElement.id"), wanted)
         self.click("#everywhere")
@@ -201,7 +217,11 @@ class InABrowser(common.Case):
         self.open()
         names = {self.colours("copper", x, y, 0.1, 0.1).pop() for x, y in ((-0.45, 0), (-0.45, 5), (2.55, 5))}
         self.assertEqual(len(names), 3, "each net has a colour of its own")
-        self.assertEqual(self.colours("copper", -0.45, 0, 0.1, 0.1), self.colours("copper", 9.6, 0, 0.1, 0.1), "both ends of one net have one")
+        self.assertEqual(
+            self.colours("copper", -0.45, 0, 0.1, 0.1),
+            self.colours("copper", 9.6, 0, 0.1, 0.1),
+            "both ends of one net have one",
+        )
         self.assertNotIn(self.colours("copper", 4, 0).pop(), names, "copper of a layer that is not in front is paler")
         self.browser.key("2")
         self.assertLessEqual(self.colours("copper", 4, 0), names)
@@ -240,7 +260,10 @@ class InABrowser(common.Case):
         x, y = self.on_screen(3, 5)
         self.browser.mouse("mouseWheel", x, y, deltaX=0, deltaY=-400)
         self.browser.rest()
-        self.assertTrue(all(abs(a - b) < 1 for a, b in zip(self.on_screen(3, 5), (x, y))), "a wheel leaves the place under the pointer")
+        self.assertTrue(
+            all(abs(a - b) < 1 for a, b in zip(self.on_screen(3, 5), (x, y))),
+            "a wheel leaves the place under the pointer",
+        )
         self.drag((x, y), (x + 90, y - 40))
         self.assertTrue(all(abs(a - b) < 1 for a, b in zip(self.on_screen(3, 5), (x + 90, y - 40))))
 
@@ -248,7 +271,9 @@ class InABrowser(common.Case):
         self.browser.mouse("mouseMoved", *start)
         self.browser.mouse("mousePressed", *start, button="left", clickCount=1)
         for k in range(1, steps + 1):
-            self.browser.mouse("mouseMoved", *(a + (b - a) * k / steps for a, b in zip(start, end)), button="left", buttons=1)
+            self.browser.mouse(
+                "mouseMoved", *(a + (b - a) * k / steps for a, b in zip(start, end)), button="left", buttons=1
+            )
         self.browser.mouse("mouseReleased", *end, button="left", clickCount=1)
         self.browser.rest()
 
@@ -264,14 +289,25 @@ class InABrowser(common.Case):
             self.ask(f"window.moved = {READ}('copper'); 0")
             self.click("#points")
             self.assertEqual(self.data("painted"), "whole")
-            self.assertLess(self.ask(f"{READ}('copper').reduce((most, v, i) => Math.max(most, Math.abs(v - moved[i])), 0)"), 40, key)
+            self.assertLess(
+                self.ask(f"{READ}('copper').reduce((most, v, i) => Math.max(most, Math.abs(v - moved[i])), 0)"), 40, key
+            )
             self.assertEqual(self.ask("document.getElementById('copper').style.transform"), "")
 
     # ---- the first look
 
     def sized(self, width, height):
-        self.browser.call("Emulation.setDeviceMetricsOverride", width=width, height=height, deviceScaleFactor=1, mobile=False)
-        self.addCleanup(self.browser.call, "Emulation.setDeviceMetricsOverride", width=browser.WIDTH, height=browser.HEIGHT, deviceScaleFactor=1, mobile=False)
+        self.browser.call(
+            "Emulation.setDeviceMetricsOverride", width=width, height=height, deviceScaleFactor=1, mobile=False
+        )
+        self.addCleanup(
+            self.browser.call,
+            "Emulation.setDeviceMetricsOverride",
+            width=browser.WIDTH,
+            height=browser.HEIGHT,
+            deviceScaleFactor=1,
+            mobile=False,
+        )
 
     def bottom(self, selector):
         return self.ask(f"document.querySelector({selector!r}).getBoundingClientRect().bottom")
@@ -279,8 +315,13 @@ class InABrowser(common.Case):
     def noted(self, count):
         """The board with so many notes, a flood and many findings."""
         shown = pages.many(self.shown, 400)
-        notes = [f"file {k}.gbr has macros and was flattened: commands are those of the flattened file, which --keep keeps" for k in range(count)]
-        return shown._replace(seen=shown.seen._replace(notes=notes, flood="397 of 400 test points lie beside the copper. " * 20))
+        notes = [
+            f"file {k}.gbr has macros and was flattened: commands are those of the flattened file, which --keep keeps"
+            for k in range(count)
+        ]
+        return shown._replace(
+            seen=shown.seen._replace(notes=notes, flood="397 of 400 test points lie beside the copper. " * 20)
+        )
 
     def test_first_look(self):
         """Verdict, what is to be seen to first and the first finding stand on a small screen, however many notes there are; these are folded."""
@@ -289,30 +330,44 @@ class InABrowser(common.Case):
             self.browser.prefer(theme)
             for count in (0, 1, 60):
                 self.open(page.page_html(self.noted(count)))
-                places = [self.bottom(it) for it in (".verdict", ".told", ".notes summary", "#seek", "#findings li[id]")]
+                places = [
+                    self.bottom(it) for it in (".verdict", ".told", ".notes summary", "#seek", "#findings li[id]")
+                ]
                 self.assertEqual(places, sorted(places))
                 self.assertTrue(0 < places[0] and places[-1] <= 720, places)
                 words = "How it was judged" + {0: "", 1: ", and 1 note", 60: ", and 60 notes"}[count]
-                self.assertEqual((self.text_of(".notes summary"), self.ask("document.querySelector('.notes').open")), (words, False))
-                self.assertEqual((len(self.all(".notes .advice")), "The report was audited" in self.text_of(".notes .facts")), (count, True))
+                self.assertEqual(
+                    (self.text_of(".notes summary"), self.ask("document.querySelector('.notes').open")), (words, False)
+                )
+                self.assertEqual(
+                    (len(self.all(".notes .advice")), "The report was audited" in self.text_of(".notes .facts")),
+                    (count, True),
+                )
 
     def test_a_narrow_window(self):
         """Nothing is wider than the window, and the picture stands above the words."""
         self.sized(400, 800)
         self.open(page.page_html(self.noted(3)))
         self.assertLessEqual(self.ask("document.documentElement.scrollWidth"), 400)
-        self.assertLess(self.bottom("#board"), self.ask("document.querySelector('.verdict').getBoundingClientRect().top") + 1)
+        self.assertLess(
+            self.bottom("#board"), self.ask("document.querySelector('.verdict').getBoundingClientRect().top") + 1
+        )
 
     def test_printed_notes(self):
         """On paper notes are open, and folded again behind it."""
         self.open(page.page_html(self.noted(3)))
-        told = [self.ask(f"dispatchEvent(new Event('{name}')), document.querySelector('.notes').open") for name in ("beforeprint", "afterprint")]
+        told = [
+            self.ask(f"dispatchEvent(new Event('{name}')), document.querySelector('.notes').open")
+            for name in ("beforeprint", "afterprint")
+        ]
         self.assertEqual(told, [True, False])
 
     # ---- search, and many findings
 
     def seek(self, text):
-        self.ask(f"document.getElementById('seek').value = {text!r}; document.getElementById('seek').dispatchEvent(new Event('input'))")
+        self.ask(
+            f"document.getElementById('seek').value = {text!r}; document.getElementById('seek').dispatchEvent(new Event('input'))"
+        )
         return self.all("#found a", "hash"), self.all("#findings li[id]:not([hidden])", "id")
 
     def test_search(self):
@@ -333,18 +388,30 @@ class InABrowser(common.Case):
     def test_search_of_names_that_are_cut(self):
         """A whole name finds the net that has its front, where the netlist cut it."""
         long = "ABCDEFGHIJKLMN"
-        self.open(page.page_html(pages.shown_of({**BOARD, "n.ipc": netlist(record(long, "J1.1", 0, 0, "00"), record("VCC", "U1.8", 10, 0, "00"))})))
-        self.assertEqual([self.seek(text)[0] for text in (long.lower(), long.lower() + "opq", "abcdefghijklm", "abcdefghijklmx")], [["#net-0"]] * 3 + [[]])
-
+        self.open(
+            page.page_html(
+                pages.shown_of(
+                    {**BOARD, "n.ipc": netlist(record(long, "J1.1", 0, 0, "00"), record("VCC", "U1.8", 10, 0, "00"))}
+                )
+            )
+        )
+        self.assertEqual(
+            [self.seek(text)[0] for text in (long.lower(), long.lower() + "opq", "abcdefghijklm", "abcdefghijklmx")],
+            [["#net-0"]] * 3 + [[]],
+        )
 
     def test_many_findings(self):
         # More than stand open: the further ones are in folds, which a link, the walk and the search open.
         text = page.page_html(pages.many(self.shown, 1400))
         self.open(text)
-        self.assertEqual(self.all("#findings summary"), ["missing 300 to 799", "missing 800 to 1299", "missing 1300 to 1399"])
+        self.assertEqual(
+            self.all("#findings summary"), ["missing 300 to 799", "missing 800 to 1299", "missing 1300 to 1399"]
+        )
         self.assertEqual(len(self.all("#findings li[id]", "id")), 302, "what is folded is not built")
         self.browser.key("p")
-        self.assertEqual((self.current(), self.all("#findings details", "open")), ("missing-1399", [False, False, True]))
+        self.assertEqual(
+            (self.current(), self.all("#findings details", "open")), ("missing-1399", [False, False, True])
+        )
         self.go("missing-850")
         self.assertEqual((self.current(), self.all("#findings details", "open")), ("missing-850", [False, True, True]))
         self.assertEqual(self.seek("missing 555")[1], ["missing-555"])
@@ -370,12 +437,20 @@ class InABrowser(common.Case):
         self.open(place="#short-0")
         before = self.pixels()
         self.browser.prefer("dark", media="print")
-        seen = self.ask("['header', '#findings', '#open-0', '#short-0', '#missing-0', '#board', '#marks', '#legend', '.seek', '.keys', '#layers', '#tools', '#copper', '.more']"
-                        ".filter(it => document.querySelector(it)?.checkVisibility())")
-        self.assertEqual(seen, ["header", "#findings", "#open-0", "#short-0", "#missing-0", "#board", "#marks", "#legend"])
+        seen = self.ask(
+            "['header', '#findings', '#open-0', '#short-0', '#missing-0', '#board', '#marks', '#legend', '.seek', '.keys', '#layers', '#tools', '#copper', '.more']"
+            ".filter(it => document.querySelector(it)?.checkVisibility())"
+        )
+        self.assertEqual(
+            seen, ["header", "#findings", "#open-0", "#short-0", "#missing-0", "#board", "#marks", "#legend"]
+        )
         self.ask("dispatchEvent(new Event('beforeprint'))")
         self.browser.rest()
-        self.assertEqual((self.data("theme"), self.ask(f"{READ}('marks')[3] > 0")), ("light", True), "one canvas has the copper and the marks")
+        self.assertEqual(
+            (self.data("theme"), self.ask(f"{READ}('marks')[3] > 0")),
+            ("light", True),
+            "one canvas has the copper and the marks",
+        )
         self.ask("dispatchEvent(new Event('afterprint'))")
         self.browser.prefer("dark")
         paper = self.browser.paper()
@@ -385,7 +460,11 @@ class InABrowser(common.Case):
 
     def test_for_readers(self):
         self.open(place="#open-0")
-        nodes = [(it["role"]["value"], it.get("name", {}).get("value", "")) for it in self.browser.call("Accessibility.getFullAXTree")["nodes"] if not it.get("ignored")]
+        nodes = [
+            (it["role"]["value"], it.get("name", {}).get("value", ""))
+            for it in self.browser.call("Accessibility.getFullAXTree")["nodes"]
+            if not it.get("ignored")
+        ]
         for role in ("button", "checkbox", "link", "searchbox", "image", "navigation"):
             names = [name for its, name in nodes if its == role]
             self.assertTrue(names and all(names), (role, names))
@@ -399,7 +478,9 @@ class InABrowser(common.Case):
     def test_without_scripts(self):
         # Nor with a browser that cannot unpack: all findings stand in the page.
         path = "file://" + self.write("many.html", page.page_html(pages.many(self.shown, 800)))
-        old = self.browser.call("Page.addScriptToEvaluateOnNewDocument", source="delete window.DecompressionStream")["identifier"]
+        old = self.browser.call("Page.addScriptToEvaluateOnNewDocument", source="delete window.DecompressionStream")[
+            "identifier"
+        ]
         self.addCleanup(self.browser.call, "Page.removeScriptToEvaluateOnNewDocument", identifier=old)
         self.browser.call("Page.navigate", url=path)
         self.browser.until("document.querySelectorAll('#findings li[id]').length === 802")
@@ -421,14 +502,19 @@ class InABrowser(common.Case):
             self.assertEqual(self.all("#findings li[id]", "id"), [it.id for it in shown.findings], name)
             for finding in shown.findings:
                 self.browser.key("n")
-                self.assertEqual(self.text_of("#spoken").replace(f"{finding.kind} {finding.number} ", "", 1).split(" Suggestion")[0], finding.words)
+                self.assertEqual(
+                    self.text_of("#spoken").replace(f"{finding.kind} {finding.number} ", "", 1).split(" Suggestion")[0],
+                    finding.words,
+                )
             if shown.board.report.pieces:
                 self.go("piece-0")
                 self.assertIn(f"piece 0, {shown.board.manifest.files[0]} command", self.text_of("#legend"))
 
     def test_picture(self):
         for number, name in enumerate((None, *IDS)):
-            self.browser.call("Page.navigate", url="file://" + self.write(f"{number}.svg", svg.picture(self.shown, name)))
+            self.browser.call(
+                "Page.navigate", url="file://" + self.write(f"{number}.svg", svg.picture(self.shown, name))
+            )
             self.browser.rest()
             self.assertEqual(self.ask("document.documentElement.tagName"), "svg")
             self.assertIn(name or "board", self.text_of("title"))

@@ -40,7 +40,9 @@ class Recipes(made.Case):
         status, out, notes = self.run_make("two_layer")
         self.assertEqual((status, "fab: agrees" in out), (0, True), out + notes)
         asked = self.read("work/asked.txt").splitlines()
-        self.assertEqual([line.split()[:3] for line in asked], [["pcb", "export", what] for what in ("gerbers", "drill", "ipcd356")])
+        self.assertEqual(
+            [line.split()[:3] for line in asked], [["pcb", "export", what] for what in ("gerbers", "drill", "ipcd356")]
+        )
         self.assertTrue(os.path.exists(self.path("work", "netcheck.html")))
         self.assertIn('failures="0"', self.read("work/netcheck.xml"))
 
@@ -59,7 +61,9 @@ class Recipes(made.Case):
     def test_hook(self):
         entry = re.search(r"^ *entry: (.*)$", "".join(blocks("yaml")), re.M)[1]
         shutil.copytree(os.path.join(common.EXAMPLES, "opens_and_shorts"), self.path("work", "fab"))
-        status, out, _ = self.run_words(["sh", "-c", entry], self.path("work"), environment={"PATH": self.path_of, "BOARDNET": common.program()})
+        status, out, _ = self.run_words(
+            ["sh", "-c", entry], self.path("work"), environment={"PATH": self.path_of, "BOARDNET": common.program()}
+        )
         self.assertEqual((status, len(out.splitlines())), (1, 4))
 
 
@@ -73,7 +77,9 @@ class Forms(made.Case):
         status, out, _ = self.shown("::a,b%:", "--format", "github")
         self.assertEqual(status, 10)
         self.assertTrue(out.startswith("::error title=board::::a,b%25:: "), out)
-        self.assertTrue(all(line.startswith(("::error title=", "::notice title=boardnet::")) for line in out.splitlines()), out)
+        self.assertTrue(
+            all(line.startswith(("::error title=", "::notice title=boardnet::")) for line in out.splitlines()), out
+        )
 
     def test_wrong_form(self):
         self.assertEqual(self.shown("board", "--format", "xml")[0], 2)
@@ -82,13 +88,20 @@ class Forms(made.Case):
         os.makedirs(self.path("empty"))
         status, out, _ = self.shown("empty", "--sarif", "-")
         run = json.loads(out)["runs"][0]
-        self.assertEqual((status, run["invocations"], [it["ruleId"] for it in run["results"]]), (10, [{"executionSuccessful": False}], ["board"]))
+        self.assertEqual(
+            (status, run["invocations"], [it["ruleId"] for it in run["results"]]),
+            (10, [{"executionSuccessful": False}], ["board"]),
+        )
         self.assertEqual(run["tool"]["driver"]["version"], "0.9")
 
     def test_several(self):
         for name in ("two_layer", "opens_and_shorts"):
             self.example(name, name)
         status, out, _ = self.run_words(
-            [made.SHOW, "two_layer", "opens_and_shorts", "--sarif", "-"], environment={"BOARDNET": common.program()})
-        found = [it["locations"][0]["physicalLocation"]["artifactLocation"]["uri"] for it in json.loads(out)["runs"][0]["results"]]
+            [made.SHOW, "two_layer", "opens_and_shorts", "--sarif", "-"], environment={"BOARDNET": common.program()}
+        )
+        found = [
+            it["locations"][0]["physicalLocation"]["artifactLocation"]["uri"]
+            for it in json.loads(out)["runs"][0]["results"]
+        ]
         self.assertEqual((status, found), (1, ["opens_and_shorts/n.ipc"] * 3))

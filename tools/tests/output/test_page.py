@@ -39,24 +39,51 @@ class Files(made.Case):
         text = self.read("page.html")
         for program in self.over_both():
             self.show("board", "--page", "again.html", program=program)
-            self.assertEqual(text, self.read("again.html"), "the same package gives the same page, by the stand-in and by the program")
-        self.assertIsNone(re.search(r"https?:|//[a-z]|url\(|@import|\bfetch\(|XMLHttp", re.sub('type="text/plain">[^<]*<', "", text)), "nothing is fetched")
+            self.assertEqual(
+                text,
+                self.read("again.html"),
+                "the same package gives the same page, by the stand-in and by the program",
+            )
+        self.assertIsNone(
+            re.search(r"https?:|//[a-z]|url\(|@import|\bfetch\(|XMLHttp", re.sub('type="text/plain">[^<]*<', "", text)),
+            "nothing is fetched",
+        )
         self.assertNotIn("</b> (", text)
         self.assertIn(html.escape("no copper of top.gbr lies under </b> ("), text)
         for tag in ("script", "style"):
             (inside,) = re.findall(rf"<{tag}>(.*?)</{tag}>", text, re.S)
             self.assertIn("sha256-" + base64.b64encode(hashlib.sha256(inside.encode()).digest()).decode(), text)
         head, columns = unpacked(text)
-        self.assertEqual((columns["counts"], columns["radii"][-3:]), ([1] * 6 + [2] + [1] * 2, [100_000, 200_000, 200_000]))
-        self.assertEqual(([it["id"] for it in head["findings"]], re.findall(r'<li id="([^"]+)"', text.split("<script")[0])), (IDS, IDS))
+        self.assertEqual(
+            (columns["counts"], columns["radii"][-3:]), ([1] * 6 + [2] + [1] * 2, [100_000, 200_000, 200_000])
+        )
+        self.assertEqual(
+            ([it["id"] for it in head["findings"]], re.findall(r'<li id="([^"]+)"', text.split("<script")[0])),
+            (IDS, IDS),
+        )
         self.assertEqual(head["findings"][1]["sides"], ["GND", "VCC"])
         self.assertIn("Differs, opens 1, shorts 1, missing 1", text)
-        self.assertEqual(self.show("board", "--svg", "f.svg", "--at", "open-7")[::2], (2, "boardnet: --at open-7: there is no such finding\n"))
+        self.assertEqual(
+            self.show("board", "--svg", "f.svg", "--at", "open-7")[::2],
+            (2, "boardnet: --at open-7: there is no such finding\n"),
+        )
 
     def test_names_of_folders(self):
         # A name that is no UTF-8, and has a character that XML has not.
         name = "a\udcff\x01b"
-        status, _, notes = self.show(self.board(BOARD, name), "--page", "p.html", "--svg", "p.svg", "--junit", "p.xml", "--rdb", "p.rdb", "--json", "-")
+        status, _, notes = self.show(
+            self.board(BOARD, name),
+            "--page",
+            "p.html",
+            "--svg",
+            "p.svg",
+            "--junit",
+            "p.xml",
+            "--rdb",
+            "p.rdb",
+            "--json",
+            "-",
+        )
         self.assertEqual((status, notes), (1, ""))
         for form in ("svg", "xml", "rdb"):
             minidom.parse(self.path("p." + form))
@@ -70,7 +97,9 @@ class Files(made.Case):
         minidom.parseString(self.read("board.svg"))
         self.board({"n.ipc": netlist(record("A", "J1.1", 0, 0)), "top.gbr": "%FSLAX46Y46*%\n"})
         status, _, notes = self.show("board", "--page", "none.html")
-        self.assertEqual((status, notes), (3, "boardnet: no picture is drawn, since the copper of board is not known\n"))
+        self.assertEqual(
+            (status, notes), (3, "boardnet: no picture is drawn, since the copper of board is not known\n")
+        )
 
 
 class Odd(unittest.TestCase):
@@ -89,7 +118,10 @@ class Odd(unittest.TestCase):
         shown = pages.odd("<i>&\"'")
         reader = Reader()
         reader.feed(page.page_html(shown))
-        self.assertEqual((reader.tags["b"], reader.tags["i"], reader.tags["s"], reader.tags["script"]), (len(shown.findings), 3, 0, 2))
+        self.assertEqual(
+            (reader.tags["b"], reader.tags["i"], reader.tags["s"], reader.tags["script"]),
+            (len(shown.findings), 3, 0, 2),
+        )
         for name in (*pages.HOSTILE, "<s> pin 1", "&amp; pin <", "</b>", "<i>&\"'", "<b>&\"'.gbr"):
             self.assertIn(name, reader.text)
 
@@ -105,7 +137,11 @@ class Picture(unittest.TestCase):
             self.assertEqual(picture.getElementsByTagName("title")[0].firstChild.data, name)
             left, low, width, height = map(float, picture.documentElement.getAttribute("viewBox").split())
             self.assertTrue(max(abs(left + width / 2 - place[0]), abs(low + height / 2 - place[1])) <= 1, name)
-            drawn = {it.getAttribute("class").split(" ")[-1] for tag in ("circle", "path") for it in picture.getElementsByTagName(tag)}
+            drawn = {
+                it.getAttribute("class").split(" ")[-1]
+                for tag in ("circle", "path")
+                for it in picture.getElementsByTagName(tag)
+            }
             self.assertLessEqual(looks[name], drawn, name)
             self.assertIn("dasharray" if name == "open-0" else "<path", picture.getElementsByTagName("g")[-1].toxml())
         with self.assertRaises(Stop):
@@ -117,11 +153,19 @@ class Size(unittest.TestCase):
         rng, shapes = random.Random(1), Shapes()
         for _ in range(20_000):
             x, y = rng.randrange(0, 10**9, 10**5), rng.randrange(0, 10**9, 10**5)
-            shapes.add(1_000_000, [(x, y)] if rng.random() < 0.4 else [(x, y), (x + rng.randrange(-10**7, 10**7), y + rng.randrange(-10**7, 10**7))])
+            shapes.add(
+                1_000_000,
+                [(x, y)]
+                if rng.random() < 0.4
+                else [(x, y), (x + rng.randrange(-(10**7), 10**7), y + rng.randrange(-(10**7), 10**7))],
+            )
         small = len(page.block(pages.bare(shapes), []))
         x = y = 0
         for _ in range(20):
-            corners = [(x := x + rng.randrange(-10**5, 10**5), y := y + rng.randrange(-10**5, 10**5)) for _ in range(1000)]
+            corners = [
+                (x := x + rng.randrange(-(10**5), 10**5), y := y + rng.randrange(-(10**5), 10**5))
+                for _ in range(1000)
+            ]
             shapes.add(AREA, corners)
         self.assertLess(small, 25 * 20_000)
         self.assertLess(len(page.block(pages.bare(shapes), [])) - small, 6 * 20_000)

@@ -16,7 +16,7 @@ from boardnet_show.geometry.segments import cross
 from .macros import figures, rectangle, regular, rows, without
 
 OBROUND, RECTANGLE, CIRCLE = "O", "R", "C"
-MOST_FRAMES = 1_000     # flashes of rectangles with a hole in a file that have many pieces, so that others have room
+MOST_FRAMES = 1_000  # flashes of rectangles with a hole in a file that have many pieces, so that others have room
 
 
 class Shape:
@@ -25,7 +25,14 @@ class Shape:
     and `plainer` one of few pieces."""
 
     def __init__(self, lower, upper, lost=None, is_pen=False, rows=None):
-        self.both, self.lost, self.is_pen, self.rows, self.smaller, self.plainer = (lower, upper), lost, is_pen, rows, None, None
+        self.both, self.lost, self.is_pen, self.rows, self.smaller, self.plainer = (
+            (lower, upper),
+            lost,
+            is_pen,
+            rows,
+            None,
+            None,
+        )
 
 
 class Pen:
@@ -155,7 +162,9 @@ def is_frame(w: Q, h: Q, hole: Q) -> bool:
 def frame_shape(w: int, h: int, hole: int) -> Shape:
     """A rectangle with a round hole: above a region with a cut-in, below an area with a cut; the smaller one keeps off its border."""
     x, y, r = w // 2, h // 2, hole // 2
-    around = rounded_contour(((r, 0), ((0, 0), (r, 0), False), (x, 0), (x, y), (-x, y), (-x, -y), (x, -y), (x, 0), (r, 0)), False, True)
+    around = rounded_contour(
+        ((r, 0), ((0, 0), (r, 0), False), (x, 0), (x, y), (-x, y), (-x, -y), (x, -y), (x, 0), (r, 0)), False, True
+    )
     upper = [("area", around.outer), *around.wide]
     shape, corners = framed(holed(RECTANGLE, (w, h), hole), upper), clear_frame(x, y, r)
     shape.smaller = framed([("area", corners)] if corners else [], upper)
@@ -171,12 +180,22 @@ def clear_frame(x, y, r):
     """Corners within a rectangle that keep off its sides, off a cut at the right, and off draws along eighth turns of a hole; None where
     these leave too little. Floats only choose places, which the program tests."""
     turns, keep = eighth_chain((0, 0), (r, 0), (r, 0)), eighth_radius((0, 0), (r, 0))
-    far = (r + keep + 2) * 203 // 202 + 2       # an edge of 32 is nearer by less than a 200th
+    far = (r + keep + 2) * 203 // 202 + 2  # an edge of 32 is nearer by less than a 200th
     if far > min(x, y) - 2 or r < 100 or leaves((0, 0), turns, r, r) > keep:
         return None
     around = [(round(far * cos(pi * k / 32)), round(far * sin(pi * k / 32))) for k in range(1, 64, 2)]
     edge = around[0][0]
-    return [(x - 1, 1), (x - 1, y - 1), (1 - x, y - 1), (1 - x, 1 - y), (x - 1, 1 - y), (x - 1, -1), (edge, -1), *around[::-1], (edge, 1)]
+    return [
+        (x - 1, 1),
+        (x - 1, y - 1),
+        (1 - x, y - 1),
+        (1 - x, 1 - y),
+        (x - 1, 1 - y),
+        (x - 1, -1),
+        (edge, -1),
+        *around[::-1],
+        (edge, 1),
+    ]
 
 
 def is_pierced(lengths: Sequence[Q], hole: Q) -> bool:
@@ -188,7 +207,12 @@ def pierced(name, lengths, sizes, hole):
     """A circle or rectangle with another round hole: above without it, below clear of it by 1 u where `between` reads it."""
     is_read = is_pierced(lengths, hole)
     lower, upper = holed(name, sizes[0], even_up(hole) + 2 if is_read else hole), solid(name, sizes[1])
-    return Shape(lower, upper, "a shape with a hole" if upper and not lower else None, rows=[(len(lower), len(upper))] if is_read else None)
+    return Shape(
+        lower,
+        upper,
+        "a shape with a hole" if upper and not lower else None,
+        rows=[(len(lower), len(upper))] if is_read else None,
+    )
 
 
 def pierced_obround(lengths, sizes, hole):
@@ -245,6 +269,7 @@ def macro(name: str, body: Sequence[str], values: Sequence[Q], scale: int) -> Ap
 
 
 # ---- draws with pens
+
 
 def swept(piece: Piece, a: Spot, b: Spot) -> List[Piece]:
     """What a convex piece covers along a line: the hull of the piece at both ends, or for a round one the hull of its middle line

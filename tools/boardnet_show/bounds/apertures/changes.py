@@ -39,7 +39,10 @@ class Change(NamedTuple):
 
     def shape(self, made: Any) -> Shape:
         """The changed shape. What is cut into parts loses what joins them, and maybe some of them."""
-        lower, upper = ([it for piece in pieces for it in changed(self, frozen(piece), side)] for side, pieces in enumerate(made.both))
+        lower, upper = (
+            [it for piece in pieces for it in changed(self, frozen(piece), side)]
+            for side, pieces in enumerate(made.both)
+        )
         lost = self.lost(made.both[0], len(lower))
         told = [*([made.lost] if made.lost else []), *([f"{lost} a changed shape"] if lost else [])]
         return Shape(lower, upper, " and ".join(told) or None, made.is_pen)
@@ -55,7 +58,10 @@ class Change(NamedTuple):
         if self == Change():
             return block.objects
         changed_by = lambda pieces, side: [part for piece in pieces for part in changed(self, frozen(piece), side)]
-        return [it._replace(both=tuple(changed_by(pieces, side) for side, pieces in enumerate(it.both)), areas=None) for it in block.objects]
+        return [
+            it._replace(both=tuple(changed_by(pieces, side) for side, pieces in enumerate(it.both)), areas=None)
+            for it in block.objects
+        ]
 
 
 def abut(pieces: Sequence[Piece]) -> bool:
@@ -90,6 +96,7 @@ def changed(change: Change, piece: Any, side: int) -> List[Piece]:
     def at(spot):
         x, y = (minus(exact(v)) if is_mirrored else exact(v) for v, is_mirrored in zip(spot, change.mirror))
         return tuple(times(v, exact(change.size)) for v in turned((x, y), turn))
+
     if piece[0] == "area":
         points = [at(spot) for spot in piece[1]]
         return polygon_bounds(points if change.mirror[0] == change.mirror[1] else points[::-1])[side]

@@ -26,7 +26,10 @@ def vector_line(w: Q, x1: Q, y1: Q, x2: Q, y2: Q) -> List[Point]:
         raise Refused("macro: a line of nearly no length")
     share = (w / 2 / high, w / 2 / low)
     nx, ny = times(share, exact(-dy)), times(share, exact(dx))
-    at = lambda x, y, sign: (plus(exact(x), nx if sign > 0 else minus(nx)), plus(exact(y), ny if sign > 0 else minus(ny)))
+    at = lambda x, y, sign: (
+        plus(exact(x), nx if sign > 0 else minus(nx)),
+        plus(exact(y), ny if sign > 0 else minus(ny)),
+    )
     return [at(x1, y1, -1), at(x2, y2, -1), at(x2, y2, 1), at(x1, y1, 1)]
 
 
@@ -162,7 +165,16 @@ def bounds_of(figure: Figure) -> Both:
     return BOUNDS[figure[0]](*figure[1:])
 
 
-BOUNDS = {"disc": disc_bounds, "line": line_bounds, "turned": turned_bounds, "turned disc": turned_disc_bounds, "turned outline": outline_bounds, "regular": regular_bounds, "convex": convex_bounds, "outline": polygon_bounds}
+BOUNDS = {
+    "disc": disc_bounds,
+    "line": line_bounds,
+    "turned": turned_bounds,
+    "turned disc": turned_disc_bounds,
+    "turned outline": outline_bounds,
+    "regular": regular_bounds,
+    "convex": convex_bounds,
+    "outline": polygon_bounds,
+}
 
 
 def without(figures_in_order):
@@ -184,8 +196,14 @@ def rows(figures_in_order):
 def row(kind: str, *parts: Any) -> Optional[Tuple[int, int]]:
     if kind == "turned outline":
         return tuple(map(len, outline_bounds(*parts)))
-    is_read = kind in ("line", "turned", "turned disc", "regular") or kind == "convex" and is_fine(parts[0]) \
-        or kind == "disc" and whole_corners(parts[:1])[1] and (2 * parts[1]).denominator == 1
+    is_read = (
+        kind in ("line", "turned", "turned disc", "regular")
+        or kind == "convex"
+        and is_fine(parts[0])
+        or kind == "disc"
+        and whole_corners(parts[:1])[1]
+        and (2 * parts[1]).denominator == 1
+    )
     if is_read:
         return len(BOUNDS[kind](*parts)[0]), 1
     return (1, 1) if kind in ("convex", "outline") and whole_corners(parts[0])[1] else None

@@ -4,7 +4,7 @@ from boardnet_show.formats.gerber_machine import DRAW, FLASH, MOVE
 from boardnet_show.formats.units import decimal_millimetres
 from boardnet_show.geometry.pieces import Piece, Spot
 
-OWN = 900_000_000       # numbers of apertures that are made here
+OWN = 900_000_000  # numbers of apertures that are made here
 
 
 def edges_of(spots: Sequence[Spot]) -> List[str]:

@@ -22,7 +22,7 @@ from .settings import Settings
 # with its command.
 Areas = Optional[List[List[Spot]]]
 Written = Sequence[Sequence[Tuple[Piece, int]]]
-IN_REGIONS = ("TF", "TA", "TO", "TD", "AD", "AM", "LPD")      # what may stand there and says nothing of the contours
+IN_REGIONS = ("TF", "TA", "TO", "TD", "AD", "AM", "LPD")  # what may stand there and says nothing of the contours
 
 
 def of_text(text: str, outline: Optional[Callable[[], Any]] = None, is_coarse: bool = False) -> "Copper":
@@ -39,7 +39,11 @@ def of_text(text: str, outline: Optional[Callable[[], Any]] = None, is_coarse: b
         its = outline()
         objects = negative.exchanged(objects, its, copper.negative)
         also = {it.tag for it in objects}
-        copper.lost += [f"the plane, since the board's outline is not known ({its.why}), at command {copper.negative}"] if its.why else []
+        copper.lost += (
+            [f"the plane, since the board's outline is not known ({its.why}), at command {copper.negative}"]
+            if its.why
+            else []
+        )
     taken, *written = dark_and_clear.cut(objects, also)
     again = Copper(text, taken, written, True)
     again.lost = copper.lost
@@ -58,8 +62,14 @@ class Copper(Settings, Definitions, Operations, Regions, Machine):
 
     RUNS = True
 
-    def __init__(self, text: str, taken: Collection[int] = (), written: Written = ((), ()), cuts: bool = False,
-                 is_coarse: bool = False) -> None:
+    def __init__(
+        self,
+        text: str,
+        taken: Collection[int] = (),
+        written: Written = ((), ()),
+        cuts: bool = False,
+        is_coarse: bool = False,
+    ) -> None:
         Machine.__init__(self)
         for part in (Settings, Definitions, Operations, Regions):
             part.__init__(self)
@@ -126,7 +136,9 @@ class Copper(Settings, Definitions, Operations, Regions, Machine):
             once = [it for it in self.objects[first:] if any(it.both)]
             if len(once) * columns * rows > MOST_OBJECTS:
                 raise Refused("too many copies")
-            self.objects[first:] = [it.moved(i * x, j * y) for i in range(columns) for j in range(rows) for it in once] if once else []
+            self.objects[first:] = (
+                [it.moved(i * x, j * y) for i in range(columns) for j in range(rows) for it in once] if once else []
+            )
         step = self.step(text)
         self.copies = (len(self.objects), *step) if step else None
 

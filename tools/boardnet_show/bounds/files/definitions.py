@@ -66,7 +66,10 @@ class Definitions:
             if made and not made.is_even:
                 self.stands([] if made.is_read else None)
             for side, even in zip(self.files, sizes):
-                side.word(f"%ADD{number}{name},{'X'.join(decimal_millimetres(v) for v in even)}*%" if made else f"%{word}*%", self.number)
+                side.word(
+                    f"%ADD{number}{name},{'X'.join(decimal_millimetres(v) for v in even)}*%" if made else f"%{word}*%",
+                    self.number,
+                )
 
     def select(self, number: int, text: bytes) -> None:
         self.chosen = number

@@ -84,7 +84,11 @@ class Operations:
         self.stands(None if radius > 0 and centre in (first, last) else [tuple(map(len, both))])
         if radius > 0 and not both[0]:
             self.lose("an arc")
-        areas = ring(centre, [(x + first[0], y + first[1]) for x, y in chain], radius.__ceil__()) if self.cuts and chain else None
+        areas = (
+            ring(centre, [(x + first[0], y + first[1]) for x, y in chain], radius.__ceil__())
+            if self.cuts and chain
+            else None
+        )
         self.write_pieces(both, areas, first)
 
     def pen_radius(self) -> Q:
@@ -100,7 +104,9 @@ class Operations:
 
     def write_pieces(self, both: Both, areas: Optional[List[List[Spot]]] = None, by: Spot = (0, 0)) -> None:
         """Pieces about a place."""
-        if self.stays(*([moved(piece, *by) for piece in pieces] for pieces in both) if self.is_noted() else ((), ()), areas):
+        if self.stays(
+            *([moved(piece, *by) for piece in pieces] for pieces in both) if self.is_noted() else ((), ()), areas
+        ):
             self.write_both(both, by)
 
     def write_both(self, both: Both, by: Spot) -> None:
@@ -110,14 +116,22 @@ class Operations:
 
     def draw(self, start: Spot) -> None:
         made = self.aperture()
-        if made is not None and (not isinstance(made, apertures.Pen) or made.radius is None or self.change.alters(made)):
+        if made is not None and (
+            not isinstance(made, apertures.Pen) or made.radius is None or self.change.alters(made)
+        ):
             self.replaced += 1
             pen = None if isinstance(made, apertures.Block) else self.changed(made)
             if not pen or not pen.is_pen:
                 raise Refused("a draw with a pen that is no circle, rectangle, obround or polygon")
-            self.write_pieces([[piece for it in pieces for piece in apertures.swept(it, start, self.spot)] for pieces in pen.both])
+            self.write_pieces(
+                [[piece for it in pieces for piece in apertures.swept(it, start, self.spot)] for pieces in pen.both]
+            )
             return
-        drawn = [[("capsule", start, self.spot, size[0] // 2)] if size[0] else [] for size in made.sizes] if made else ([], [])
+        drawn = (
+            [[("capsule", start, self.spot, size[0] // 2)] if size[0] else [] for size in made.sizes]
+            if made
+            else ([], [])
+        )
         self.replaced += bool(made) and not (made.is_even or made.is_read)
         if self.stays(*drawn):
             for side in self.sides:
@@ -136,7 +150,11 @@ class Operations:
             self.stands(shape.rows)
             if shape.lost:
                 self.lose(shape.lost)
-            if self.stays(*([moved(piece, *self.spot) for piece in pieces] for pieces in shape.both) if self.is_noted() else ((), ())):
+            if self.stays(
+                *([moved(piece, *self.spot) for piece in pieces] for pieces in shape.both)
+                if self.is_noted()
+                else ((), ())
+            ):
                 self.write_both(shape.both, self.spot)
             return
         flat = made.both if made and self.is_noted() else ([], [])

@@ -5,7 +5,7 @@ from typing import List
 from boardnet_show.formats import gerber_attributes
 from boardnet_show.intake.file_names import MOST_BYTES
 
-HEAD = 4096         # bytes of a file in which its function is looked for
+HEAD = 4096  # bytes of a file in which its function is looked for
 
 
 def texts(folder: str) -> List[str]:

@@ -156,8 +156,10 @@ def need_no_copper(inside: Sequence[Tuple[Loop, Object]], texts: Sequence[str]) 
     for copper in [Copper(text, cuts=True) for text in texts] if is_cut else ():
         for it in copper.objects if not copper.negative else ():
             if it.dark and it.both[1] and not innermost(inside, it.both[1]):
-                raise Refused(f"copper lies in what it cuts out, near "
-                              f"{', '.join(map(millimetres, box(it.both[1][0])[:2]))} mm")
+                raise Refused(
+                    f"copper lies in what it cuts out, near "
+                    f"{', '.join(map(millimetres, box(it.both[1][0])[:2]))} mm"
+                )
 
 
 def innermost(inside: Sequence[Tuple[Loop, Object]], pieces: Sequence[Piece]) -> bool:
@@ -166,7 +168,13 @@ def innermost(inside: Sequence[Tuple[Loop, Object]], pieces: Sequence[Piece]) ->
     left, low, right, high = around(map(box, pieces))
     first = pieces[0][1][0] if pieces[0][0] == "area" else pieces[0][1]
     for loop, it in reversed(inside):
-        if loop.box[0] <= left and loop.box[1] <= low and right <= loop.box[2] and high <= loop.box[3] and odd_inside(loop.corners, first):
+        if (
+            loop.box[0] <= left
+            and loop.box[1] <= low
+            and right <= loop.box[2]
+            and high <= loop.box[3]
+            and odd_inside(loop.corners, first)
+        ):
             return it.dark
     return True
 

@@ -57,7 +57,9 @@ class Regions:
         if is_bent:
             rows = [it.row for it in made]
             self.stands(None if None in rows else rows)
-        both = [[("area", run[:-1]) for it in made for run in it.runs[k]] for k in (0, 1)] if self.is_noted() else [(), ()]
+        both = (
+            [[("area", run[:-1]) for it in made for run in it.runs[k]] for k in (0, 1)] if self.is_noted() else [(), ()]
+        )
         grown = [piece for it in made for piece in it.grown]
         if self.stays(both[0], [*both[1], *grown], None, len(made) < 2):
             for its in [[it] for it in made] if is_bent else [made]:
@@ -71,8 +73,12 @@ class Regions:
 
     def write_region(self, made: Sequence["Contour"]) -> None:
         """Contours, and behind them the draws that widen the upper ones."""
-        runs, grown = [[run for it in made for run in it.runs[k]] for k in (0, 1)], [piece for it in made for piece in it.grown]
-        edges = {key: edges_of(run) for key, run in {id(run): run for its in runs for run in its}.items()}      # most are of both sides
+        runs, grown = [[run for it in made for run in it.runs[k]] for k in (0, 1)], [
+            piece for it in made for piece in it.grown
+        ]
+        edges = {
+            key: edges_of(run) for key, run in {id(run): run for its in runs for run in its}.items()
+        }  # most are of both sides
         if grown or [*map(id, runs[0])] != [*map(id, runs[1])]:
             self.unlike.add(self.number)
         for side, its in zip(self.sides, runs):
@@ -91,7 +97,11 @@ class Regions:
         x, y = contour[0]
         by = lambda spot: (spot[0] + x, spot[1] + y)
         back = lambda spot: spot and (spot[0] - x, spot[1] - y)
-        made = rounded_contour(tuple(back(part) if len(part) == 2 else (back(part[0]), back(part[1]), part[2]) for part in contour), self.cuts, self.is_coarse)
+        made = rounded_contour(
+            tuple(back(part) if len(part) == 2 else (back(part[0]), back(part[1]), part[2]) for part in contour),
+            self.cuts,
+            self.is_coarse,
+        )
         self.is_bent = self.is_bent or made.is_read
         grown = [("capsule", by(a), by(b), most) for _, a, b, most in made.wide]
         if not made.is_closed:

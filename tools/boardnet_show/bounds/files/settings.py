@@ -41,7 +41,7 @@ class Settings:
 
     def set_unit(self) -> None:
         if self.scale and self.decimals:
-            unit = Q(self.scale, 10 ** self.decimals)
+            unit = Q(self.scale, 10**self.decimals)
             self.unit = unit.numerator if unit.denominator == 1 else unit
 
     def whole(self, length: Q) -> int:

@@ -8,8 +8,8 @@ from boardnet_show.formats.gerber_machine import MOVE, STRAIGHT, Machine, Spot
 from boardnet_show.geometry.exact import Refused
 from boardnet_show.geometry.segments import Bands, dot, edges, place_beside, point_within
 
-MOST_CORNERS = 10_000   # of a contour that is looked at
-FEW_EDGES = 200         # of one whose edges are parted where corners lie on them
+MOST_CORNERS = 10_000  # of a contour that is looked at
+FEW_EDGES = 200  # of one whose edges are parted where corners lie on them
 
 
 class Contours(Machine):
@@ -66,7 +66,12 @@ def parted(corners):
     found, spots = [(a, b) for a, b in edges(corners) if a != b], set(corners)
     if len(found) > FEW_EDGES:
         return found
-    return [edge for a, b in found for its in [sorted((p for p in spots if point_within(p, a, b, 0)), key=lambda p: dot(a, p, p))] for edge in zip(its, its[1:])]
+    return [
+        edge
+        for a, b in found
+        for its in [sorted((p for p in spots if point_within(p, a, b, 0)), key=lambda p: dot(a, p, p))]
+        for edge in zip(its, its[1:])
+    ]
 
 
 def hair(corners):
@@ -91,28 +96,39 @@ def place_of(data, found):
     many more there are."""
     number, spot = found[0]
     more = f", and of {len(found) - 1} more contours" if len(found) > 1 else ""
-    return f"{', '.join(map(millimetres, spot))} mm, command {number}, line {line_numbers(data, [number])[number]}{more}"
+    return (
+        f"{', '.join(map(millimetres, spot))} mm, command {number}, line {line_numbers(data, [number])[number]}{more}"
+    )
 
 
 def widthless(walk, data):
-    found = [(number, walk.spot_in_u(spot)) for number, spot in ((number, hair(corners)) for number, corners in walk.found if len(corners) > 2) if spot]
+    found = [
+        (number, walk.spot_in_u(spot))
+        for number, spot in ((number, hair(corners)) for number, corners in walk.found if len(corners) > 2)
+        if spot
+    ]
     if not found:
         return ""
-    return (f"copper without width at {place_of(data, found)}: "
-            "the contour runs along itself with no copper on its sides, and joins what it touches there")
+    return (
+        f"copper without width at {place_of(data, found)}: "
+        "the contour runs along itself with no copper on its sides, and joins what it touches there"
+    )
 
 
 def wound(walk, data):
     if not walk.found:
         return ""
-    from .wound_contours import wound_twice     # few boards have regions, and loading takes longer than a small board
+    from .wound_contours import wound_twice  # few boards have regions, and loading takes longer than a small board
+
     found = [(number, it) for number, it in ((number, wound_twice(corners)) for number, corners in walk.found) if it]
     if not found:
         return ""
     # The place is beside a border: whole micrometres are near enough.
     spots = [(number, tuple(round(v, -4) for v in walk.spot_in_u(it.place))) for number, it in found]
-    return (f"readers differ on it: a contour goes {found[0][1].times} times round what lies at {place_of(data, spots)}: "
-            "there is no copper here, by even and odd, and some where turns are counted")
+    return (
+        f"readers differ on it: a contour goes {found[0][1].times} times round what lies at {place_of(data, spots)}: "
+        "there is no copper here, by even and odd, and some where turns are counted"
+    )
 
 
 def notes(package):

@@ -12,8 +12,8 @@ from .bounded_file import Copper
 MOVED = re.compile(r"\s*X[+-]?[0-9]{1,13}Y[+-]?[0-9]{1,13}D0?2\*")
 DRAWN = re.compile(r"[\s*]*X[+-]?[0-9]{1,13}Y[+-]?[0-9]{1,13}D0?1\*")
 PLAIN = re.compile(r"\s*(?:X[+-]?[0-9]{1,13}Y[+-]?[0-9]{1,13}D0?1)?\*")
-LONG = 10_000       # characters of a contour
-KEPT = 4            # edges at its beginning, so that it is one
+LONG = 10_000  # characters of a contour
+KEPT = 4  # edges at its beginning, so that it is one
 
 
 def is_within(text: str) -> bool:
@@ -26,7 +26,15 @@ def is_within(text: str) -> bool:
         copper = Copper(short)
     except Refused:
         return False
-    return not (copper.replaced or copper.lost or copper.long or copper.clears or copper.negative or copper.rows or copper.unlike)
+    return not (
+        copper.replaced
+        or copper.lost
+        or copper.long
+        or copper.clears
+        or copper.negative
+        or copper.rows
+        or copper.unlike
+    )
 
 
 def shortened(text: str) -> str:

@@ -17,7 +17,7 @@ from .rising_edges import crossing, slope, straight, toggled
 from .upright_columns import WIDE, boxed, dark_parts, ends
 
 MOST_BUNDLES = 300_000
-MOST_WALLS = 24         # strands of a bundle whose orders are looked at
+MOST_WALLS = 24  # strands of a bundle whose orders are looked at
 DARK, CLEAR = (-1,), (-2,)
 
 
@@ -34,7 +34,9 @@ def straighten(sweep, y):
     swaps, before = plain(sweep, y, found), None
     while found != before and any(i not in swaps and is_wide(status[i:j], y) for i, j in found):
         before = found
-        found = together(found, lambda i, j: boxed(status, i, j, y) if i not in swaps and is_wide(status[i:j], y) else chord(i, j))
+        found = together(
+            found, lambda i, j: boxed(status, i, j, y) if i not in swaps and is_wide(status[i:j], y) else chord(i, j)
+        )
         swaps = plain(sweep, y, found)
     for i, j in reversed(found):
         if i not in swaps:
@@ -55,7 +57,11 @@ def together(found, widen):
 def plain(sweep, y, found):
     """The ranges of two strands that change places, by where they begin."""
     often = Counter(piece for i, j in found for piece in pieces(sweep.status[i:j]))
-    pairs = [Swap(sweep, y, i) for i, j in found if j - i == 2 and all(often[piece] == 1 for piece in pieces(sweep.status[i:j]))]
+    pairs = [
+        Swap(sweep, y, i)
+        for i, j in found
+        if j - i == 2 and all(often[piece] == 1 for piece in pieces(sweep.status[i:j]))
+    ]
     return {swap.i: swap for swap in pairs if swap.is_plain()}
 
 
@@ -106,7 +112,10 @@ def chords(sweep, left, old, y):
     """Chords beyond all strands, and the walls between them."""
     tops = [e.at(y + 1) for e in old]
     walls, states = columns(sweep, left, old, y)
-    new = [straight((old[0].at(y), y), (min(tops), y + 1)), *(straight((e.at(y), y), (e.at(y + 1), y + 1)) for e in walls)]
+    new = [
+        straight((old[0].at(y), y), (min(tops), y + 1)),
+        *(straight((e.at(y), y), (e.at(y + 1), y + 1)) for e in walls),
+    ]
     for e, its in zip(new, states):
         e.cover = DARK if its == {True} or len(its) == 2 and sweep.upper else CLEAR
     return [*new, straight((old[-1].at(y), y), (max(tops), y + 1))]
@@ -144,7 +153,7 @@ def columns(sweep, left, old, y):
         return [], [{sweep.is_dark(left)}]
     if len(old) > MOST_WALLS:
         return [], [{True, False}]
-    crosses = {(a, b) for k, a in enumerate(old) for b in old[k + 1:] if a.at(y + 1) > b.at(y + 1)}
+    crosses = {(a, b) for k, a in enumerate(old) for b in old[k + 1 :] if a.at(y + 1) > b.at(y + 1)}
     walls = []
     for e in sorted(old, key=lambda e: abs(e.at(y + 1) - e.at(y))):
         if not any((e, w) in crosses or (w, e) in crosses for w in walls):

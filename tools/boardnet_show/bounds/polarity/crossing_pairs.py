@@ -16,7 +16,7 @@ class Swap:
 
     def __init__(self, sweep, y, i):
         self.sweep, self.runs, self.y, self.i = sweep, sweep.runs, y, i
-        self.a, self.b = a, b = sweep.status[i:i + 2]
+        self.a, self.b = a, b = sweep.status[i : i + 2]
         self.left, self.under, self.right = sweep.status[i - 1].cover if i else (), a.cover, b.cover
         self.over = toggled(self.left, b.item)
         self.dark = [sweep.is_dark(gap) for gap in (self.left, self.under, self.over, self.right)]
@@ -31,7 +31,9 @@ class Swap:
             return not any(pieces) and (count == 4 or hidden or not any(self.sweep.dark[k] for k in items))
         if count == 2 or count == 3 and not (self.dark[1] and self.dark[2]):
             return False
-        return sum(map(bool, pieces)) == (2 if self.dark == [False, True, False, False] else 0 if self.dark == [False, False, True, False] else 1)
+        return sum(map(bool, pieces)) == (
+            2 if self.dark == [False, True, False, False] else 0 if self.dark == [False, False, True, False] else 1
+        )
 
     def make(self):
         sweep, a, b = self.sweep, self.a, self.b
@@ -44,9 +46,13 @@ class Swap:
             elif count == 1 and over:
                 self.starts()
             elif left == (count == 1):
-                self.bend(a, b, is_chord, False, off(self.left, self.over)) if left else self.bend(a, b, is_chord, True, off(self.over, self.left))
+                self.bend(a, b, is_chord, False, off(self.left, self.over)) if left else self.bend(
+                    a, b, is_chord, True, off(self.over, self.left)
+                )
             else:
-                self.bend(b, a, is_chord, True, off(self.right, self.over)) if right else self.bend(b, a, is_chord, False, off(self.over, self.right))
+                self.bend(b, a, is_chord, True, off(self.right, self.over)) if right else self.bend(
+                    b, a, is_chord, False, off(self.over, self.right)
+                )
         sweep.put(i, i + 2, [b, a])
         b.cover, a.cover = self.over, self.right
         for one, two in ((b.before, b), (a, a.after)):
@@ -71,7 +77,11 @@ class Swap:
         self.begin(piece)
         if piece.lefts is not None:
             x = self.farthest((was.at(y), now.at(y + 1)), is_left)
-            corners = [(self.side_at(was, y, is_left), y), *([] if is_chord else [(x, y), (x, y + 1)]), (self.side_at(now, y + 1, is_left), y + 1)]
+            corners = [
+                (self.side_at(was, y, is_left), y),
+                *([] if is_chord else [(x, y), (x, y + 1)]),
+                (self.side_at(now, y + 1, is_left), y + 1),
+            ]
             other = piece.right if is_left else piece.left
             far = {h: self.side_at(other, h, not is_left) for h in (y, y + 1)}
             if self.sweep.upper or all(2 <= (far[h] - x if is_left else x - far[h]) for x, h in corners):

@@ -15,12 +15,13 @@ from boardnet_show.geometry.segments import box_of_line, edges
 
 from .sweep import Sweep
 
-CELLS = 64          # to each side
+CELLS = 64  # to each side
 
 
 class Object(NamedTuple):
     """What a command makes: pieces within it and pieces round it; `tag` is the command's number. `areas` are corners of areas within
-    it and round it, where they are known and fewer than those of the pieces. It `joins` its pieces where they abut, unless it is several contours."""
+    it and round it, where they are known and fewer than those of the pieces. It `joins` its pieces where they abut, unless it is several contours.
+    """
 
     dark: bool
     both: tuple
@@ -30,7 +31,9 @@ class Object(NamedTuple):
 
     def moved(self, x: int, y: int) -> Any:
         both = tuple([moved(piece, x, y) for piece in pieces] for pieces in self.both)
-        return self._replace(both=both, areas=self.areas and tuple([[(p + x, q + y) for p, q in it] for it in its] for its in self.areas))
+        return self._replace(
+            both=both, areas=self.areas and tuple([[(p + x, q + y) for p, q in it] for it in its] for its in self.areas)
+        )
 
 
 def moved(piece: Piece, x: int, y: int) -> Any:
@@ -90,8 +93,17 @@ def cut(objects, also=()):
     tags, swept = chosen(objects, set(also))
     apart, out = set(swept), []
     for side in (0, 1):
-        written = [(piece, it.tag) for n, it in enumerate(objects) if it.dark and it.tag in tags and n not in apart for piece in it.both[side]]
-        items = [(objects[n].dark, corners, objects[n].tag, within, n) for n in swept for corners, within in corners_of(objects[n], side)]
+        written = [
+            (piece, it.tag)
+            for n, it in enumerate(objects)
+            if it.dark and it.tag in tags and n not in apart
+            for piece in it.both[side]
+        ]
+        items = [
+            (objects[n].dark, corners, objects[n].tag, within, n)
+            for n in swept
+            for corners, within in corners_of(objects[n], side)
+        ]
         joined = [it[4] if objects[it[4]].joins else (it[4], k) for k, it in enumerate(items)]
         made = Sweep([it[:2] for it in items], bool(side), [k for k, it in enumerate(items) if it[3]], joined).out
         last = max((k for k, it in enumerate(items) if it[0]), default=0)
@@ -103,7 +115,11 @@ def cut(objects, also=()):
 def whole(objects: Sequence[Object]) -> Both:
     """All that is left, on both sides: pieces."""
     tags, *both = cut(objects)
-    return tuple([piece for it in objects if it.dark and it.tag not in tags for piece in it.both[side]] + [piece for piece, _ in both[side]] for side in (0, 1))
+    return tuple(
+        [piece for it in objects if it.dark and it.tag not in tags for piece in it.both[side]]
+        + [piece for piece, _ in both[side]]
+        for side in (0, 1)
+    )
 
 
 def corners_of(item, side):
@@ -123,7 +139,8 @@ def corners_of(item, side):
 
 def caps(corners):
     """A unit beyond all corners at which a contour turns upwards or downwards, and round level edges and corners where it runs along
-    itself or comes twice: with these and the sweep's distance to both sides LOWER has nothing of a clear area's border."""
+    itself or comes twice: with these and the sweep's distance to both sides LOWER has nothing of a clear area's border.
+    """
     spots = [p for k, p in enumerate(corners) if p != corners[k - 1]]
     often = {p for p, times in Counter(spots).items() if times > 1} | doubled(spots)
     for k, (x, y) in enumerate(spots):

@@ -10,8 +10,8 @@ from boardnet_show.geometry.segments import cross
 
 from .rising_edges import slope
 
-LONGEST = 30_000        # corners of a side that is still added to
-APART = 4               # a run is wide where it is wider all along
+LONGEST = 30_000  # corners of a side that is still added to
+APART = 4  # a run is wide where it is wider all along
 
 
 class Piece:
@@ -41,7 +41,9 @@ class Runs:
         left, right = piece.left, piece.right
         if self.upper:
             return left.down(y) - piece.left_by, right.up(y) + piece.right_by
-        return (left.down(y) + 1 if piece.left_by else left.up(y)), (right.up(y) - 1 if piece.right_by else right.down(y))
+        return (left.down(y) + 1 if piece.left_by else left.up(y)), (
+            right.up(y) - 1 if piece.right_by else right.down(y)
+        )
 
     def pin(self, piece):
         """Adds the corners that are wanted at the piece's last line."""
@@ -89,7 +91,11 @@ class Runs:
         if piece.lefts and (len(piece.lefts) > LONGEST or len(piece.rights) > LONGEST):
             self.flush(piece)
         is_left = strand is piece.left
-        if piece.lefts is None or piece.tight or (piece.right.low - strand.high if is_left else strand.low - piece.left.high) <= APART:
+        if (
+            piece.lefts is None
+            or piece.tight
+            or (piece.right.low - strand.high if is_left else strand.low - piece.left.high) <= APART
+        ):
             self.settle(piece, y)
         if piece.lefts is not None:
             if is_left:

@@ -48,7 +48,24 @@ class Strand:
     its corners, the next one last. `cover` are the areas right of it, `opens` and `ends` the piece whose left or right side it is,
     `before` and `after` its neighbours on the line while it is `active`."""
 
-    __slots__ = ("x1", "y1", "x2", "y2", "dx", "dy", "low", "high", "item", "rest", "cover", "opens", "ends", "before", "after", "active")
+    __slots__ = (
+        "x1",
+        "y1",
+        "x2",
+        "y2",
+        "dx",
+        "dy",
+        "low",
+        "high",
+        "item",
+        "rest",
+        "cover",
+        "opens",
+        "ends",
+        "before",
+        "after",
+        "active",
+    )
 
     def __init__(self, corners, item):
         self.rest, self.item = corners[::-1], item
@@ -149,7 +166,9 @@ def beneath(left, below, under):
     if not under:
         return below
     found, cover = [], left
-    for x, item in sorted([(x, item) for x, _, item in below if item is not None] + [(x, item) for x, _, _, item in under]):
+    for x, item in sorted(
+        [(x, item) for x, _, item in below if item is not None] + [(x, item) for x, _, _, item in under]
+    ):
         cover = toggled(cover, item)
         found.append((x, cover, item))
     return found
@@ -161,10 +180,10 @@ def strands_of(corners, item):
     ys = [y for _, y in spots]
     ways = [(b > a) - (b < a) for a, b in zip(ys, ys[1:] + ys[:1])]
     turns = [k for k, (way, before) in enumerate(zip(ways, ways[-1:] + ways)) if way != before] or [0]
-    spots += spots[:turns[0] + 1]
+    spots += spots[: turns[0] + 1]
     strands, levels = [], []
     for first, past in zip(turns, turns[1:] + [turns[0] + len(ways)]):
-        run = spots[first:past + 1]
+        run = spots[first : past + 1]
         if ways and ways[first]:
             strands.append(Strand(run if ways[first] > 0 else run[::-1], item))
         else:

@@ -26,8 +26,20 @@ class Sweep:
 
     def __init__(self, items, upper, closed=(), objects=None):
         self.upper, self.status, self.runs, self.seeds, self.count, self.touched = upper, [], Runs(upper), [], 0, ()
-        self.noted, self.spans, self.levels, self.back, self.unders, self.heap, self.marks, self.crossed = {}, {}, {}, {}, {}, [], (), {}
-        self.dark = [dark for dark, _ in items] + [False, True]     # the last two: what stands for clear and dark in a bundle
+        self.noted, self.spans, self.levels, self.back, self.unders, self.heap, self.marks, self.crossed = (
+            {},
+            {},
+            {},
+            {},
+            {},
+            [],
+            (),
+            {},
+        )
+        self.dark = [dark for dark, _ in items] + [
+            False,
+            True,
+        ]  # the last two: what stands for clear and dark in a bundle
         self.out, self.closed, self.objects = self.runs.out, set(closed), [*(objects or range(len(items))), -2, -1]
         events, strands = [], []
         for k, (_, corners) in enumerate(items):
@@ -107,7 +119,7 @@ class Sweep:
                     strand.rise()
                     starts.append((x, strand))
             windows = windows_of(spans, starts)
-            if len(windows) > 1 and not self.upper:     # first of all of them: one piece may come to several
+            if len(windows) > 1 and not self.upper:  # first of all of them: one piece may come to several
                 for low, high, started in windows:
                     _, old, _, left, below, above = self.around(y, low, high, started)
                     self.keep_off(y, old, left, below, above)
@@ -124,14 +136,29 @@ class Sweep:
     def pair(self, y, x, group):
         """Does all that is to be done where two strands end or start; False where more may meet there."""
         s, t = group[:2]
-        if len(group) > 2 or s.item != t.item or s.active != t.active or bool(s.rest) != bool(t.rest) or s.active == bool(s.rest):
+        if (
+            len(group) > 2
+            or s.item != t.item
+            or s.active != t.active
+            or bool(s.rest) != bool(t.rest)
+            or s.active == bool(s.rest)
+        ):
             return False
         return self.ends(y, x, s, t) if s.active else self.starts(y, x, s, t)
 
     def turn(self, y, x, s):
         """A strand goes on with another edge; False where more may meet there."""
         a, b = s.before, s.after
-        if not s.active or not s.rest or a and a.high >= x and a.side(x, y) >= 0 or b and b.low <= x and b.side(x, y) <= 0:
+        if (
+            not s.active
+            or not s.rest
+            or a
+            and a.high >= x
+            and a.side(x, y) >= 0
+            or b
+            and b.low <= x
+            and b.side(x, y) <= 0
+        ):
             return False
         piece = s.opens or s.ends
         if piece:
@@ -150,7 +177,12 @@ class Sweep:
         if b and b.side(x, y) <= 0:
             return False
         turn, outer = cross((x, y), s.rest[-1], t.rest[-1]), a.cover if a else ()
-        if not turn or self.marks and self.is_dark(outer) and self.is_marked(y, self.spanning(i).left, self.spanning(i).right):
+        if (
+            not turn
+            or self.marks
+            and self.is_dark(outer)
+            and self.is_marked(y, self.spanning(i).left, self.spanning(i).right)
+        ):
             return False
         s.rise()
         t.rise()
@@ -312,7 +344,9 @@ class Sweep:
             near.setdefault(x, []).append((before, after, item))
         sides = [([x for x, *_ in side], [left] + [after for _, after, _ in side]) for side in (real, above)]
         for x, found in near.items():
-            gaps = [gap for before, after, _ in found for gap in (before, after)] + [covers[bisect_right(xs, x)] for xs, covers in sides]
+            gaps = [gap for before, after, _ in found for gap in (before, after)] + [
+                covers[bisect_right(xs, x)] for xs, covers in sides
+            ]
             if not any(map(self.is_dark, gaps)):
                 items = {item for *_, item in found}.union(*gaps)
                 items.update(item for low, high, item in self.levels.get(y, ()) if low <= x <= high)
@@ -372,14 +406,16 @@ class Sweep:
             elif was and not now:
                 found[-1][1], found[-1][3], found[-1][6] = x, strand, self.off(before, e.cover, x)
             elif k > first and not now and self.upper:
-                last = self.hair(before, e.cover, [it.item for it in new[first:k + 1]])
+                last = self.hair(before, e.cover, [it.item for it in new[first : k + 1]])
                 found += [[x, x, strand, e, (last,), 1, 1]] if last is not None else []
             before, first = e.cover, k + 1
         return found
 
     def off(self, dark, gap, x=None):
         """Whether the border of a dark gap is that of a later clear area, or may be."""
-        return int(not self.upper and (x in self.touched or bool(gap) and (gap[-1] > dark[-1] or dark[-1] < 0 or gap[-1] < 0)))
+        return int(
+            not self.upper and (x in self.touched or bool(gap) and (gap[-1] > dark[-1] or dark[-1] < 0 or gap[-1] < 0))
+        )
 
     def hair(self, one, two, items):
         """The dark area that is left on a border of some between two gaps, where clear areas do not have their borders, or None."""

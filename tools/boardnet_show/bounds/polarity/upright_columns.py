@@ -10,8 +10,8 @@ from itertools import groupby
 
 from .rising_edges import crossing, toggled, whole_or_place
 
-WIDE = 5_000            # u: in a narrower box what is wrong is so at most that far
-MOST_MEETS = 400_000    # strands beside each other that are looked at in one box
+WIDE = 5_000  # u: in a narrower box what is wrong is so at most that far
+MOST_MEETS = 400_000  # strands beside each other that are looked at in one box
 
 
 def ends(strands, y):
@@ -24,7 +24,7 @@ def boxed(status, i, j, y):
     """The range with all neighbours that come into its box, and the ends of that."""
     low, high = ends(status[i:j], y)
     while True:
-        before, after = (ends(status[k:k + 1], y) if 0 <= k < len(status) else None for k in (i - 1, j))
+        before, after = (ends(status[k : k + 1], y) if 0 <= k < len(status) else None for k in (i - 1, j))
         if before and before[1] > low:
             i, low, high = i - 1, min(low, before[0]), max(high, before[1])
         elif after and after[0] < high:
@@ -90,7 +90,9 @@ class Column:
         self.some, self.every = any(dark), all(dark)
         if sweep.upper and not self.some:
             its = zip(self.gaps, self.gaps[1:])
-            self.some = any(sweep.hair(one, two, [row.e.item for row in rows]) is not None for (one, _), (two, rows) in its)
+            self.some = any(
+                sweep.hair(one, two, [row.e.item for row in rows]) is not None for (one, _), (two, rows) in its
+            )
 
     def heights(self, x):
         """Where gaps begin over one of its two ends."""
@@ -103,7 +105,11 @@ class Column:
 def is_hair(sweep, before, after, x, items):
     """Whether something is left of upright borders between two columns without anything dark."""
     heights = {*before.heights(x), *after.heights(x)}
-    return not before.some and not after.some and any(h < 1 and sweep.hair(before.at(x, h), after.at(x, h), items) is not None for h in heights)
+    return (
+        not before.some
+        and not after.some
+        and any(h < 1 and sweep.hair(before.at(x, h), after.at(x, h), items) is not None for h in heights)
+    )
 
 
 def hairs(sweep, rows, xs, made):

@@ -23,7 +23,10 @@ def contour_bound(parts: Sequence[Any], upper: bool) -> Optional[List[Spot]]:
         chain = arc.outer if k in flipped else arc.inner
         if not (arc.lies_outside() if k in flipped else arc.lies_inside()):
             return None
-        if meets_sliver(arc, chain, spans[k], segments, grid) or bands.odd(*place_beside(chain, k not in flipped)) != upper:
+        if (
+            meets_sliver(arc, chain, spans[k], segments, grid)
+            or bands.odd(*place_beside(chain, k not in flipped)) != upper
+        ):
             return None
     return corners
 
@@ -36,9 +39,15 @@ def meets_sliver(arc: Arc, chain: Corners, span: Any, segments: Sequence[Any], g
         a, b = segments[(first + i) % n]
         for other in grid.near(a, b, most + 1) - own:
             ends = segments[other]
-            cones = [(apex, at_first) for apex, at_first, here in ((a, True, i == 0), (b, False, i == count - 1)) if here and apex in ends]
+            cones = [
+                (apex, at_first)
+                for apex, at_first, here in ((a, True, i == 0), (b, False, i == count - 1))
+                if here and apex in ends
+            ]
             if cones:
-                if any(enters(arc, chain, ends[1] if ends[0] == apex else ends[0], at_first) for apex, at_first in cones):
+                if any(
+                    enters(arc, chain, ends[1] if ends[0] == apex else ends[0], at_first) for apex, at_first in cones
+                ):
                     return True
             elif segments_within(a, b, *ends, most):
                 return True

@@ -6,11 +6,11 @@ from typing import Sequence, Tuple
 
 from boardnet_show.geometry.pieces import Spot
 
-DEGREE = 10 ** 7        # in parts
+DEGREE = 10**7  # in parts
 RIGHT_ANGLE = 90 * DEGREE
-ONE = 10 ** 18          # numbers are whole parts of it
+ONE = 10**18  # numbers are whole parts of it
 PI = 3_141_592_653_589_793_238
-RADIUS = 10 ** 8 - 1    # of ways, about
+RADIUS = 10**8 - 1  # of ways, about
 COSINE, SINE = (2, 12, 30, 56, 90, 132), (6, 20, 42, 72, 110, 156)
 
 
@@ -26,7 +26,9 @@ def way_of(angle: int) -> Tuple[int, ...]:
     """Less than 1 off RADIUS times the cosine and the sine of half the angle."""
     half = angle * PI // (360 * DEGREE)
     square = half * half // ONE
-    return tuple((part * RADIUS + ONE // 2) // ONE for part in (series(square, COSINE), half * series(square, SINE) // ONE))
+    return tuple(
+        (part * RADIUS + ONE // 2) // ONE for part in (series(square, COSINE), half * series(square, SINE) // ONE)
+    )
 
 
 def cone_of(angle: int) -> Tuple[Spot, Spot]:

@@ -11,8 +11,8 @@ from boardnet_show.geometry.arcs import rounded
 from boardnet_show.geometry.pieces import Corners, Spot
 from boardnet_show.geometry.segments import Segments, cross, dot, edges, odd_inside, segments_within
 
-FURTHER = (2, 4, 16)    # u that edges are moved more than they have to be
-ROUNDS = 16             # of leaving edges out
+FURTHER = (2, 4, 16)  # u that edges are moved more than they have to be
+ROUNDS = 16  # of leaving edges out
 
 
 def eighth_turns(centre: Spot, first: Spot) -> List[Spot]:
@@ -45,7 +45,12 @@ def inset(corners: Corners, keeps: Sequence[int]) -> Optional[List[Spot]]:
     grid = Segments(edges(corners), max(keeps) // 2 + 1)
     for more in FURTHER:
         found = met([line for k in range(len(corners)) for line in moved(corners, keeps, k, order, more)])
-        if found and is_clear(found, grid, keeps) and odd_inside(corners, found[0]) and not odd_inside(found, corners[0]):
+        if (
+            found
+            and is_clear(found, grid, keeps)
+            and odd_inside(corners, found[0])
+            and not odd_inside(found, corners[0])
+        ):
             return found
     return None
 
@@ -60,7 +65,9 @@ def moved(corners, keeps, k, order, more):
     line = lambda by, size: (a, way, order * (by + more) * length, size)
     if sum(steps) << 20 >= length:
         return [line(max(first, last), length >> 20)]
-    across, at = (-way[1] * order, way[0] * order), lambda end, by: tuple(v + rounded(part * by << 20, length) for v, part in zip(end, way))
+    across, at = (-way[1] * order, way[0] * order), lambda end, by: tuple(
+        v + rounded(part * by << 20, length) for v, part in zip(end, way)
+    )
     before = [line(first, steps[0]), (at(a, steps[0]), (-across[0], -across[1]), 0, 0)] if steps[0] else []
     behind = [(at(b, -steps[1]), across, 0, 0), line(last, steps[1])] if steps[1] else []
     return [*before, line(keep, (length >> 20) - sum(steps)), *behind]
@@ -95,4 +102,6 @@ def tip(one: Any, two: Any) -> Optional[Spot]:
 def is_clear(found: Corners, grid: Segments, keeps: Sequence[int]) -> bool:
     """Whether all edges are further from each segment than it is kept off."""
     most = max(keeps) + 1
-    return not any(segments_within(a, b, *grid.segments[k], keeps[k]) for a, b in edges(found) for k in grid.near(a, b, most))
+    return not any(
+        segments_within(a, b, *grid.segments[k], keeps[k]) for a, b in edges(found) for k in grid.near(a, b, most)
+    )

@@ -65,7 +65,11 @@ def convex_upper(points, spots):
     for by in (1, 2, 4, 8, 16):
         outer = mitred(spots, -by)
         round_once = all(w in (a, b) or cross(a, b, w) > 0 for a, b in edges(outer) for w in outer)
-        if round_once and len(set(outer)) == len(outer) and all(cross_least(pointed(a), pointed(b), v) >= 0 for a, b in edges(outer) for v in points):
+        if (
+            round_once
+            and len(set(outer)) == len(outer)
+            and all(cross_least(pointed(a), pointed(b), v) >= 0 for a, b in edges(outer) for v in points)
+        ):
             return [("area", outer)]
     return polygon_upper(spots)
 
@@ -82,15 +86,23 @@ def polygon_bounds(points: Sequence[Point]) -> Both:
         return [("area", spots)], [("area", spots)]
     if sum(cross((0, 0), a, b) for a, b in edges(spots)) < 0:
         points, spots = points[::-1], spots[::-1]
-    if len(points) <= 64 and all(cross_least(points[k - 2], points[k - 1], points[k]) > 0 for k in range(len(points))) and once_round(spots):
+    if (
+        len(points) <= 64
+        and all(cross_least(points[k - 2], points[k - 1], points[k]) > 0 for k in range(len(points)))
+        and once_round(spots)
+    ):
         return convex_bounds(points)
     return polygon_lower(spots), polygon_upper(spots)
 
 
 def once_round(spots: Corners) -> List[Spot]:
     """Each corner lies left of each edge, by more than the real corners can be off."""
-    return all(w in (a, b) or cross(a, b, w) > 4 * (abs(b[0] - a[0]) + abs(b[1] - a[1]) + abs(w[0] - a[0]) + abs(w[1] - a[1]) + 4)
-               for a, b in edges(spots) for w in spots)
+    return all(
+        w in (a, b)
+        or cross(a, b, w) > 4 * (abs(b[0] - a[0]) + abs(b[1] - a[1]) + abs(w[0] - a[0]) + abs(w[1] - a[1]) + 4)
+        for a, b in edges(spots)
+        for w in spots
+    )
 
 
 def polygon_lower(spots):
@@ -99,7 +111,9 @@ def polygon_lower(spots):
         return []
     for by in (3, 6, 12, 24):
         inner = mitred(spots, by)
-        clear = not any(segments_within(a, b, *grid.segments[k], 1) for a, b in edges(inner) for k in grid.near(a, b, 2))
+        clear = not any(
+            segments_within(a, b, *grid.segments[k], 1) for a, b in edges(inner) for k in grid.near(a, b, 2)
+        )
         if clear and odd_inside(spots, inner[0]):
             return [("area", inner)]
     return []
@@ -115,6 +129,8 @@ def simple(spots: Corners, grid: Segments, apart: int = 2) -> bool:
             if segments_within(a, b, *grid.segments[j], apart):
                 return False
         c = spots[(i + 2) % n]
-        if dot(b, a, c) > 0 and abs(cross(b, a, c)) <= 2 * apart * (abs(a[0] - b[0]) + abs(a[1] - b[1]) + abs(c[0] - b[0]) + abs(c[1] - b[1]) + 4):
+        if dot(b, a, c) > 0 and abs(cross(b, a, c)) <= 2 * apart * (
+            abs(a[0] - b[0]) + abs(a[1] - b[1]) + abs(c[0] - b[0]) + abs(c[1] - b[1]) + 4
+        ):
             return False
     return True

@@ -13,8 +13,8 @@ from .cones import DEGREE, RADIUS, RIGHT_ANGLE, cone_of, way_of
 from .turned_figures import first_of, goes_once, headings, lean, meet, stays_near
 from .turned_outlines import radius_of, turned_spots
 
-MOST_DIAMETER = 500_000_000         # u
-PARTS = 10_000                      # of a u, in which diameters are counted
+MOST_DIAMETER = 500_000_000  # u
+PARTS = 10_000  # of a u, in which diameters are counted
 ORIGIN = (0, 0)
 
 
@@ -22,7 +22,13 @@ def figure_of(n: int, centre: Point, diameter: Q, degrees: Q) -> Optional[Figure
     """("regular", n, diameter in parts, angle, whole centre after the quarter turns, by what it is turned still) where `between` may read the polygon
     and takes bounds of it, else None."""
     angle, parts = degrees % 360 * DEGREE, diameter * PARTS
-    if parts.denominator != 1 or diameter > MOST_DIAMETER or angle.denominator != 1 or abs(degrees) > 1000 or not all(v.denominator == 1 and abs(v) <= MOST_DIAMETER for v in centre):
+    if (
+        parts.denominator != 1
+        or diameter > MOST_DIAMETER
+        or angle.denominator != 1
+        or abs(degrees) > 1000
+        or not all(v.denominator == 1 and abs(v) <= MOST_DIAMETER for v in centre)
+    ):
         return None
     x, y = map(int, centre)
     for _ in range(int(angle // RIGHT_ANGLE)):
@@ -41,11 +47,17 @@ def direction(n: int, angle: int, steps: int, spot: Spot) -> Tuple[Spot, int]:
 
 # ---- the check
 
+
 def lies_round(n: int, diameter: int, angle: int, found: Corners) -> bool:
     """All corners of the polygon are on the left of each edge, at each turn of their cones."""
     corners = [direction(n, angle, 2 * k, (-(-diameter // (2 * PARTS)), 0)) for k in range(n)]
-    return goes_once(found) and all(w + u * p + v * q >= 0 for (p, q), rest in corners for heading in headings(*cone_of(rest))
-                                    for b, c in edges(found) for w, u, v in (lean(b, c, heading),))
+    return goes_once(found) and all(
+        w + u * p + v * q >= 0
+        for (p, q), rest in corners
+        for heading in headings(*cone_of(rest))
+        for b, c in edges(found)
+        for w, u, v in (lean(b, c, heading),)
+    )
 
 
 def lies_within(n: int, diameter: int, angle: int, found: Corners) -> bool:
@@ -54,7 +66,12 @@ def lies_within(n: int, diameter: int, angle: int, found: Corners) -> bool:
     for k in range(n):
         (b, rest), (c, _) = (direction(n, angle, 2 * k + 1, (inner, up)) for up in (0, 1))
         (x, y), (p, q) = cone_of(rest)
-        if not all(w + u * i + v * j >= 0 for heading in headings((x, -y), (p, -q)) for w, u, v in (lean(b, c, heading),) for i, j in found):
+        if not all(
+            w + u * i + v * j >= 0
+            for heading in headings((x, -y), (p, -q))
+            for w, u, v in (lean(b, c, heading),)
+            for i, j in found
+        ):
             return False
     return True
 
@@ -71,6 +88,7 @@ def at_corners(check, far, *parts):
 
 # ---- the contours
 
+
 def near(n: int, diameter: int, angle: int, by: int) -> List[Spot]:
     """Whole corners near those of the polygon, so much further out."""
     for k in range(n):
@@ -82,12 +100,20 @@ def near(n: int, diameter: int, angle: int, by: int) -> List[Spot]:
 def regular_bounds(n: int, diameter: int, angle: int, centre: Spot = ORIGIN, turn: int = 0) -> Optional[Both]:
     """The pieces within and round the polygon about the centre, which is turned about the origin; None where there is none round it."""
     spot, far = (turned_spots([centre], turn)[0], radius_of([centre])) if turn else (centre, 0)
-    found = bounds_about_0(n, diameter, angle, far) if not turn or stays_near(centre, *cone_of(turn), spot, far) else None
-    return found and tuple([(kind, [(p + spot[0], q + spot[1]) for p, q in corners]) for kind, corners in side] for side in found)
+    found = (
+        bounds_about_0(n, diameter, angle, far) if not turn or stays_near(centre, *cone_of(turn), spot, far) else None
+    )
+    return found and tuple(
+        [(kind, [(p + spot[0], q + spot[1]) for p, q in corners]) for kind, corners in side] for side in found
+    )
 
 
 @lru_cache(4096)
 def bounds_about_0(n: int, diameter: int, angle: int, far: int) -> Optional[Both]:
     """So about each spot of a square round the origin."""
     further = lambda by: near(n, diameter, angle, by + (3 * far if by > 0 else -3 * far))
-    return first_of(further, partial(at_corners, lies_within, far, n, diameter, angle), partial(at_corners, lies_round, far, n, diameter, angle))
+    return first_of(
+        further,
+        partial(at_corners, lies_within, far, n, diameter, angle),
+        partial(at_corners, lies_round, far, n, diameter, angle),
+    )

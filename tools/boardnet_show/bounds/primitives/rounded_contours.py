@@ -18,7 +18,7 @@ from boardnet_show.geometry.segments import cross, dot
 from .arc_contours import contour_bound
 from .insets import eighth_chain, eighth_radius, inset
 
-MOST_FAR = 5 * 10 ** 9      # u that `between` looks at to each side of a contour's first spot
+MOST_FAR = 5 * 10**9  # u that `between` looks at to each side of a contour's first spot
 
 
 class Rounded(NamedTuple):
@@ -58,7 +58,9 @@ class Walked:
         first, last = (start, end) if anticlockwise else (end, start)
         need_meant(centre, first, last)
         chain, most = arc_chain(centre, first, last)
-        self.is_told = self.is_told and not is_loop(centre, first, last) and goes_once(lambda p, q: cross(centre, p, q), chain)
+        self.is_told = (
+            self.is_told and not is_loop(centre, first, last) and goes_once(lambda p, q: cross(centre, p, q), chain)
+        )
         self.is_exact = self.is_exact and self.is_told and dot(centre, start, start) == dot(centre, end, end)
         self.wide += [("capsule", a, b, most) for a, b in zip(chain, chain[1:])]
         chain, turns = (its if anticlockwise else its[::-1] for its in (chain, eighth_chain(centre, first, last)))
@@ -66,12 +68,18 @@ class Walked:
         self.spots += [spot for k, spot in enumerate(chain[1:]) if spot != chain[k]]
         self.coarse += turns[1:]
         self.keeps += [eighth_radius(centre, start)] * (len(turns) - 1)
-        self.is_kept = self.is_kept and self.is_told and leaves(centre, turns, *distances(centre, first, last)) <= self.keeps[-1]
+        self.is_kept = (
+            self.is_kept and self.is_told and leaves(centre, turns, *distances(centre, first, last)) <= self.keeps[-1]
+        )
         self.parts.append((centre, start, end, anticlockwise))
 
     def bound(self, upper: bool) -> Optional[List[Spot]]:
         """The corners of an area within the contour, or round it, where its arcs are exact; None where none is found."""
-        return contour_bound([Arc(*part) if len(part) == 4 else part for part in self.parts], upper) if self.is_exact else None
+        return (
+            contour_bound([Arc(*part) if len(part) == 4 else part for part in self.parts], upper)
+            if self.is_exact
+            else None
+        )
 
 
 @lru_cache(1000)
@@ -90,12 +98,17 @@ def rounded_contour(contour: Sequence[Any], cuts: bool, is_coarse: bool) -> Roun
         is_near = found and max(abs(v) for spot in [*found, *it.coarse] for v in spot) + max(it.keeps) < MOST_FAR
         return Rounded((found,) if is_near else (), it.outline[:-1], it.wide, True, True)
     inner, outer = it.bound(False), it.bound(True) if cuts else None
-    return Rounded((inner,) if inner else without(corners, it.wide), outer or corners, [] if outer else it.wide, True, is_read)
+    return Rounded(
+        (inner,) if inner else without(corners, it.wide), outer or corners, [] if outer else it.wide, True, is_read
+    )
 
 
 def without(corners, wide):
     """What of an area lies in none of some draws."""
     try:
-        return tuple(found for found, _ in Sweep([(True, corners), *((False, polygon(piece, True)) for piece in wide)], False).out)
+        return tuple(
+            found
+            for found, _ in Sweep([(True, corners), *((False, polygon(piece, True)) for piece in wide)], False).out
+        )
     except Refused:
         return ()

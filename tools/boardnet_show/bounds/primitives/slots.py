@@ -7,7 +7,7 @@ from boardnet_show.geometry.arcs import draw_bounds
 from boardnet_show.geometry.exact import ceil_root
 from boardnet_show.geometry.pieces import Capsule
 
-STRIPS = 64     # at most, above the middle of the hole, and below
+STRIPS = 64  # at most, above the middle of the hole, and below
 
 
 def slot_draws(width: int, height: int, hole: Q) -> List[Capsule]:
@@ -17,8 +17,11 @@ def slot_draws(width: int, height: int, hole: Q) -> List[Capsule]:
     if pen < 1:
         return []
     found = [("capsule", (-far, y), (far, y), pen) for y in (pen - round_, round_ - pen)]
-    for centre, start, end in (((0, 0), (clear + pen, 0), (clear + pen, 0)), ((far, 0), (far, pen - round_), (far, round_ - pen)),
-                               ((-far, 0), (-far, round_ - pen), (-far, pen - round_))):
+    for centre, start, end in (
+        ((0, 0), (clear + pen, 0), (clear + pen, 0)),
+        ((far, 0), (far, pen - round_), (far, round_ - pen)),
+        ((-far, 0), (-far, round_ - pen), (-far, pen - round_)),
+    ):
         found += draw_bounds(centre, start, end, Q(pen))[1][0]
     found += strips(far, round_, clear, max(pen, min(clear // 8, (far + round_ - clear) // 4)))
     return found if width >= height else [("capsule", (-a[1], a[0]), (-b[1], b[0]), r) for _, a, b, r in found]

@@ -15,9 +15,9 @@ from boardnet_show.geometry.segments import cross, dot, edges
 from .cones import DEGREE, RIGHT_ANGLE, cone_of, way_of
 from .real_polygons import mitres, whole_corners
 
-CORNERS = 500   # at most: each is compared with each edge
+CORNERS = 500  # at most: each is compared with each edge
 FARTHEST = 400  # u that a centre within a metre comes off
-FURTHER = [Q(k, 2) for k in (1, 2, 3, 4, 6, 8, 12, 16, 32, 64, 128)]    # u that edges are tried further in or out
+FURTHER = [Q(k, 2) for k in (1, 2, 3, 4, 6, 8, 12, 16, 32, 64, 128)]  # u that edges are tried further in or out
 ORIGIN = (0, 0)
 
 
@@ -29,7 +29,12 @@ def placed(kind: str, corners: Sequence[Point], degrees: Q) -> Figure:
 def placed_disc(centre: Point, radius: Q, degrees: Q) -> Figure:
     """A disc so: ("turned disc", whole centre, radius, angle) or ("disc", centre, radius)."""
     found = turns_left([centre], degrees)
-    if found and radius.denominator == 1 and found[0] != (ORIGIN,) and turned_disc_bounds(found[0][0], int(radius), found[1]):
+    if (
+        found
+        and radius.denominator == 1
+        and found[0] != (ORIGIN,)
+        and turned_disc_bounds(found[0][0], int(radius), found[1])
+    ):
         return "turned disc", found[0][0], int(radius), found[1]
     return "disc", turned(centre, cos_sin(degrees)), radius
 
@@ -52,6 +57,7 @@ def turns_left(corners: Sequence[Point], degrees: Q) -> Optional[Tuple[Tuple[Spo
 
 
 # ---- the check
+
 
 def meet(u: Spot, v: Spot) -> Tuple[int, int, int]:
     """Where the tangents at two turns meet, by their ways: x / n and y / n; of one turn, its cosine and sine."""
@@ -80,7 +86,9 @@ def lies_round(figure: Corners, first: Spot, last: Spot, found: Corners) -> bool
     """All corners of the figure are on one side of each edge, at the three places of the cone."""
     places, round_it = headings(first, last), edges(found)
     ways = round_it, [(c, b) for b, c in round_it]
-    lies = lambda way: all(w + u * p + v * q >= 0 for b, c in way for w, u, v in (lean(b, c, d) for d in places) for p, q in figure)
+    lies = lambda way: all(
+        w + u * p + v * q >= 0 for b, c in way for w, u, v in (lean(b, c, d) for d in places) for p, q in figure
+    )
     return goes_once(found) and any(map(lies, ways))
 
 
@@ -93,10 +101,14 @@ def lies_within(figure: Corners, first: Spot, last: Spot, found: Corners) -> boo
 def stays_near(centre: Spot, first: Spot, last: Spot, spot: Spot, far: int) -> bool:
     """The centre comes at most so far from the spot, at the three places of the cone."""
     still = far * far - dot(ORIGIN, centre, centre) - dot(ORIGIN, spot, spot)
-    return all(still * n + 2 * dot(ORIGIN, centre, spot) * x + 2 * cross(ORIGIN, centre, spot) * y >= 0 for x, y, n in headings(first, last))
+    return all(
+        still * n + 2 * dot(ORIGIN, centre, spot) * x + 2 * cross(ORIGIN, centre, spot) * y >= 0
+        for x, y, n in headings(first, last)
+    )
 
 
 # ---- the discs
+
 
 def turned_disc_bounds(centre: Spot, radius: int, angle: int) -> Optional[Both]:
     """The discs within and round one that is turned about the origin by less than a right angle; None where there is none round it."""
@@ -108,6 +120,7 @@ def turned_disc_bounds(centre: Spot, radius: int, angle: int) -> Optional[Both]:
 
 
 # ---- the contours
+
 
 def area(corners: Corners) -> int:
     """Twice it; under 0 where they run clockwise."""
@@ -128,9 +141,13 @@ def near(corners: Corners, way: Spot, by: int) -> List[Spot]:
     return [(round((p * x - q * y) / n), round((p * y + q * x) / n)) for p, q in mitres(corners, -by)]
 
 
-def first_of(near_by: Callable[[int], List[Spot]], is_within: Callable[[Corners], bool], is_round: Callable[[Corners], bool]) -> Optional[Both]:
+def first_of(
+    near_by: Callable[[int], List[Spot]], is_within: Callable[[Corners], bool], is_round: Callable[[Corners], bool]
+) -> Optional[Both]:
     """The first contour within and the first round a figure, of those so much further out: as pieces; None where there is none round it."""
-    inner = next((found for found in (list(near_by(-by)) for by in FURTHER) if area(found) > 0 and is_within(found)), None)
+    inner = next(
+        (found for found in (list(near_by(-by)) for by in FURTHER) if area(found) > 0 and is_within(found)), None
+    )
     outer = next((found for found in (list(near_by(by)) for by in FURTHER) if is_round(found)), None)
     return ([("area", inner)] if inner else [], [("area", outer)]) if outer else None
 
@@ -142,4 +159,8 @@ def turned_bounds(corners: Corners, angle: int) -> Optional[Both]:
     cone, shape = cone_of(angle), bends(corners)
     if not is_convex(shape):
         return None
-    return first_of(lambda by: near(shape, way_of(angle), by), lambda found: lies_within(corners, *cone, found), lambda found: lies_round(corners, *cone, found))
+    return first_of(
+        lambda by: near(shape, way_of(angle), by),
+        lambda found: lies_within(corners, *cone, found),
+        lambda found: lies_round(corners, *cone, found),
+    )

@@ -17,10 +17,10 @@ from .insets import inset
 from .real_polygons import simple
 from .turned_figures import placed, turns_left
 
-LEAST = 2               # u of the draws' radius
-STEP = 10_000_000       # u from the origin that are one more
-DOUBLINGS = 20          # of a low way, till it is at half the angle
-SCALE = 3 * ONE * ONE // 10 ** 10       # squares of ways are divided by so much
+LEAST = 2  # u of the draws' radius
+STEP = 10_000_000  # u from the origin that are one more
+DOUBLINGS = 20  # of a low way, till it is at half the angle
+SCALE = 3 * ONE * ONE // 10**10  # squares of ways are divided by so much
 
 
 def placed_outline(corners: Sequence[Point], degrees: Q) -> Figure:

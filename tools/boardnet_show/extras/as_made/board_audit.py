@@ -44,7 +44,11 @@ class Holes:
         self.holes, self.cell = holes, cell
         self.cells: Dict[Spot, Set[int]] = defaultdict(set)
         for number, hole in enumerate(holes):
-            for x, y in (hole.start, hole.end, ((hole.start[0] + hole.end[0]) // 2, (hole.start[1] + hole.end[1]) // 2)):
+            for x, y in (
+                hole.start,
+                hole.end,
+                ((hole.start[0] + hole.end[0]) // 2, (hole.start[1] + hole.end[1]) // 2),
+            ):
                 self.cells[x // cell, y // cell].add(number)
 
     def at(self, spot: Spot, by: int) -> List[int]:
@@ -71,13 +75,16 @@ def unplated(judged: Judged) -> Iterator[Hole]:
 
 # ---- records
 
+
 def wrong_of(columns: HoleColumns, holes: List[Hole], unit: int) -> str:
     """What is wrong with the holes at a record's place, or nothing."""
     if not holes:
         return "no drill file has a hole there"
     if columns.plated is not None and all(hole.plated != columns.plated for hole in holes):
         word = "plated" if columns.plated else "not plated"
-        return f"it is to be {word}, and {holes[0].source} has one that is {'plated' if holes[0].plated else 'not plated'}"
+        return (
+            f"it is to be {word}, and {holes[0].source} has one that is {'plated' if holes[0].plated else 'not plated'}"
+        )
     wanted = columns.diameter and columns.diameter * unit
     if wanted and all(abs(hole.diameter - wanted) > unit for hole in holes):
         return f"it is to be {millimetres(wanted)} mm wide, and that of {holes[0].source} is {millimetres(holes[0].diameter)} mm"
@@ -106,6 +113,7 @@ def unnamed(board: Board, holes: Holes, unit: int) -> List[Hole]:
 
 # ---- copper
 
+
 class Floating(NamedTuple):
     """A net without a test point and a hole: its layer, its box and how many pieces it has."""
 
@@ -131,11 +139,15 @@ def floating(board: Board) -> List[Floating]:
 
 
 def places_of(board: Board, its: List[Floating]) -> str:
-    firsts = (f"{board.manifest.layer_word(it.layer)} at {board.place_words(((it.box[0] + it.box[2]) // 2, (it.box[1] + it.box[3]) // 2))}" for it in its[:FEW])
+    firsts = (
+        f"{board.manifest.layer_word(it.layer)} at {board.place_words(((it.box[0] + it.box[2]) // 2, (it.box[1] + it.box[3]) // 2))}"
+        for it in its[:FEW]
+    )
     return ", ".join(firsts)
 
 
 # ---- all
+
 
 def details_of(board: Board, wrong: List[Tuple[int, str]]) -> Tuple[Detail, ...]:
     told = []
@@ -153,7 +165,9 @@ def larger_notes(board: Board) -> List[str]:
     if not its:
         return []
     firsts = ", ".join(f"{board.source(it.piece)} on {board.manifest.layer_word(it.layer)}" for it in its[:FEW])
-    return [f"{counted(len(its), 'plated hole')} larger than the copper that it stands in, which the barrel joins and nothing cuts: {firsts}"]
+    return [
+        f"{counted(len(its), 'plated hole')} larger than the copper that it stands in, which the barrel joins and nothing cuts: {firsts}"
+    ]
 
 
 def with_copper(program: Any, judged: Judged, board: Board) -> Optional[Board]:
@@ -174,12 +188,33 @@ def requested(program: Any, judged: Judged, seen: Board) -> Requested:
     board, data = with_copper(program, low, seen), low.package.read(low.package.manifest.netlist)
     unit = ipc356.unit_of(data)
     if board is None or unit is None:
-        return Requested([lacking(BOARD_AUDIT, "holes and copper are not compared with the netlist, since they are not known")])
+        return Requested(
+            [lacking(BOARD_AUDIT, "holes and copper are not compared with the netlist, since they are not known")]
+        )
     holes = Holes([*plated(board), *unplated(judged)], 8 * unit)
     wrong, more, copper = list(wrong_records(board, holes, data, unit)), unnamed(board, holes, unit), floating(board)
-    words = f"{counted(len(wrong), 'record')} of holes that no drill file has so" if wrong else "each record of a hole has it"
-    notes = [f"{counted(len(more), 'plated hole')} that no record names: {', '.join(hole.source for hole in more[:FEW])}" + (", .." if len(more) > FEW else "")] if more else []
-    notes += [f"{counted(len(copper), 'part')} of copper without a test point and a hole, the largest on {places_of(board, copper)}"] if copper else []
+    words = (
+        f"{counted(len(wrong), 'record')} of holes that no drill file has so"
+        if wrong
+        else "each record of a hole has it"
+    )
+    notes = (
+        [
+            f"{counted(len(more), 'plated hole')} that no record names: {', '.join(hole.source for hole in more[:FEW])}"
+            + (", .." if len(more) > FEW else "")
+        ]
+        if more
+        else []
+    )
+    notes += (
+        [
+            f"{counted(len(copper), 'part')} of copper without a test point and a hole, the largest on {places_of(board, copper)}"
+        ]
+        if copper
+        else []
+    )
     notes += larger_notes(board)
     details = details_of(board, wrong)
-    return Requested([outcome(BOARD_AUDIT, len(wrong), 0, words, details)], notes=[*(text for _, text, _ in details), *notes])
+    return Requested(
+        [outcome(BOARD_AUDIT, len(wrong), 0, words, details)], notes=[*(text for _, text, _ in details), *notes]
+    )

@@ -33,7 +33,9 @@ class Group(NamedTuple):
 
     def without(self, points: Set[int]) -> Optional["Group"]:
         """The same without some points; None where it says nothing then."""
-        parts = tuple(its for its in (tuple(point for point in part if point not in points) for part in self.parts) if its)
+        parts = tuple(
+            its for its in (tuple(point for point in part if point not in points) for part in self.parts) if its
+        )
         return self._replace(parts=parts) if len(parts) > 1 or any(part[0] in self.bare for part in parts) else None
 
 
@@ -79,7 +81,15 @@ class MadeBoard:
     def cutters(self, net: int) -> List[int]:
         """The things that take copper away from a net as designed."""
         net_of = self.low.told.report.net_of
-        return sorted({number for its in self.lost[LOWER] for piece, numbers in its.pieces.items() if net_of[piece] == net for number in numbers})
+        return sorted(
+            {
+                number
+                for its in self.lost[LOWER]
+                for piece, numbers in its.pieces.items()
+                if net_of[piece] == net
+                for number in numbers
+            }
+        )
 
     def alone(self, found: Sequence[Group]) -> Dict[int, Set[Tuple[int, int]]]:
         """For each thing the names and nets that it parts alone, where there are several that could."""
@@ -92,6 +102,7 @@ class MadeBoard:
 
 
 # ---- words
+
 
 def who(cutters: Sequence[Removal]) -> str:
     return spoken([it.words for it in cutters], FEW)
@@ -118,8 +129,18 @@ def finding(board: Board, number: int, group: Group, cutters: Sequence[Removal],
         told = f"{what} {verb} the copper from under {board.point_words(firsts[0])}, of {name}, when the board is made."
     place = next((it.place for it in cutters if it.place), board.spot(firsts[0]))
     gap = Gap(0, place, board.layer(firsts[0]))
-    return Finding(kind, number, board.name(group.name), told, firsts, nets=[group.net], names=[group.name], parts=list(map(list, group.parts)),
-                   gap=gap, sure=sure)
+    return Finding(
+        kind,
+        number,
+        board.name(group.name),
+        told,
+        firsts,
+        nets=[group.net],
+        names=[group.name],
+        parts=list(map(list, group.parts)),
+        gap=gap,
+        sure=sure,
+    )
 
 
 def cutters_of(board: MadeBoard, group: Group, alone: Dict[int, Set[Tuple[int, int]]]) -> List[Removal]:
@@ -147,5 +168,7 @@ def harmless(board: MadeBoard, found: Sequence[Group]) -> List[str]:
     if not holes:
         return []
     first = board.removals[holes[0]]
-    return [f"{counted(len(holes), 'unplated hole')} {'cuts' if len(holes) == 1 else 'cut'} copper and {'parts' if len(holes) == 1 else 'part'} nothing: "
-            f"{first.words}" + (f" and {len(holes) - 1} more" if len(holes) > 1 else "")]
+    return [
+        f"{counted(len(holes), 'unplated hole')} {'cuts' if len(holes) == 1 else 'cut'} copper and {'parts' if len(holes) == 1 else 'part'} nothing: "
+        f"{first.words}" + (f" and {len(holes) - 1} more" if len(holes) > 1 else "")
+    ]

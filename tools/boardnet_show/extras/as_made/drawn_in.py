@@ -81,7 +81,12 @@ def upper_layer(shapes: Shapes, pieces: Sequence[int], half: int) -> Iterator[tu
     if len(lines) > MOST_EDGES:
         raise Refused(f"a net's copper on a layer has over {MOST_EDGES} edges")
     dark = [piece for piece, _ in together]
-    yield from (piece for piece, _ in dark_and_clear.cut([Object(True, (dark, dark), 0), Object(False, (rims(lines, half),) * 2, 0)])[2])
+    yield from (
+        piece
+        for piece, _ in dark_and_clear.cut([Object(True, (dark, dark), 0), Object(False, (rims(lines, half),) * 2, 0)])[
+            2
+        ]
+    )
 
 
 def by_layers(layer_of: Sequence[int], pieces: Iterable[int]) -> Dict[int, List[int]]:

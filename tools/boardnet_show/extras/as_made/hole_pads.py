@@ -19,7 +19,11 @@ class Wide(NamedTuple):
 
 def is_round_about(solid: tuple, ends: Tuple[Spot, Spot], radius: int) -> bool:
     """Whether a piece has all of a barrel, where that is seen by its line alone."""
-    return bool(solid[0] == "capsule" and solid[3] >= radius and all(point_within(spot, solid[1], solid[2], solid[3] - radius) for spot in ends))
+    return bool(
+        solid[0] == "capsule"
+        and solid[3] >= radius
+        and all(point_within(spot, solid[1], solid[2], solid[3] - radius) for spot in ends)
+    )
 
 
 def is_larger(barrel: tuple, pads: List[tuple]) -> bool:
@@ -27,7 +31,9 @@ def is_larger(barrel: tuple, pads: List[tuple]) -> bool:
     _, a, b, radius = barrel
     if any(is_round_about(pad, (a, b), radius) for pad in pads):
         return False
-    left = dark_and_clear.whole([Object(True, ([barrel],) * 2, 0), *(Object(False, ([pad],) * 2, 0) for pad in pads)])[0]
+    left = dark_and_clear.whole([Object(True, ([barrel],) * 2, 0), *(Object(False, ([pad],) * 2, 0) for pad in pads)])[
+        0
+    ]
     return bool(left)
 
 
@@ -40,6 +46,14 @@ def larger_than_pads(board: Board) -> Iterator[Wide]:
             continue
         barrel, near = shapes.solid(piece), tree.meeting(shapes.box(piece))
         for layer in range(top, bottom + 1):
-            pads = [its for its in near if not board.manifest.is_drilled(sources[its][0]) and sources[its][3] == layer and board.touching.touch(piece, its)]
-            if any(board.touching.holds(its, barrel[1]) for its in pads) and is_larger(barrel, list(map(shapes.solid, pads))):
+            pads = [
+                its
+                for its in near
+                if not board.manifest.is_drilled(sources[its][0])
+                and sources[its][3] == layer
+                and board.touching.touch(piece, its)
+            ]
+            if any(board.touching.holds(its, barrel[1]) for its in pads) and is_larger(
+                barrel, list(map(shapes.solid, pads))
+            ):
                 yield Wide(piece, layer)

@@ -31,7 +31,9 @@ def edge_of(texts: Sequence[str], board: Board) -> Edge:
         outline = profiles.outline_of(texts, [])
     except Refused as why:
         return Edge(None, str(why))
-    removal = None if outline.why else of_edge(outline, [board.spot(point) for point in range(len(board.report.points))])
+    removal = (
+        None if outline.why else of_edge(outline, [board.spot(point) for point in range(len(board.report.points))])
+    )
     if removal is None:
         return Edge(None, outline.why or "its profile has no inside")
     if 2 * len(points_outside(board, removal)) > len(board.report.points):
@@ -42,7 +44,11 @@ def edge_of(texts: Sequence[str], board: Board) -> Edge:
 def points_outside(board: Board, edge: Removal) -> List[int]:
     """The test points that lie outside the edge, and not on it."""
     areas = [piece[1] for piece in edge.clear.both[0] if piece[0] == "area"]
-    return [point for point in range(len(board.report.points)) if sum(odd_inside(area, board.spot(point)) for area in areas) % 2]
+    return [
+        point
+        for point in range(len(board.report.points))
+        if sum(odd_inside(area, board.spot(point)) for area in areas) % 2
+    ]
 
 
 def outside_findings(board: Board, edge: Removal, first: int) -> List[Finding]:
@@ -60,7 +66,9 @@ def bounds_of(told: Judged) -> Tuple[Judged, Judged]:
     return told.package.between[1:] if told.package.between else (told, told)
 
 
-def look(program: Any, told: Judged, board: Board, removals: Sequence[Removal], edge: Edge) -> Tuple[List[Finding], List[str]]:
+def look(
+    program: Any, told: Judged, board: Board, removals: Sequence[Removal], edge: Edge
+) -> Tuple[List[Finding], List[str]]:
     """The findings of the made board, and notes; Refused, BadCopper or Stop where they are not known."""
     made = MadeBoard(program, board, *bounds_of(told), removals)
     numbers = made.numbers()
@@ -84,11 +92,17 @@ def words_of(findings: Sequence[Finding]) -> str:
     return f"as it is made, {spoken(told + ([counted(possible, 'possible cut')] if possible else []))}"
 
 
-def requested(program: Any, told: Judged, board: Board, holes: Sequence[UnplatedHoles], texts: Sequence[str]) -> Requested:
+def requested(
+    program: Any, told: Judged, board: Board, holes: Sequence[UnplatedHoles], texts: Sequence[str]
+) -> Requested:
     """What the made board has less than the designed one."""
     program.progress.begin("looking at the board as it is made")
     edge = edge_of(texts, board)
-    notes = [f"{its.file}: its unplated holes are not read, so nothing is said of what they cut" for its in holes if not its.is_read]
+    notes = [
+        f"{its.file}: its unplated holes are not read, so nothing is said of what they cut"
+        for its in holes
+        if not its.is_read
+    ]
     notes += [f"the board's edge is not known, so nothing is said of copper outside it: {edge.why}"] if edge.why else []
     removals = [removal for its in holes for removal in of_holes(its)] + ([edge.removal] if edge.removal else [])
     if not removals:

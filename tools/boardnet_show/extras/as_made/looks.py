@@ -22,11 +22,14 @@ def requested(program: Any, judged: Any, seen: Explained, asked: Any) -> Request
         told = Requested(notes=[f"not looked at, as --no-cuts asks: the copper that {what} would take away"])
     elif holes or profiles:
         from . import looking
+
         told = looking.requested(program, judged, seen.board, holes, profiles)
     if asked.audit_board:
         from . import board_audit
+
         told = told.joined(board_audit.requested(program, judged, seen.board))
     if asked.necks is not None:
         from . import necks
+
         return told.joined(necks.requested(program, judged, seen.board, asked.necks))
     return told.joined(Requested(notes=thin_joins.notes(program, judged, seen.board)))

@@ -24,7 +24,7 @@ from .removals import Removal
 
 LOWER, UPPER = 0, 1
 HEAD = "%FSLAX47Y47*%\n%MOMM*%\n"
-SHIFT = 21      # as Bands wants places
+SHIFT = 21  # as Bands wants places
 
 
 class Taken(NamedTuple):
@@ -72,7 +72,9 @@ class Copper:
         box = self.removals[number].box
         if box is not None:
             return self.tree.meeting(box)
-        return chain.from_iterable(self.tree.meeting(box_of_line(a, b, 0)) for a, b in edges(self.touching.shapes.places(part)))
+        return chain.from_iterable(
+            self.tree.meeting(box_of_line(a, b, 0)) for a, b in edges(self.touching.shapes.places(part))
+        )
 
     def within(self, part: int) -> Iterable[int]:
         """The pieces whose first places lie inside an area."""
@@ -137,7 +139,9 @@ def made(copper: Copper, taken: Sequence[Taken], numbers: Set[int], side: int) -
 
 def judged_with(program: Program, package: Package, names: List[str], files: Dict[str, bytes]) -> Judged:
     """A copy of a package with other copper files, judged; Refused where it has no answer."""
-    answer = judged.judge(program, package.changed(beside(package, "made"), files, package.manifest.changed(copper=names)))
+    answer = judged.judge(
+        program, package.changed(beside(package, "made"), files, package.manifest.changed(copper=names))
+    )
     if answer.report is None:
         raise Refused(f"the board as it is made: {answer.line}")
     return answer

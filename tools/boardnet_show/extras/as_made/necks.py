@@ -60,7 +60,9 @@ def judged_by_layers(program: Any, copper: Copper, solids: Dict[int, List[tuple]
 def lower(program: Any, copper: Copper, half: int) -> Judged:
     """What is left for certain of a board whose shapes are drawn in."""
     layers = drawn_in.by_layers(copper.layers, range(len(copper.shapes)))
-    return judged_by_layers(program, copper, {layer: list(drawn_in.lower_layer(copper.shapes, its, half)) for layer, its in layers.items()})
+    return judged_by_layers(
+        program, copper, {layer: list(drawn_in.lower_layer(copper.shapes, its, half)) for layer, its in layers.items()}
+    )
 
 
 def upper(program: Any, copper: Copper, half: int, nets: Set[int]) -> Judged:
@@ -96,7 +98,9 @@ class Places:
     """Where parts of a net come nearest on the board with its shapes drawn in."""
 
     def __init__(self, program: Any, drawn: Judged, board: Board) -> None:
-        self.board = Board(drawn.package, drawn.report, board.records, board_copper.shapes_of_judged(program, drawn), None, board.ties)
+        self.board = Board(
+            drawn.package, drawn.report, board.records, board_copper.shapes_of_judged(program, drawn), None, board.ties
+        )
         self.copper = NearestCopper(self.board)
 
     def of(self, group: Group) -> Gap:
@@ -123,9 +127,20 @@ def findings_of(board: Board, its: Sequence[Group], width: int, places: Places) 
     told = []
     for number, group in enumerate(its):
         place = places.of(group)
-        told.append(Finding(NECK, number, board.name(group.name), words_of(board, group, width, place), [part[0] for part in group.parts],
-                            nets=[group.net], names=[group.name], parts=list(map(list, group.parts)), gap=place._replace(distance=0),
-                            sure=True if group.is_certain else False))
+        told.append(
+            Finding(
+                NECK,
+                number,
+                board.name(group.name),
+                words_of(board, group, width, place),
+                [part[0] for part in group.parts],
+                nets=[group.net],
+                names=[group.name],
+                parts=list(map(list, group.parts)),
+                gap=place._replace(distance=0),
+                sure=True if group.is_certain else False,
+            )
+        )
     return told
 
 
@@ -165,5 +180,7 @@ def requested(program: Any, told: Judged, board: Board, width: int) -> Requested
     possible = sum(it.sure is False for it in its)
     count = len(its) - possible
     than = f"under {millimetres(width)} mm" if width else "of no width"
-    words = f"{counted(count, 'neck') if count else 'no neck'} {than}" + (f" and {counted(possible, 'possible one')}" if possible else "")
+    words = f"{counted(count, 'neck') if count else 'no neck'} {than}" + (
+        f" and {counted(possible, 'possible one')}" if possible else ""
+    )
     return Requested([found(NECKS, its, words)], its)

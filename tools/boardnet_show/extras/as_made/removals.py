@@ -17,7 +17,8 @@ EDGE = "the board's edge"
 
 class Removal(NamedTuple):
     """What takes copper away on every layer: `words` name it, `place` is where it is, None of the edge. `clear` has pieces that it
-    takes away for certain, and pieces round all that it may take away; `box` is round these, None where they are everywhere."""
+    takes away for certain, and pieces round all that it may take away; `box` is round these, None where they are everywhere.
+    """
 
     words: str
     place: Optional[Spot]
@@ -26,6 +27,7 @@ class Removal(NamedTuple):
 
 
 # ---- holes
+
 
 def what_is(shapes: Shapes, piece: int) -> str:
     """An unplated hole or slot with its size; the size is the diameter, since capsules have half of it, rounded down."""
@@ -45,6 +47,7 @@ def of_holes(holes: UnplatedHoles) -> Iterator[Removal]:
 
 
 # ---- the edge
+
 
 def of_edge(outline: Outline, spots: Sequence[Spot]) -> Optional[Removal]:
     """All that lies outside the board's edge, where it is known, as far as a board may reach about these places."""

@@ -35,6 +35,7 @@ def smaller(data: bytes) -> bytes:
 
     def sizes(found: "re.Match[bytes]") -> bytes:
         return found[1] + size(found[2]) + (b"X" + size(found[3]) if found[3] else b"")
+
     return APERTURE.sub(sizes, data)
 
 
@@ -54,8 +55,10 @@ def parted(designed: Report, drawn: Report) -> List[List[int]]:
 def words_of(board: Board, its: List[List[int]]) -> str:
     first, more = its[0], len(its) - 1
     also = f", and of {counted(more, 'more net')}" if more else ""
-    return (f"a join of no width: {spoken(map(board.point_words, first), FEW)}, of {board.spoken_name(board.name_of(first[0]))}{also}, are joined "
-            "by copper that only touches in single places or along lines; --necks 0 tells where")
+    return (
+        f"a join of no width: {spoken(map(board.point_words, first), FEW)}, of {board.spoken_name(board.name_of(first[0]))}{also}, are joined "
+        "by copper that only touches in single places or along lines; --necks 0 tells where"
+    )
 
 
 def notes(program: Any, told: Judged, board: Board) -> List[str]:

@@ -19,8 +19,9 @@ HOLESIZE = re.compile(rb"^[ \t]*;[ \t]*(?:T[0-9]{1,4}[ \t]+)?Holesize\b", re.M |
 # `Units : 1/10000 Inch` of a .dri, its tools (` T01   0.0394inch     2`), and the file that it is about.
 DRI_UNITS = re.compile(rb"^[ \t]*Units[ \t]*:[ \t]*(?:1/1(0{1,9})|0\.(0{0,8})1)[ \t]*(inch|mm)[ \t\r]*$", re.M | re.I)
 DRI_MODE = re.compile(rb"^[ \t]*Data Mode[ \t]*:[ \t]*(\w+)", re.M)
-DRI_TOOL = re.compile(rb"^[ \t]*T([0-9]{1,4})[ \t]+([0-9]*\.?[0-9]+)[ \t]*(inch|mm)[ \t]+([0-9]+)[ \t\r]*$",
-                      re.M | re.I)
+DRI_TOOL = re.compile(
+    rb"^[ \t]*T([0-9]{1,4})[ \t]+([0-9]*\.?[0-9]+)[ \t]*(inch|mm)[ \t]+([0-9]+)[ \t\r]*$", re.M | re.I
+)
 DECIMAL = re.compile(rb"[0-9]*\.?[0-9]+")
 DRI_UNIT = {b"inch": INCH, b"mm": MM}
 
@@ -66,8 +67,10 @@ def drill_station(name: str, data: bytes, drilled: bytes) -> Optional[Companion]
         tool = int(number)
         if float(sizes.get(tool, b"-1")) != float(size) or used.get(tool, 0) != int(count):
             mine = f"{shown(sizes.get(tool, b'none'))} and {used.get(tool, 0)}"
-            raise Contradiction(f"{name} says that T{tool} has a size of {shown(size)} and {shown(count)} holes, and "
-                                f"it has {mine}: it is of another board")
+            raise Contradiction(
+                f"{name} says that T{tool} has a size of {shown(size)} and {shown(count)} holes, and "
+                f"it has {mine}: it is of another board"
+            )
     decimals = len(found[1]) if found[1] is not None else len(found[2]) + 1
     said = Said(DRI_UNIT[found[3].lower()], (0, decimals), LEADING)
     return Companion(name, said, " ".join(shown(found[0]).split()))
@@ -114,10 +117,14 @@ def agreed(said: Said, companion: Companion) -> Said:
 
     def differ(what: str, mine: object, theirs: object) -> Contradiction:
         return Contradiction(f"it says {what} {mine}, and {companion.name} beside it {theirs}")
+
     if None not in (said.unit, its.unit) and said.unit != its.unit:
         raise differ("a unit of", UNIT_NAMES[said.unit or MM], UNIT_NAMES[its.unit or MM])
-    if said.digits and its.digits and (said.digits[1] != its.digits[1] or 0 not in (said.digits[0], its.digits[0])
-                                       and said.digits != its.digits):
+    if (
+        said.digits
+        and its.digits
+        and (said.digits[1] != its.digits[1] or 0 not in (said.digits[0], its.digits[0]) and said.digits != its.digits)
+    ):
         raise differ("digits of", "{}.{}".format(*said.digits), "{}.{}".format(*its.digits))
     both = {said.zeros, its.zeros} - {None, NO_ZEROS}
     if len(both) > 1:

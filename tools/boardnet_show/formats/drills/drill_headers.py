@@ -12,15 +12,32 @@ from typing import Dict, Iterator, List, NamedTuple, Optional, Set, Tuple
 from boardnet_show.formats.units import INCH, MM, decimal_millimetres
 
 from .drill_lines import (
-    BEHIND, BODY, HEADER, HEADER_ENDS, START, Comment, Hit, Line, Mode, Move, Pick, Record, Repeat, Rout, Tool, Unit,
-    lines
+    BEHIND,
+    BODY,
+    HEADER,
+    HEADER_ENDS,
+    START,
+    Comment,
+    Hit,
+    Line,
+    Mode,
+    Move,
+    Pick,
+    Record,
+    Repeat,
+    Rout,
+    Tool,
+    Unit,
+    lines,
 )
 
 # `;T01 Holesize 1. = 39.370079 Tolerance = +0.000000/-0.000000 PLATED MILS Quantity = 2` of Allegro, also without
 # `T01`.
 HOLESIZE = re.compile(
     rb";[ \t]*(?:T([0-9]{1,4})[ \t]+)?Holesize[ \t]+([0-9]{1,4})\.?[ \t]*=[ \t]*([0-9]*\.?[0-9]+)[ \t].*?[ \t]"
-    rb"(MILS?|MM|MILLIMETERS?|INCH(?:ES)?|MICRONS?)\b(?:[ \t]+Quantity[ \t]*=[ \t]*([0-9]+))?", re.I)
+    rb"(MILS?|MM|MILLIMETERS?|INCH(?:ES)?|MICRONS?)\b(?:[ \t]+Quantity[ \t]*=[ \t]*([0-9]+))?",
+    re.I,
+)
 LENGTHS = ((b"MIL", INCH // 1000), (b"MICRON", MM // 1000), (b"MM", MM), (b"MILLIMETER", MM), (b"INCH", INCH))
 DECIMAL = re.compile(rb"\+?(?:[0-9]+\.[0-9]*|\.[0-9]+)")
 STOP = b"M00"
@@ -62,7 +79,7 @@ def millimetres(text: bytes, unit: int) -> bytes:
     exact = Fraction(text.decode()) * unit
     even = 2 * round(exact / 2)
     digits = len(text.partition(b".")[2])
-    if abs(exact - even) * 2 * 10 ** digits <= unit:
+    if abs(exact - even) * 2 * 10**digits <= unit:
         return decimal_millimetres(even).encode()
     return scaled(text, unit)
 
@@ -136,8 +153,11 @@ class Moved:
     def leaves(self, its: List[Line]) -> bool:
         """Whether a tool has two sizes, or a comment that stays says of something whether it is plated, but for what
         holds on."""
-        return self.is_twice or any(PLATED.search(line.text) and not TYPE.match(line.text)
-                                    for line in its if line.text.startswith(b";") and line.number not in self.comments)
+        return self.is_twice or any(
+            PLATED.search(line.text) and not TYPE.match(line.text)
+            for line in its
+            if line.text.startswith(b";") and line.number not in self.comments
+        )
 
 
 class Frame:
@@ -147,7 +167,7 @@ class Frame:
         self.its, self.unit = its, unit
         self.front = next((k for k, line in enumerate(its) if line.text and not line.text.startswith(b";")), len(its))
         self.moved = Moved({})
-        self.sized = commented(its[:self.front])
+        self.sized = commented(its[: self.front])
         self.changed: Dict[int, bytes] = {}
         self.first_pick = b""
         # A later unit would be that of the places behind it alone.
@@ -193,13 +213,17 @@ class Frame:
             self.changed[stop] = b"T%d" % it.number if it else b""
 
     def headed(self, raw: List[bytes]) -> Optional[Headed]:
-        if not self.moved.header or self.has_units or self.moved.leaves(self.its[self.front:]):
+        if not self.moved.header or self.has_units or self.moved.leaves(self.its[self.front :]):
             return None
         header = [START, *([NAMES[MM]] if self.unit else []), *self.moved.header, b"%"]
         header += [self.first_pick] if self.first_pick else []
         body = [self.changed.get(number, text) for number, text in enumerate(raw, 1)]
-        return Headed(b"\n".join([*body[:self.front], *header, *body[self.front:]]), self.front, len(header),
-                      self.unit not in (None, MM))
+        return Headed(
+            b"\n".join([*body[: self.front], *header, *body[self.front :]]),
+            self.front,
+            len(header),
+            self.unit not in (None, MM),
+        )
 
 
 def hoisted(data: bytes, its: List[Line], unit: Optional[int]) -> Headed:
@@ -208,8 +232,13 @@ def hoisted(data: bytes, its: List[Line], unit: Optional[int]) -> Headed:
     end = next((line.number for line in its if line.part == HEADER and line.text in HEADER_ENDS), 0)
     raw = data.split(b"\n")
     records = [(line, line.record()) for line in its if line.part in (HEADER, BODY) and line.text[:1] in b"TMI"]
-    moved = Moved({record.number: b"".join(record.sizes()) for line, record in records
-                   if line.part == HEADER and isinstance(record, Tool)})
+    moved = Moved(
+        {
+            record.number: b"".join(record.sizes())
+            for line, record in records
+            if line.part == HEADER and isinstance(record, Tool)
+        }
+    )
     if any(line.part == BODY and isinstance(record, Tool) for line, record in records):
         for line, record, comments in before_each([line for line in its if line.part == BODY]):
             if isinstance(record, Tool) and is_defined(record):
@@ -220,7 +249,7 @@ def hoisted(data: bytes, its: List[Line], unit: Optional[int]) -> Headed:
     added = moved.header if end else []
     first = next((record for _, record in records if isinstance(record, (Tool, Unit, Mode))), None)
     if added:
-        return Headed(b"\n".join([*raw[:end - 1], *added, *raw[end - 1:]]), end - 1, len(added))
+        return Headed(b"\n".join([*raw[: end - 1], *added, *raw[end - 1 :]]), end - 1, len(added))
     if unit and isinstance(first, Tool):
         return Headed(b"\n".join([*raw[:start], NAMES[unit], *raw[start:]]), start, 1)
     return Headed(b"\n".join(raw))

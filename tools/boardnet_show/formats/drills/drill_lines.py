@@ -122,7 +122,7 @@ def tool_of(text: bytes) -> Optional[Record]:
     picked, defined = PICK.fullmatch(text), TOOL.fullmatch(text)
     if picked:
         return Pick(int(picked[1]))
-    return Tool(int(defined[1]), text[:defined.end(1)], tuple(PARAMETER.findall(defined[2]))) if defined else None
+    return Tool(int(defined[1]), text[: defined.end(1)], tuple(PARAMETER.findall(defined[2]))) if defined else None
 
 
 def unit_of(text: bytes) -> Optional[Record]:
@@ -131,9 +131,13 @@ def unit_of(text: bytes) -> Optional[Record]:
         return None
     words = found[2].split(b",") if found[2] is not None else []
     digits = [(word, DIGITS.fullmatch(word)) for word in words]
-    return Unit(UNITS[found[1]], found[1], tuple(word for word in words if word in (b"TZ", b"LZ")),
-                tuple((len(it[1]), len(it[2])) for _, it in digits if it),
-                tuple(word for word, it in digits if not it and word not in (b"TZ", b"LZ")))
+    return Unit(
+        UNITS[found[1]],
+        found[1],
+        tuple(word for word in words if word in (b"TZ", b"LZ")),
+        tuple((len(it[1]), len(it[2])) for _, it in digits if it),
+        tuple(word for word, it in digits if not it and word not in (b"TZ", b"LZ")),
+    )
 
 
 def repeat_of(text: bytes) -> Optional[Record]:

@@ -61,7 +61,7 @@ class Plating:
         self.own: Kind = None
         self.lasting: Kind = None
         self.behind: Kind = None
-        self.sizes: List[bool] = []         # of Allegro's comments without a tool, those since the last tool
+        self.sizes: List[bool] = []  # of Allegro's comments without a tool, those since the last tool
         self.read_header()
         for tool, called in self.called.items():
             called.update(self.numbered.get(tool, ()), self.started(tool))

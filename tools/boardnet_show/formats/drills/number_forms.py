@@ -41,7 +41,7 @@ class NumberForm(NamedTuple):
         digits = number.lstrip(b"+-")
         if b"." in number:
             return number
-        sign = number[:len(number) - len(digits)]
+        sign = number[: len(number) - len(digits)]
         full = digits.ljust(self.width(), b"0") if self.zeros == TRAILING else digits.rjust(self.decimals + 1, b"0")
         at = len(full) - self.decimals
         return sign + full[:at] + b"." + (full[at:] or b"0")
@@ -166,5 +166,9 @@ def said_of(data: bytes) -> Said:
     if len(zeros) > 1:
         raise Contradiction("it says of leading and of trailing zeros that they are left out")
     lines_of = [*(line for line, *_ in its_layouts), *(line for line, _ in its_zeros), *(line for line, _ in its_units)]
-    return Said(its_units[0][1] if its_units else None, next(iter(digits), None), next(iter(zeros), None),
-                lines_of[0] if lines_of else 0)
+    return Said(
+        its_units[0][1] if its_units else None,
+        next(iter(digits), None),
+        next(iter(zeros), None),
+        lines_of[0] if lines_of else 0,
+    )

@@ -13,9 +13,9 @@ from boardnet_show.formats.gerber_lexer import Run, Word, may_lack_quadrants
 from boardnet_show.formats.gerber_machine import ANTICLOCKWISE, STRAIGHT, Code, Machine, Spot
 from boardnet_show.geometry.exact import Refused
 
-PARTS = 100         # of a unit, in which radii are compared
-ALIKE = 3           # units that the radii of both ends may differ by: four numbers are rounded
-OTHER = 10          # units by which they differ where that is no rounding
+PARTS = 100  # of a unit, in which radii are compared
+ALIKE = 3  # units that the radii of both ends may differ by: four numbers are rounded
+OTHER = 10  # units by which they differ where that is no rounding
 
 
 class Arc(NamedTuple):
@@ -28,7 +28,9 @@ class Arc(NamedTuple):
 
     def difference(self, centre: Spot) -> int:
         """How much the radii of both ends differ, in parts of a unit."""
-        first, last = (isqrt(PARTS ** 2 * sum((a - b) ** 2 for a, b in zip(spot, centre))) for spot in (self.start, self.end))
+        first, last = (
+            isqrt(PARTS**2 * sum((a - b) ** 2 for a, b in zip(spot, centre))) for spot in (self.start, self.end)
+        )
         return abs(first - last)
 
     def several(self) -> Spot:
@@ -38,8 +40,11 @@ class Arc(NamedTuple):
     def single(self) -> List[Spot]:
         """The centres that G74 may mean: with radii that fit, and at most about a right angle."""
         (x, y), (i, j) = self.start, self.offset
-        return [centre for centre in sorted({(x + dx, y + dy) for dx in (i, -i) for dy in (j, -j)})
-                if self.difference(centre) <= ALIKE * PARTS and self.is_right_angle(centre)]
+        return [
+            centre
+            for centre in sorted({(x + dx, y + dy) for dx in (i, -i) for dy in (j, -j)})
+            if self.difference(centre) <= ALIKE * PARTS and self.is_right_angle(centre)
+        ]
 
     def is_right_angle(self, centre: Spot) -> bool:
         """Whether it turns about a centre by at most a right angle, but for rounding."""
@@ -111,8 +116,10 @@ def reading(data: bytes) -> Optional[Tuple[str, bytes]]:
     if word == b"G75":
         words = f"with arcs of several quadrants (G75), which it does not say: the radii of all {counted(len(its.found), 'arc')} fit"
     else:
-        words = ("with arcs of a single quadrant (G74), which it does not say: no offset is negative, and with G75 the radii of "
-                 f"{count} of {counted(len(its.found), 'arc')} differ")
+        words = (
+            "with arcs of a single quadrant (G74), which it does not say: no offset is negative, and with G75 the radii of "
+            f"{count} of {counted(len(its.found), 'arc')} differ"
+        )
     if its.spare:
-        return words, data[:its.spare.start] + word + data[its.spare.end:]
+        return words, data[: its.spare.start] + word + data[its.spare.end :]
     return f"{words}; one command more stands before all", word + b"*" + data

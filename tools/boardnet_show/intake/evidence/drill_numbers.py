@@ -11,7 +11,7 @@ from boardnet_show.formats.drills.number_forms import Contradiction, Said, Settl
 if TYPE_CHECKING:
     from .drill_readings import Evidence
 
-MOST_BYTES = 1_000_000      # of a file that says how another is read
+MOST_BYTES = 1_000_000  # of a file that says how another is read
 
 HAS_HEADER = re.compile(rb"^[ \t]*M48[ \t\r]*$", re.M)
 BARE = re.compile(rb"^[^;\n]*[XY][+-]?[0-9]+(?![0-9.])", re.M)
@@ -57,7 +57,8 @@ class Folder:
 def said(name: str, data: bytes, home: str) -> Tuple[Said, str]:
     """What a drill file says of its numbers, with what is said beside it, in words; a Contradiction where it says two
     things."""
-    from boardnet_show.formats.drills.companions import agreed, companion_of    # few boards want them
+    from boardnet_show.formats.drills.companions import agreed, companion_of  # few boards want them
+
     folder, base = Folder(home), os.path.basename(name)
     inside = os.path.dirname(name)
     beside = companion_of(base, data, folder.names(name), lambda other: folder.read(os.path.join(inside, other)))
@@ -75,15 +76,19 @@ def read_by(data: bytes, its: Said, why: str) -> Optional[Settled]:
     wrong = form.wrong_number(bare) if form else None
     if wrong and form:
         number = wrong[1].decode("latin-1")
-        raise Contradiction(f"line {wrong[0]} has the number {number}, which is none of {form.words()}"
-                            + (f", as {why}" if why else ""))
+        raise Contradiction(
+            f"line {wrong[0]} has the number {number}, which is none of {form.words()}" + (f", as {why}" if why else "")
+        )
     return Settled(its.unit, form, its.line if not why else 0, why)
 
 
 def refusal(name: str, why: str) -> Stop:
     """What stops a board whose drill file contradicts itself, what lies beside it, or the pads."""
-    return Stop(REFUSED, f"{name}: its numbers have no one meaning: {why}; to export: drill files with a decimal point in "
-                "each number")
+    return Stop(
+        REFUSED,
+        f"{name}: its numbers have no one meaning: {why}; to export: drill files with a decimal point in "
+        "each number",
+    )
 
 
 class Settling:
@@ -97,7 +102,8 @@ class Settling:
 
     def evidence(self) -> "Evidence":
         """What the pads of the copper say, looked at once, where it is wanted."""
-        from .drill_readings import Evidence       # few boards want it
+        from .drill_readings import Evidence  # few boards want it
+
         self.made = self.made or Evidence(self.copper)
         return self.made
 

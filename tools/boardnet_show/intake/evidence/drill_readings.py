@@ -9,7 +9,13 @@ from typing import Callable, Dict, Iterable, Iterator, List, NamedTuple, Optiona
 from boardnet_show.formats.drills.drill_lines import BEHIND, Hit, Place, Repeat, lines, places_of
 from boardnet_show.formats.drills.drill_plating import Plating
 from boardnet_show.formats.drills.number_forms import (
-    LEADING, TRAILING, UNIT_NAMES, NumberForm, Said, Settled, bare_numbers
+    LEADING,
+    TRAILING,
+    UNIT_NAMES,
+    NumberForm,
+    Said,
+    Settled,
+    bare_numbers,
 )
 from boardnet_show.formats.units import INCH, MM
 
@@ -55,8 +61,10 @@ class Fit(NamedTuple):
     def words(self, others: List["Fit"]) -> str:
         """The evidence, in words."""
         most = max((it.on for it in others if it.is_written), default=0)
-        return (f"{self.on} of {self.holes} holes lie on middles of pads, and over {most} by no other reading that the "
-                "numbers allow")
+        return (
+            f"{self.on} of {self.holes} holes lie on middles of pads, and over {most} by no other reading that the "
+            "numbers allow"
+        )
 
 
 def digits_first(default: int) -> List[int]:
@@ -109,8 +117,8 @@ def length(number: bytes, reading: Reading) -> int:
         return round(Fraction(number.decode()) * reading.unit)
     if form.zeros == TRAILING:
         behind = max(form.width() - len(number.lstrip(b"+-")), 0)
-    over: int = 10 ** form.decimals
-    shifted: int = int(number) * 10 ** behind
+    over: int = 10**form.decimals
+    shifted: int = int(number) * 10**behind
     return (2 * shifted * reading.unit + over) // (2 * over)
 
 

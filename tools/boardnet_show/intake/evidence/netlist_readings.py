@@ -32,7 +32,7 @@ def with_unit(data: bytes, unit: int) -> bytes:
     if not places:
         return b"\n".join([said, *lines])
     end = b"\r" if lines[places[0]].endswith(b"\r") else b""
-    return b"\n".join([*lines[:places[0]], said + end, *lines[places[0] + 1:]])
+    return b"\n".join([*lines[: places[0]], said + end, *lines[places[0] + 1 :]])
 
 
 def unit_reading(data: bytes, pads: Middles, is_clear: IsClear) -> Optional[Tuple[str, bytes]]:
@@ -42,8 +42,10 @@ def unit_reading(data: bytes, pads: Middles, is_clear: IsClear) -> Optional[Tupl
     for unit, count in counts.items():
         others = [many for other, many in counts.items() if other != unit]
         if is_clear(count, len(spots), others):
-            words = (f"as a netlist in units of {UNIT_WORDS[unit]} (CUST {CODES[unit]}), which it does not say: "
-                     f"{count} of {counted(len(spots), 'point')} lie on pads, in the other unit {max(others)}")
+            words = (
+                f"as a netlist in units of {UNIT_WORDS[unit]} (CUST {CODES[unit]}), which it does not say: "
+                f"{count} of {counted(len(spots), 'point')} lie on pads, in the other unit {max(others)}"
+            )
             return words, with_unit(data, unit)
     return None
 
@@ -54,8 +56,10 @@ def layer_reading(data: bytes, layers: int) -> Optional[Tuple[str, bytes]]:
     if len(codes) != 1 or codes[0] not in {it.access for it in ipc356.places(data) if not it.is_through}:
         return None
     copy, _ = netlist_mends.mended(data, layers, codes[0])
-    words = (f"as a netlist whose code A{codes[0]:02d} is the last layer, {layers:02d}: no record has that, and no other is "
-             f"over the {counted(layers, 'layer')} of the files; are these all layers of the board?")
+    words = (
+        f"as a netlist whose code A{codes[0]:02d} is the last layer, {layers:02d}: no record has that, and no other is "
+        f"over the {counted(layers, 'layer')} of the files; are these all layers of the board?"
+    )
     return words, copy
 
 

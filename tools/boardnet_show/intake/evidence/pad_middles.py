@@ -9,7 +9,7 @@ from boardnet_show.geometry.exact import Refused
 
 FORMAT = re.compile(r"FSLAX\d(\d)Y\d\d")
 Spot = Tuple[int, int]
-NEAR = 50_000       # u of the cells in which places are looked for: more than what two roundings differ by
+NEAR = 50_000  # u of the cells in which places are looked for: more than what two roundings differ by
 
 
 class Flashes(Machine):
@@ -54,7 +54,7 @@ def of_file(data: bytes) -> Set[Spot]:
         return set()
     if not found.scale or not found.decimals:
         return set()
-    step = Fraction(found.scale, 10 ** found.decimals)
+    step = Fraction(found.scale, 10**found.decimals)
     in_u = {number: round(int(number) * step) for number in {number for spot in found.spots for number in spot}}
     return {(in_u[x], in_u[y]) for x, y in found.spots}
 

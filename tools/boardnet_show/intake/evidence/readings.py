@@ -4,9 +4,9 @@ from typing import Callable, Iterator, List, NamedTuple, Sequence
 from . import arc_readings, netlist_readings
 from .pad_middles import Middles
 
-FEWEST = 8          # places that decide
-ENOUGH = 95, 100    # of them lie on pads
-AT_MOST = 1, 3      # of those, by any other reading
+FEWEST = 8  # places that decide
+ENOUGH = 95, 100  # of them lie on pads
+AT_MOST = 1, 3  # of those, by any other reading
 ASK = "the files do not say how they are read: if this is right, say --yes; else export them anew"
 
 
@@ -37,6 +37,7 @@ def of_files(read: Callable[[str], bytes], copper: Sequence[str], netlist: str) 
         if not middles:
             middles.append(Middles(map(read, copper)))
         return middles[0]
+
     found = netlist_readings.reading(data, len(copper), pads, is_clear)
     if found:
         yield Reading(netlist, *found)

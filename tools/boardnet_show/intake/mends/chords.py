@@ -18,12 +18,12 @@ from typing import Iterator, List, Optional, Sequence, Tuple
 from boardnet_show.formats.gerber_machine import MOST_EDGES
 from boardnet_show.geometry.contour_sweep import ContourSweep, Corner, Crossed
 
-TRIED = 60          # chords of a contour that are tried
-OF_CORNER = 6       # corners at one place from which a chord is tried
-LEAST = 20          # a part has at least one of so many of the edges
+TRIED = 60  # chords of a contour that are tried
+OF_CORNER = 6  # corners at one place from which a chord is tried
+LEAST = 20  # a part has at least one of so many of the edges
 MOST_PARTS = 24
-ON_A_SIDE = 100     # places of a long edge at which a chord may end, too
-FRESH = -1          # the number of such a place where no chord ends yet
+ON_A_SIDE = 100  # places of a long edge at which a chord may end, too
+FRESH = -1  # the number of such a place where no chord ends yet
 Part = List[Tuple[Corner, Optional[int]]]
 
 
@@ -43,7 +43,7 @@ def cut(corners: Sequence[Corner]) -> Optional[List[Part]]:
             return None
         i, j = ends
         kept = [(spot, None if k in ends and number == FRESH else number) for k, (spot, number) in enumerate(finer)]
-        waiting += [[it for it in half if it[1] != FRESH] for half in (kept[i:j + 1], kept[j:] + kept[:i + 1])]
+        waiting += [[it for it in half if it[1] != FRESH] for half in (kept[i : j + 1], kept[j:] + kept[: i + 1])]
     return in_order(done)
 
 
@@ -64,7 +64,7 @@ def refined(part: Part) -> Part:
     for k in sorted({k for values in (xs, ys) for k in far(values, 2 * every)}):
         after = (k + 1) % len(part)
         new = along(xs[k], ys[k], xs[after] - xs[k], ys[after] - ys[k], every)
-        finer += [*part[done:k + 1], *((spot, FRESH) for spot in new)]
+        finer += [*part[done : k + 1], *((spot, FRESH) for spot in new)]
         done = k + 1
     return finer + part[done:]
 
@@ -115,9 +115,14 @@ def is_free(corners: List[Corner], i: int, j: int) -> bool:
     """Whether a chord meets no edge but at its two corners."""
     a, b = corners[i], corners[j]
     left, right, low, high = min(a[0], b[0]), max(a[0], b[0]), min(a[1], b[1]), max(a[1], b[1])
-    return not any(is_met(a, b, c, d) for c, d in zip(corners, corners[1:] + corners[:1])
-                   if (c[0] <= right or d[0] <= right) and (c[0] >= left or d[0] >= left)
-                   and (c[1] <= high or d[1] <= high) and (c[1] >= low or d[1] >= low))
+    return not any(
+        is_met(a, b, c, d)
+        for c, d in zip(corners, corners[1:] + corners[:1])
+        if (c[0] <= right or d[0] <= right)
+        and (c[0] >= left or d[0] >= left)
+        and (c[1] <= high or d[1] <= high)
+        and (c[1] >= low or d[1] >= low)
+    )
 
 
 def is_met(a: Corner, b: Corner, c: Corner, d: Corner) -> bool:

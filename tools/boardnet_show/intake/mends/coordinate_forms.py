@@ -12,11 +12,12 @@ from .table import DIGITS, NO_AREA
 # A format without a word on zeros, or with trailing ones left out.
 ZEROS = re.compile(rb"FS(T?)A(?:N[0-9])?(?:G[0-9])?(X([1-6])([2-7])Y\3\4)(?:D[0-9])?(?:M[0-9])?")
 NUMBER = re.compile(rb"([XYIJ][+-]?)([0-9]+)")
-PREFIX = b"G55"             # before a flash
+PREFIX = b"G55"  # before a flash
 MOST_EDGES_WITHOUT_AREA = 2
 # Contours of one or two edges, as most files would have them.
-SHORT = re.compile(rb"(?:G36|D0?2)\*[\t\n\r ]*(?:(?:G0?1)?[XY][XY0-9+-]*(?:D0?1)?\*[\t\n\r ]*){1,2}"
-                   rb"(?:G37\*|[XY0-9+-]*D0?2\*)")
+SHORT = re.compile(
+    rb"(?:G36|D0?2)\*[\t\n\r ]*(?:(?:G0?1)?[XY][XY0-9+-]*(?:D0?1)?\*[\t\n\r ]*){1,2}" rb"(?:G37\*|[XY0-9+-]*D0?2\*)"
+)
 
 
 class Coordinates(Reading):
@@ -36,7 +37,7 @@ class Coordinates(Reading):
         self.numbers(cast(Word, self.word))
 
     def other(self, text: bytes) -> None:
-        if text.startswith(PREFIX) and OPERATION.fullmatch(text[len(PREFIX):]):
+        if text.startswith(PREFIX) and OPERATION.fullmatch(text[len(PREFIX) :]):
             self.numbers(cast(Word, self.word))
         elif NUMBER.search(text):
             self.is_known = False

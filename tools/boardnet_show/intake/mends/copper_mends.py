@@ -14,9 +14,11 @@ def seldom(edits: Edits, macros: List[Tuple[definitions.Macro, List[definitions.
     """What few files have: macros that are turned, and long contours."""
     if macros:
         from . import quarter_turns
+
         quarter_turns.rewrite(edits, macros, names)
     if edits.data.count(b"*") > MOST_EDGES:
         from . import long_contours
+
         long_contours.rewrite(edits)
 
 

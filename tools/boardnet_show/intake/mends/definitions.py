@@ -12,7 +12,7 @@ from .edits import COMMENT, NOTHING, SIZES, Edits, Reading
 from .table import LINES, UNUSED
 
 MOVES = (b"D02", b"D2")
-MOST = 10 ** 10             # 1 m in u
+MOST = 10**10  # 1 m in u
 BLANKS = b" \t\r\n"
 BLANK = re.compile(rb"[ \t\r\n]")
 
@@ -160,4 +160,3 @@ class Use(Reading):
         is_like = text[:1] in (b"X", b"Y", b"I", b"J") or text[:1] in (b"D", b"G") and re.search(rb"[XYD]", text)
         if is_like and not self.in_region and not text.endswith(MOVES):
             self.numbers.add(self.chosen)
-

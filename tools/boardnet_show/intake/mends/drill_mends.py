@@ -6,8 +6,33 @@ from typing import Dict, List, Optional, Set, Tuple
 
 from boardnet_show.formats.drills.drill_headers import Headed, headed, is_counted, scaled
 from boardnet_show.formats.drills.drill_lines import (
-    BEHIND, BLANKS, BODY, END, FRONT, HEADER, START, TOOL_DOWN, TOOL_UP, Hit, Line, Mode, Move, Pick, Place, Record,
-    Repeat, Rout, Tool, Unit, first_unit, lines, numbers, places_of, record_of, text_of, with_numbers
+    BEHIND,
+    BLANKS,
+    BODY,
+    END,
+    FRONT,
+    HEADER,
+    START,
+    TOOL_DOWN,
+    TOOL_UP,
+    Hit,
+    Line,
+    Mode,
+    Move,
+    Pick,
+    Place,
+    Record,
+    Repeat,
+    Rout,
+    Tool,
+    Unit,
+    first_unit,
+    lines,
+    numbers,
+    places_of,
+    record_of,
+    text_of,
+    with_numbers,
 )
 from boardnet_show.formats.drills.drill_plating import Plating
 from boardnet_show.formats.drills.number_forms import Settled
@@ -137,7 +162,7 @@ class Drill:
 
     def is_between_tools(self, at: int) -> bool:
         """Whether a tool or the end of the file is next."""
-        behind = (line for line in self.its[at + 1:] if line.text and not line.text.startswith(b";"))
+        behind = (line for line in self.its[at + 1 :] if line.text and not line.text.startswith(b";"))
         line = next(behind, None)
         return line is not None and (isinstance(line.record(), Pick) or line.text == END)
 
@@ -206,7 +231,7 @@ class Unclear(Exception):
 
 def decimal(value: Fraction) -> bytes:
     """A number of at most 18 decimals, as a file has it."""
-    whole = abs(value) * 10 ** 18
+    whole = abs(value) * 10**18
     digits = f"{whole.numerator // whole.denominator:019d}"
     return (("-" if value < 0 else "") + digits[:-18] + "." + (digits[-18:].rstrip("0") or "0")).encode()
 
@@ -229,8 +254,10 @@ class Holes:
     def say(self, plating: Plating) -> None:
         """Notes the mend, and writes the function of what is left."""
         tools = ", ".join(f"T{number}" for number in plating.unplated()) or "none"
-        what = (f"and each tool says whether it is plated: the holes of the unplated ones ({tools}) are left out, "
-                f"{len(self.gone)} {'line' if len(self.gone) == 1 else 'lines'}")
+        what = (
+            f"and each tool says whether it is plated: the holes of the unplated ones ({tools}) are left out, "
+            f"{len(self.gone)} {'line' if len(self.gone) == 1 else 'lines'}"
+        )
         at = plating.plating_line() - 1
         text = short(self.drill.lines[at], 60)
         for number, fields, _ in plating.functions:
@@ -289,5 +316,11 @@ def header_mend(data: bytes, head: Headed, settled: Optional[Settled]) -> Mend:
     text = short(data.split(b"\n")[min(head.front, data.count(b"\n"))])
     why = f" ({settled.why})" if settled and settled.why and not settled.form else ""
     unit = ", in millimetres" if head.is_metric else ""
-    return Mend(HEADERS, head.front + 1, text, 0, f"stands behind a header that is written of what the file says{why}"
-                f"{unit}: lines from there on count {head.added} more")
+    return Mend(
+        HEADERS,
+        head.front + 1,
+        text,
+        0,
+        f"stands behind a header that is written of what the file says{why}"
+        f"{unit}: lines from there on count {head.added} more",
+    )

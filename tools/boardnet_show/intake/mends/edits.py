@@ -6,9 +6,9 @@ from boardnet_show.formats.gerber_machine import Machine
 
 from .mend import Mend, short
 
-NOTHING = b"TFleft_out"     # an attribute without a meaning, in a pair of percent signs
+NOTHING = b"TFleft_out"  # an attribute without a meaning, in a pair of percent signs
 COMMENT = b"G04"
-SIZES = {b"C": 1, b"R": 2, b"O": 2}     # of a standard aperture
+SIZES = {b"C": 1, b"R": 2, b"O": 2}  # of a standard aperture
 
 
 class Reading(Machine):

@@ -18,8 +18,15 @@ OF_OPERATIONS = b"GXYD+-0123456789"
 BETWEEN = b"%\t\n\r "
 # What takes copper away, repeats it or bends an edge: then a part at the file's end could be another than in its
 # place. Each sign that the words have, with their form.
-ORDERED = ((b"LPC", rb"LPC"), (b"SR", rb"SR."), (b"AB", rb"AB"), (b"G02", rb"G02"), (b"G2", rb"G2(?![0-9])"), (b"G03", rb"G03"),
-           (b"G3", rb"G3(?![0-9])"))
+ORDERED = (
+    (b"LPC", rb"LPC"),
+    (b"SR", rb"SR."),
+    (b"AB", rb"AB"),
+    (b"G02", rb"G02"),
+    (b"G2", rb"G2(?![0-9])"),
+    (b"G03", rb"G03"),
+    (b"G3", rb"G3(?![0-9])"),
+)
 
 
 class Contour(NamedTuple):
@@ -45,7 +52,7 @@ class Region:
         words, spots, moves = self.plain() or self.operations() or ((), (), ())
         for first, past in zip(moves, [*moves[1:], len(spots)]):
             if past - first - 1 > MOST_EDGES:
-                yield Contour(spots[first:past], words[first + 1:past])
+                yield Contour(spots[first:past], words[first + 1 : past])
 
     def plain(self) -> Optional[Operations]:
         """The numbers of the operations' words, their places, and which of them move; nothing where a word does not
@@ -107,12 +114,12 @@ def in_place(contour, part):
         if number is None:
             fresh.append(spot)
         else:
-            going = contour.words[known:number - 1]
+            going = contour.words[known : number - 1]
             if len(fresh) > len(going):
                 return None
             if going:
-                written.update(zip([*going[:len(fresh)], contour.words[number - 1]], [*fresh, spot]))
-                written.update(dict.fromkeys(going[len(fresh):]))
+                written.update(zip([*going[: len(fresh)], contour.words[number - 1]], [*fresh, spot]))
+                written.update(dict.fromkeys(going[len(fresh) :]))
             known, fresh = number, []
     return written
 
@@ -163,7 +170,8 @@ def rewrite(edits: Edits) -> None:
     ending = ending_of(data)
     if ending is None or is_ordered(data):
         return
-    from .chords import cut        # few files have long contours
+    from .chords import cut  # few files have long contours
+
     for region in regions(data):
         for contour in region.contours():
             parts = cut(contour.corners[:-1]) if contour.is_closed() else None
@@ -171,12 +179,20 @@ def rewrite(edits: Edits) -> None:
             if not written:
                 continue
             write(edits, region, written)
-            edits.insert(ending, name_before(data, region.end) + b"G01*\n" + b"".join(contour_of(part) for part in parts[1:]))
-            what = (f"begins the first of {len(contour.words)} edges of a contour, which is cut into {len(parts)} of the same copper: "
-                    "the first stays in its place, the others stand at the file's end")
+            edits.insert(
+                ending, name_before(data, region.end) + b"G01*\n" + b"".join(contour_of(part) for part in parts[1:])
+            )
+            what = (
+                f"begins the first of {len(contour.words)} edges of a contour, which is cut into {len(parts)} of the same copper: "
+                "the first stays in its place, the others stand at the file's end"
+            )
             edits.note(*region.word_place(contour.words[0]), CONTOUR, what)
 
 
 def contour_of(part):
     spots = [spot for spot, _ in part]
-    return b"G36*\n" + b"".join(b"X%dY%dD0%d*\n" % (*spot, 1 if k else 2) for k, spot in enumerate([*spots, spots[0]])) + b"G37*\n"
+    return (
+        b"G36*\n"
+        + b"".join(b"X%dY%dD0%d*\n" % (*spot, 1 if k else 2) for k, spot in enumerate([*spots, spots[0]]))
+        + b"G37*\n"
+    )

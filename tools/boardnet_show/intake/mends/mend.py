@@ -21,4 +21,4 @@ class Mended(namedtuple("Mended", "file line kind words")):
 def short(text, most=40):
     """Some of a word or a line, as it can be printed."""
     text = " ".join(text.decode("latin-1").split()).encode("ascii", "backslashreplace").decode("ascii")
-    return text if len(text) <= most else text[:most - 3] + "..."
+    return text if len(text) <= most else text[: most - 3] + "..."

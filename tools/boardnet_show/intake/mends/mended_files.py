@@ -18,9 +18,12 @@ HEAD = 65_536
 
 def of_files(read, copper, drills, netlist, settled, told=lambda number, count: None):
     """(name, data, mends) of each file that is mended, in order; `read` gives a file's bytes, or nothing where there
-    are none, and `settled` of a drill file how its numbers are read, where that is said. `told` hears which file it is."""
+    are none, and `settled` of a drill file how its numbers are read, where that is said. `told` hears which file it is.
+    """
+
     def drilled(name, data):
         return mended_gerber(name, data) if is_gerber(data) else drill_mends.mended(data, settled(name, data))
+
     rows = [(name, copper_mends.mended) for name in copper] + [(name, partial(drilled, name)) for name in drills]
     rows.append((netlist, partial(netlist_mends.mended, layers=len(copper))))
     works = [(mended, read(name)) for name, mended in dict(rows).items()]
@@ -45,15 +48,20 @@ def is_gerber(data):
 
 def mended_gerber(name, data):
     """A drill file in the Gerber format as XNC, which is refused where it cannot be one."""
-    from boardnet_show.formats.drills import gerber_drills      # few boards have one
+    from boardnet_show.formats.drills import gerber_drills  # few boards have one
     from boardnet_show.geometry.exact import Refused
+
     try:
         found = gerber_drills.written(data)
     except Refused as why:
-        raise Stop(REFUSED, f"{name}: a drill file in the Gerber format, and {why}; to export: drill files in the "
-                            "Excellon format") from None
+        raise Stop(
+            REFUSED,
+            f"{name}: a drill file in the Gerber format, and {why}; to export: drill files in the " "Excellon format",
+        ) from None
     its = f"{counted(found.flashes, 'flash', 'flashes')} and {counted(found.draws, 'draw')}"
-    what = f"says that it is a drill file in the Gerber format: its {its} are written as holes and slots, in other lines"
+    what = (
+        f"says that it is a drill file in the Gerber format: its {its} are written as holes and slots, in other lines"
+    )
     start, end = found.function.start, found.function.end
     return found.data, [Mend(GERBER_DRILLS, data.count(b"\n", 0, start) + 1, short(data[start:end]), 0, what)]
 
@@ -67,11 +75,14 @@ def name_beside(name):
 def is_copy(name, names):
     """Whether a file is the mended copy of one of these."""
     stem, ending = os.path.splitext(name)
-    return stem.endswith(MENDED) and stem[:-len(MENDED)] + ending in names
+    return stem.endswith(MENDED) and stem[: -len(MENDED)] + ending in names
 
 
 def renamed(manifest, copies):
     """A manifest that names copies in place of files."""
     of = lambda name: copies.get(name, name)
-    return {"copper": [of(name) for name in manifest["copper"]],
-            "drills": [{**it, "file": of(it["file"])} for it in manifest["drills"]], "netlist": of(manifest["netlist"])}
+    return {
+        "copper": [of(name) for name in manifest["copper"]],
+        "drills": [{**it, "file": of(it["file"])} for it in manifest["drills"]],
+        "netlist": of(manifest["netlist"]),
+    }

@@ -34,6 +34,7 @@ def blank(text: bytes) -> bytes:
 
 # ---- lines by themselves
 
+
 def without_paper(text: bytes) -> bytes:
     """A line without form feeds at its ends, which are signs for printers."""
     return text.rstrip(b"\r").strip(FORM_FEED) + blank(text) if FORM_FEED in text else text
@@ -58,6 +59,7 @@ def in_characters(text: bytes) -> Optional[str]:
 
 # ---- vias and continuations
 
+
 class Record(NamedTuple):
     """A test record that further lines may go on from, as it came and as it is written."""
 
@@ -76,7 +78,9 @@ def of_same_pin(text: bytes, came: bytes) -> bool:
 
 def says_again(text: bytes, came: bytes) -> bool:
     """Whether a continuation says the layer and the place of its record, or nothing."""
-    is_known = HOLE.fullmatch(text[BEHIND_PIN.start:ipc356.LAYER.start]) and SIZES.fullmatch(text[ipc356.PLACE.stop:])
+    is_known = HOLE.fullmatch(text[BEHIND_PIN.start : ipc356.LAYER.start]) and SIZES.fullmatch(
+        text[ipc356.PLACE.stop :]
+    )
     return bool(is_known) and of_same_pin(text, came) and is_same(text, came, ipc356.PLACE)
 
 
@@ -91,10 +95,10 @@ def continued(text: bytes, record: Record) -> Optional[bytes]:
     came, has_place = record.came, ipc356.has_coordinates(text)
     if not of_same_pin(text, came) or not ipc356.has_access(text) or not ipc356.has_access(came):
         return None
-    if not has_place and text[ipc356.X.start:].strip() or not ipc356.has_coordinates(came):
+    if not has_place and text[ipc356.X.start :].strip() or not ipc356.has_coordinates(came):
         return None
-    code, front = ipc356.CONTINUED[text[ipc356.CODE]], record.written[ipc356.NAME.start:ipc356.PLACE.start]
-    return code + front + text[ipc356.LAYER] + (text if has_place else came)[ipc356.X.start:]
+    code, front = ipc356.CONTINUED[text[ipc356.CODE]], record.written[ipc356.NAME.start : ipc356.PLACE.start]
+    return code + front + text[ipc356.LAYER] + (text if has_place else came)[ipc356.X.start :]
 
 
 def span_of(text: bytes) -> Optional[Tuple[int, int]]:
@@ -108,7 +112,7 @@ def via_ends(text: bytes, came: bytes) -> Optional[Tuple[int, int]]:
     """The layer of a via and that of its other end, by a continuation behind it; None where they do not fit."""
     span = span_of(text) if text[ipc356.CODE] in ipc356.CONTINUED else None
     behind = SPAN.sub(lambda found: b" " * len(found[0]), text[BEHIND_PIN])
-    if span is None or not says_again(text[:BEHIND_PIN.start] + behind, came):
+    if span is None or not says_again(text[: BEHIND_PIN.start] + behind, came):
         return None
     if not ipc356.has_coordinates(came):
         return None
@@ -117,6 +121,7 @@ def via_ends(text: bytes, came: bytes) -> Optional[Tuple[int, int]]:
 
 
 # ---- names
+
 
 class Aliases:
     """What stands for names that `check` does not take; a name in UTF-8 and in Latin-1 is one."""
@@ -139,6 +144,7 @@ class Aliases:
 
 
 # ---- a netlist
+
 
 @lru_cache(maxsize=2)
 def may_have_forms(data: bytes) -> bool:
@@ -165,7 +171,7 @@ class Netlist:
         self.layers, self.last = layers, last or (over[0] if len(over) == 1 and over[0] in BOTTOMS else 0)
         self.lines, self.aliases = data.split(b"\n"), Aliases(data)
         self.record: Optional[Record] = None
-        self.spanned = -1       # the line that the via before it has taken in
+        self.spanned = -1  # the line that the via before it has taken in
         self.told: Dict[Tuple[str, str], List[Tuple[int, bytes]]] = {}
         for at, line in enumerate(self.lines):
             self.replaced(PAPER, at, line, without_paper(line))
@@ -214,21 +220,21 @@ class Netlist:
     def via(self, at: int, text: bytes, new: bytes) -> None:
         """A via: a point on its layer, and one at its other end where the line behind it says that."""
         behind = self.lines[at + 1] if at + 1 < self.end else b""
-        ends, front = via_ends(behind, text), ipc356.THROUGH + new[ipc356.NAME.start:ipc356.LAYER.start]
+        ends, front = via_ends(behind, text), ipc356.THROUGH + new[ipc356.NAME.start : ipc356.LAYER.start]
         if ends:
-            first, second = (front + b"A%02d" % end + new[ipc356.X.start:] for end in ends)
+            first, second = (front + b"A%02d" % end + new[ipc356.X.start :] for end in ends)
             self.replaced(VIA, at, new, first)
             self.replaced(CONTINUED, at + 1, behind, second, "says the layers of its via: a point at the other end")
             self.spanned = at + 1
         elif lacks_layer(text):
             self.replaced(NO_POINT, at, new, b"C " + text)
         else:
-            self.on_last(at, self.replaced(VIA, at, new, ipc356.THROUGH + new[ipc356.NAME.start:]))
+            self.on_last(at, self.replaced(VIA, at, new, ipc356.THROUGH + new[ipc356.NAME.start :]))
 
     def named(self, at: int, text: bytes, name: bytes) -> bytes:
         """A record with an alias in place of a name that `check` does not take."""
         # Behind an alias it would not be seen that a name runs on, and may be cut.
-        runs_on = not any(text[at:at + 1].strip() == b"" for at in (ipc356.NAME.stop - 1, ipc356.NAME.stop))
+        runs_on = not any(text[at : at + 1].strip() == b"" for at in (ipc356.NAME.stop - 1, ipc356.NAME.stop))
         is_unplain = not runs_on and UNPLAIN.fullmatch(name) and (b" " in name or OUTSIDE.search(name))
         stands = ipc356.has_coordinates(text) and (ipc356.has_access(text) or lacks_layer(text))
         if not is_unplain or not stands or self.end == len(self.lines):
@@ -252,7 +258,7 @@ class Netlist:
             self.on_last(at, self.replaced(CONTINUED, at, text, new))
 
     def written(self) -> bytes:
-        return b"\n".join([*self.lines[:self.end], *self.aliases.lines(), *self.lines[self.end:]])
+        return b"\n".join([*self.lines[: self.end], *self.aliases.lines(), *self.lines[self.end :]])
 
     def mends(self) -> Iterator[Mend]:
         for (kind, what), rows in self.told.items():
@@ -263,7 +269,9 @@ class Netlist:
 def mended(data: bytes, layers: int, last: int = 0) -> Tuple[bytes, List[Mend]]:
     """A netlist with its lines as `check` takes them, and the mends; the same bytes where there are none. `last` is a
     code that is read as the last layer."""
-    if not (may_have_forms(data) or any(b" " in name for name in ipc356.fields(data).names) or codes_over(data, layers)):
+    if not (
+        may_have_forms(data) or any(b" " in name for name in ipc356.fields(data).names) or codes_over(data, layers)
+    ):
         return data, []
     netlist = Netlist(data, layers, last)
     found = list(netlist.mends())

@@ -11,7 +11,7 @@ from .mend import Mend, short
 from .table import ALIAS
 
 NO_NET = ipc356.NO_NET.encode()
-MOST_LAYERS = 99    # what the two digits of an access code hold
+MOST_LAYERS = 99  # what the two digits of an access code hold
 Groups = Dict[bytes, List[bytes]]
 
 
@@ -43,11 +43,13 @@ class Names:
         for whole, names in groups.items():
             first, second = (name.decode("latin-1") for name in names[:2]) if len(names) > 1 else ("", "")
             if whole in self.full:
-                self.unclear = self.unclear or (f"{first} and {second} stand for one name that fills its line, "
-                                                "so that it may be cut")
+                self.unclear = self.unclear or (
+                    f"{first} and {second} stand for one name that fills its line, " "so that it may be cut"
+                )
             if ipc356.ALIAS.fullmatch(whole) and whole not in self.whole and whole in names:
-                self.unclear = self.unclear or (f"{first} and {second} look like one name, "
-                                                f"but no line says what {whole.decode()} stands for")
+                self.unclear = self.unclear or (
+                    f"{first} and {second} look like one name, " f"but no line says what {whole.decode()} stands for"
+                )
 
 
 def renamed(data: bytes) -> Tuple[Dict[bytes, bytes], str]:
@@ -67,7 +69,7 @@ def cut(data: bytes) -> str:
     with."""
     whole: Dict[bytes, bytes] = {}
     for name in ipc356.fields(data).long_names:
-        other = whole.setdefault(name[:ipc356.NAME_WIDTH], name)
+        other = whole.setdefault(name[: ipc356.NAME_WIDTH], name)
         if other != name:
             return f"{short(other)} and {short(name)} run on behind their columns, and are one name within them"
     return ""

@@ -47,7 +47,13 @@ def body(macro: Macro, values: Dict[int, int]) -> Iterator[bytes]:
     for _, _, word in macro.words[1:]:
         *parts, last = word.split(b",")
         match = PARAMETER.fullmatch(last)
-        is_rotation = match and int(match[1]) in values and parts and parts[0] in ROTATED and ROTATED[parts[0]] in (None, len(parts) + 1)
+        is_rotation = (
+            match
+            and int(match[1]) in values
+            and parts
+            and parts[0] in ROTATED
+            and ROTATED[parts[0]] in (None, len(parts) + 1)
+        )
         yield b",".join([*parts, b"%d" % values[int(match[1])]]) if is_rotation else word
 
 
@@ -66,9 +72,18 @@ def rewrite(edits: Edits, left: List[Tuple[Macro, List[Aperture]]], names: Set[b
                 made[key] = macro.name if not made else fresh(macro.name, names)
                 write(edits, macro, values, made[key])
             if made[key] != macro.name:
-                edits.edits[it.start] = it.end, b"ADD%d%s" % (it.number, made[key]) + (b"," + it.parts if it.parts is not None else b"")
+                edits.edits[it.start] = it.end, b"ADD%d%s" % (it.number, made[key]) + (
+                    b"," + it.parts if it.parts is not None else b""
+                )
         more = (len(made) - 1) * len(macro.words)
-        edits.note(start, macro.words[0][1], TURN, more and f"has a rotation by its apertures' parameters: written by their values, {more} more commands stand before the next" or "")
+        edits.note(
+            start,
+            macro.words[0][1],
+            TURN,
+            more
+            and f"has a rotation by its apertures' parameters: written by their values, {more} more commands stand before the next"
+            or "",
+        )
 
 
 def write(edits: Edits, macro: Macro, values: Dict[int, int], name: bytes) -> None:

@@ -14,7 +14,7 @@ WORDS = {0: "agrees", 1: "differs", UNDECIDED: "undecided"}
 def counts_words(counts: Counts, has_ties: bool) -> str:
     if not any(counts):
         return "agrees"
-    rows = list(zip(Counts._fields, counts))[:4 if has_ties else 3]
+    rows = list(zip(Counts._fields, counts))[: 4 if has_ties else 3]
     return "differs, " + ", ".join(f"{name.replace('_', ' ')} {count}" for name, count in rows)
 
 

@@ -4,16 +4,25 @@ from typing import Dict, List, Tuple
 from boardnet_show.base.wording import counted, millimetres, spoken
 from boardnet_show.fitting import access_codes
 from boardnet_show.fitting.changes import (
-    POINTS, SAID, Change, CodesRead, CopperPlaced, DecimalsRead, DigitsRead, DrillsPlaced, LayersOrdered, NetlistPlaced
+    POINTS,
+    SAID,
+    Change,
+    CodesRead,
+    CopperPlaced,
+    DecimalsRead,
+    DigitsRead,
+    DrillsPlaced,
+    LayersOrdered,
+    NetlistPlaced,
 )
 from boardnet_show.fitting.placement import FORMS
 from boardnet_show.formats.units import UNIT_WORDS
 
 CODES = {
     access_codes.HOLES: "the first layer of the hole at their place (through records, 317, whose hole does not reach the layer of their code; KiCad writes "
-                        "such codes for buried vias)",
+    "such codes for buried vias)",
     access_codes.BOTTOM: "the bottom, {last:02d} (surface records, 327, of layer 02, and no part's pad is on an inner layer; pcb-rnd writes 02 for "
-                         "every bottom)",
+    "every bottom)",
 }
 
 
@@ -55,7 +64,10 @@ def decimals_read(change: DecimalsRead) -> str:
     named: Dict[Tuple[str, str], List[DigitsRead]] = {}
     for it in change.files:
         named.setdefault(reading(it), []).append(it)
-    parts = [f"{words} in {spoken(it.file for it in group)} ({zeros}{on_points(group)})" for (words, zeros), group in named.items()]
+    parts = [
+        f"{words} in {spoken(it.file for it in group)} ({zeros}{on_points(group)})"
+        for (words, zeros), group in named.items()
+    ]
     return " and ".join(parts)
 
 

@@ -25,7 +25,13 @@ def what_words(declared: Declaration) -> str:
 
 def words(declared: Declaration) -> str:
     """One declaration, with where it is from and what became of it."""
-    became = ", made of these files before" if declared.was_made else ", stale: it changes nothing of these files" if declared.is_stale else ""
+    became = (
+        ", made of these files before"
+        if declared.was_made
+        else ", stale: it changes nothing of these files"
+        if declared.is_stale
+        else ""
+    )
     return f"{what_words(declared)} ({declared.source}{became})"
 
 
@@ -44,4 +50,8 @@ def stale_words(waiver: Waiver) -> str:
 
 def notes(seen: Explained) -> List[str]:
     """All that is declared."""
-    return [*(f"declared: {words(it)}" for it in seen.declared), *map(waived_words, seen.waived), *map(stale_words, seen.stale)]
+    return [
+        *(f"declared: {words(it)}" for it in seen.declared),
+        *map(waived_words, seen.waived),
+        *map(stale_words, seen.stale),
+    ]

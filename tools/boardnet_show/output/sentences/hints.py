@@ -10,14 +10,18 @@ from .answers import bare_line
 def answer_words(answer: Answer) -> str:
     """What is said of a copy."""
     whose = " of both bounds" if answer.kind == BETWEEN else ""
-    return f"`check` says{whose}: {bare_line(answer)}" + (f"; no bounds: {answer.no_bounds}" if answer.no_bounds else "")
+    return f"`check` says{whose}: {bare_line(answer)}" + (
+        f"; no bounds: {answer.no_bounds}" if answer.no_bounds else ""
+    )
 
 
 def change_words(hint: Hint) -> str:
     """What was changed, with the setting of the tool that would make it so."""
     if isinstance(hint.change, NowherePlaced):
-        return (f"no placement fits: of the units, mirrors, turns and origins with most votes the best leaves {hint.change.missing} of "
-                f"{hint.change.points} test points without copper; is the netlist of another board? Of the best")
+        return (
+            f"no placement fits: of the units, mirrors, turns and origins with most votes the best leaves {hint.change.missing} of "
+            f"{hint.change.points} test points without copper; is the netlist of another board? Of the best"
+        )
     return f"{'besides, ' if hint.is_besides else ''}with {changes.words(hint.change)}{hint.setting},"
 
 

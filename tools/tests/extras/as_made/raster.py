@@ -1,7 +1,7 @@
 """A model of copper that shares no code with what it tries: tracks and holes on a raster, whose cells are flooded."""
 import math
 
-CELL = 1 / 20      # mm
+CELL = 1 / 20  # mm
 
 
 def cell_of(spot):
@@ -24,13 +24,20 @@ class Raster:
         self.tracks, self.holes, self.slack, self.drawn_in = tracks, holes, slack, drawn_in
 
     def has(self, p):
-        return any(away(p, a, b) <= r + self.slack for a, b, r in self.tracks) and all(away(p, c, c) >= r - self.slack for c, r in self.holes)
+        return any(away(p, a, b) <= r + self.slack for a, b, r in self.tracks) and all(
+            away(p, c, c) >= r - self.slack for c, r in self.holes
+        )
 
     def cells(self, size):
         count = round(size / CELL)
         found = {(i, j) for i in range(count + 1) for j in range(count + 1) if self.has((i * CELL, j * CELL))}
         reach = int(self.drawn_in / CELL)
-        disc = [(a, b) for a in range(-reach, reach + 1) for b in range(-reach, reach + 1) if math.hypot(a, b) * CELL <= self.drawn_in]
+        disc = [
+            (a, b)
+            for a in range(-reach, reach + 1)
+            for b in range(-reach, reach + 1)
+            if math.hypot(a, b) * CELL <= self.drawn_in
+        ]
         return {(i, j) for i, j in found if all((i + a, j + b) in found for a, b in disc)}
 
     def nets(self, size):

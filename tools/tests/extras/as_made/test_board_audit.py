@@ -15,7 +15,14 @@ def hole(name, pin, x, y, diameter="0400", plating="P"):
 
 
 def board(drills, *records, **more):
-    return {"m.json": manifest(["top.gbr", "bot.gbr"], [("p.drl", 1, 2)]), "top.gbr": TRACK, "bot.gbr": PADS, "p.drl": drills, "n.ipc": netlist(*records), **more}
+    return {
+        "m.json": manifest(["top.gbr", "bot.gbr"], [("p.drl", 1, 2)]),
+        "top.gbr": TRACK,
+        "bot.gbr": PADS,
+        "p.drl": drills,
+        "n.ipc": netlist(*records),
+        **more,
+    }
 
 
 BOTH = (hole("A", "J1.1", 0, 0), hole("A", "J1.2", 10, 0))
@@ -38,18 +45,30 @@ class BoardAudit(made.Case):
         rows = (
             # drills, records, what is told of the second hole
             (one, (BOTH[0], hole("A", "J1.2", 10, 0).replace("A00", "A01")), "no drill file has a hole there"),
-            (drill((0.0, 0.0), (10.0, 0.0)), (BOTH[0], hole("A", "J1.2", 10, 0, "0500")), "it is to be 0.500 mm wide, and that of p.drl line 7 is 0.400 mm"),
-            (drill((0.0, 0.0), (10.0, 0.0)), (BOTH[0], hole("A", "J1.2", 10, 0, plating="U")), "it is to be not plated, and p.drl line 7 has one that is plated"),
+            (
+                drill((0.0, 0.0), (10.0, 0.0)),
+                (BOTH[0], hole("A", "J1.2", 10, 0, "0500")),
+                "it is to be 0.500 mm wide, and that of p.drl line 7 is 0.400 mm",
+            ),
+            (
+                drill((0.0, 0.0), (10.0, 0.0)),
+                (BOTH[0], hole("A", "J1.2", 10, 0, plating="U")),
+                "it is to be not plated, and p.drl line 7 has one that is plated",
+            ),
         )
         for drills, records, words in rows:
             status, line, notes = self.told(board(drills, *records))
             self.assertEqual((status, line), (1, "agrees; 1 record of holes that no drill file has so"), words)
             self.assertEqual(notes[0], f"the hole of J1 pin 2, of A, line 3 of the netlist: {words}")
         # A diameter that is one unit off is a rounding.
-        self.assertEqual(self.told(board(drill((0.0, 0.0), (10.0, 0.0)), BOTH[0], hole("A", "J1.2", 10, 0, "0401")))[0], 0)
+        self.assertEqual(
+            self.told(board(drill((0.0, 0.0), (10.0, 0.0)), BOTH[0], hole("A", "J1.2", 10, 0, "0401")))[0], 0
+        )
 
     def test_unplated_where_that_is_asked(self):
-        npth = "\n".join(("M48", "; #@! TF.FileFunction,NonPlated,1,2,NPTH", "METRIC", "T1C3.0", "%", "T1", "X20.0Y0.0", "M30", ""))
+        npth = "\n".join(
+            ("M48", "; #@! TF.FileFunction,NonPlated,1,2,NPTH", "METRIC", "T1C3.0", "%", "T1", "X20.0Y0.0", "M30", "")
+        )
         alone = hole("N/C", "MH.1", 20, 0, "3000", "U").replace("A00", "A01")
         # The point of an unplated hole has no copper, so the board differs; its hole is there.
         status, line, notes = self.told(board(drill((0.0, 0.0), (10.0, 0.0)), *BOTH, alone, **{"npth.drl": npth}))
@@ -59,13 +78,24 @@ class BoardAudit(made.Case):
         island = gerber(*flash(10, (0, 0), (10, 0), (5, 5)), *region((20, 0), (30, 0), (30, 10), (20, 10)))
         status, line, notes = self.told(board(drill((0.0, 0.0), (10.0, 0.0), (5.0, 5.0)), *BOTH, **{"bot.gbr": island}))
         self.assertEqual((status, line), (0, "agrees; each record of a hole has it"))
-        self.assertEqual(notes, ["1 plated hole that no record names: p.drl line 8",
-                                 "1 part of copper without a test point and a hole, the largest on bottom at 25.000, 5.000 mm"])
+        self.assertEqual(
+            notes,
+            [
+                "1 plated hole that no record names: p.drl line 8",
+                "1 part of copper without a test point and a hole, the largest on bottom at 25.000, 5.000 mm",
+            ],
+        )
 
     def test_larger_than_the_pad(self):
         wide = drill((0.0, 0.0), (10.0, 0.0), size="1.2")
         _, _, notes = self.told(board(wide, hole("A", "J1.1", 0, 0, "1200"), hole("A", "J1.2", 10, 0, "1200")))
         self.assertEqual(len(notes), 1)
         self.assertTrue(notes[0].startswith("4 plated holes larger than the copper that it stands in"), notes)
-        _, _, notes = self.told(board(drill((0.0, 0.0), (10.0, 0.0), size="1.0"), hole("A", "J1.1", 0, 0, "1000"), hole("A", "J1.2", 10, 0, "1000")))
+        _, _, notes = self.told(
+            board(
+                drill((0.0, 0.0), (10.0, 0.0), size="1.0"),
+                hole("A", "J1.1", 0, 0, "1000"),
+                hole("A", "J1.2", 10, 0, "1000"),
+            )
+        )
         self.assertEqual(notes, [])

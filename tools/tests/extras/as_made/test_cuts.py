@@ -11,13 +11,17 @@ TRACK = [*flash(10, (0, 0), (10, 0)), *draw(11, (0, 0), (10, 0))]
 ENDS = netlist(record("A", "J1.1", 0, 0), record("A", "J1.2", 10, 0))
 PLATED = ["; #@! TF.FileFunction,Plated,1,2,PTH"]
 OUTLINE = ["%TF.FileFunction,Profile,NP*%"]
-PARTED = ("the unplated hole of 3.000 mm at 5.000, {y} mm (npth.drl line {line}) parts A: J1 pin 1 (the one layer, 0.000, 0.000 mm) and "
-          "J1 pin 2 (the one layer, 10.000, 0.000 mm) are not joined on the board as it is made.")
+PARTED = (
+    "the unplated hole of 3.000 mm at 5.000, {y} mm (npth.drl line {line}) parts A: J1 pin 1 (the one layer, 0.000, 0.000 mm) and "
+    "J1 pin 2 (the one layer, 10.000, 0.000 mm) are not joined on the board as it is made."
+)
 
 
 def unplated(*words, size="3.0"):
     """A drill file of unplated holes, the words from line 7 on."""
-    return "\n".join(("M48", "; #@! TF.FileFunction,NonPlated,1,1,NPTH", "METRIC", f"T1C{size}", "%", "T1", *words, "M30", ""))
+    return "\n".join(
+        ("M48", "; #@! TF.FileFunction,NonPlated,1,1,NPTH", "METRIC", f"T1C{size}", "%", "T1", *words, "M30", "")
+    )
 
 
 def board(copper, holes="", netlist_text=ENDS, **more):
@@ -67,8 +71,17 @@ class AsMade(made.Case):
     def test_words(self):
         self.board(board(TRACK, unplated("X5.0Y0.0")))
         status, out, _ = self.show("board")
-        self.assertEqual((status, out.splitlines()), (1, [
-            "board: agrees; as it is made, 1 cut (audit true)", "A", "  cut-0: " + PARTED.format(y="0.000", line=7)]))
+        self.assertEqual(
+            (status, out.splitlines()),
+            (
+                1,
+                [
+                    "board: agrees; as it is made, 1 cut (audit true)",
+                    "A",
+                    "  cut-0: " + PARTED.format(y="0.000", line=7),
+                ],
+            ),
+        )
 
     def test_what_parts_it_is_named(self):
         """Of two holes that the net has that one that parts it alone; of two that part it together both."""
@@ -81,7 +94,9 @@ class AsMade(made.Case):
         self.assertIn("the unplated hole of 3.000 mm at 5.000, 0.000 mm (npth.drl line 8) parts A", out)
         self.board(board(wide, unplated("X5.0Y0.3", "X5.0Y2.6")))
         _, out, _ = self.show("board")
-        self.assertIn("(npth.drl line 7) and the unplated hole of 3.000 mm at 5.000, 2.600 mm (npth.drl line 8) part A", out)
+        self.assertIn(
+            "(npth.drl line 7) and the unplated hole of 3.000 mm at 5.000, 2.600 mm (npth.drl line 8) part A", out
+        )
         self.board(board(wide, unplated("X5.0Y0.3")))
         status, out, _ = self.show("board")
         self.assertEqual((status, "cuts copper and parts nothing" in out), (0, True))
@@ -97,8 +112,14 @@ class AsMade(made.Case):
         """Plated holes, and files that do not say that they are unplated, take nothing; --no-cuts says that nothing was looked at."""
         holes = unplated("X5.0Y0.0")
         self.assertEqual(self.found(board(TRACK, holes.replace("NonPlated,1,1,NPTH", "Plated,1,1,PTH")))[:2], (0, []))
-        self.assertEqual(self.found(board(TRACK, holes.replace("; #@! TF.FileFunction,NonPlated,1,1,NPTH", ";TYPE=PLATED")))[:2], (0, []))
-        self.assertEqual(self.found(board(TRACK, holes.replace("; #@! TF.FileFunction,NonPlated,1,1,NPTH", ";TYPE=NON_PLATED")))[:2], (1, [("cut-0", None)]))
+        self.assertEqual(
+            self.found(board(TRACK, holes.replace("; #@! TF.FileFunction,NonPlated,1,1,NPTH", ";TYPE=PLATED")))[:2],
+            (0, []),
+        )
+        self.assertEqual(
+            self.found(board(TRACK, holes.replace("; #@! TF.FileFunction,NonPlated,1,1,NPTH", ";TYPE=NON_PLATED")))[:2],
+            (1, [("cut-0", None)]),
+        )
         status, found, notes = self.found(board(TRACK, holes), "--no-cuts")
         self.assertEqual((status, found), (0, []))
         self.assertEqual(notes, ["not looked at, as --no-cuts asks: the copper that 1 unplated hole would take away"])
@@ -106,26 +127,71 @@ class AsMade(made.Case):
     def test_numbers_that_are_not_known(self):
         """Holes whose numbers have no point are not guessed."""
         # So are repeats, arcs, and places of a rout without their code.
-        for words in (["X5000Y0"], ["X5.0Y9.0", "R1Y-9.0"], ["G00X5.0Y5.0", "M15", "G01", "X5.0Y-5.0", "M16"],
-                      ["G00X4.0Y1.0", "M15", "G03X6.0Y1.0A1.0", "M16"]):
+        for words in (
+            ["X5000Y0"],
+            ["X5.0Y9.0", "R1Y-9.0"],
+            ["G00X5.0Y5.0", "M15", "G01", "X5.0Y-5.0", "M16"],
+            ["G00X4.0Y1.0", "M15", "G03X6.0Y1.0A1.0", "M16"],
+        ):
             status, found, notes = self.found(board(TRACK, unplated(*words)))
-            self.assertEqual((status, found, notes), (0, [], ["npth.drl: its unplated holes are not read, so nothing is said of what they cut"]))
+            self.assertEqual(
+                (status, found, notes),
+                (0, [], ["npth.drl: its unplated holes are not read, so nothing is said of what they cut"]),
+            )
         flashes = gerber("%TF.FileFunction,NonPlated,1,1,NPTH*%", *flash(10, (5, 0)))
         status, found, notes = self.found(board(TRACK, **{"npth.gbr": flashes}))
-        self.assertEqual((status, found, notes[-1:]), (0, [], ["npth.gbr: its unplated holes are not read, so nothing is said of what they cut"]))
+        self.assertEqual(
+            (status, found, notes[-1:]),
+            (0, [], ["npth.gbr: its unplated holes are not read, so nothing is said of what they cut"]),
+        )
 
     def test_unplated_tools_of_a_mixed_file(self):
         two = [*flash(10, (0, 0), (10, 0)), *draw(11, (0, 0), (10, 0))]
-        mixed = "\n".join(("M48", "; #@! TF.FileFunction,MixedPlating,1,2", "METRIC", "; #@! TA.AperFunction,Plated,PTH,ViaDrill", "T1C0.4",
-                           "; #@! TA.AperFunction,NonPlated,NPTH,ComponentDrill", "T2C3.0", "%", "T1", "X0.0Y0.0", "X10.0Y0.0", "T2", "X5.0Y0.0", "M30", ""))
-        files = {"m.json": manifest(["top.gbr", "bot.gbr"], [("p.drl", 1, 2)]), "top.gbr": gerber(*two), "bot.gbr": gerber(*flash(10, (0, 0), (10, 0))),
-                 "p.drl": mixed, "n.ipc": netlist(record("A", "J1.1", 0, 0, "00"), record("A", "J1.2", 10, 0, "00"))}
+        mixed = "\n".join(
+            (
+                "M48",
+                "; #@! TF.FileFunction,MixedPlating,1,2",
+                "METRIC",
+                "; #@! TA.AperFunction,Plated,PTH,ViaDrill",
+                "T1C0.4",
+                "; #@! TA.AperFunction,NonPlated,NPTH,ComponentDrill",
+                "T2C3.0",
+                "%",
+                "T1",
+                "X0.0Y0.0",
+                "X10.0Y0.0",
+                "T2",
+                "X5.0Y0.0",
+                "M30",
+                "",
+            )
+        )
+        files = {
+            "m.json": manifest(["top.gbr", "bot.gbr"], [("p.drl", 1, 2)]),
+            "top.gbr": gerber(*two),
+            "bot.gbr": gerber(*flash(10, (0, 0), (10, 0))),
+            "p.drl": mixed,
+            "n.ipc": netlist(record("A", "J1.1", 0, 0, "00"), record("A", "J1.2", 10, 0, "00")),
+        }
         self.assertEqual(self.found(files)[:2], (1, [("cut-0", None)]))
-        self.assertEqual(self.found({**files, "bot.gbr": gerber(*flash(10, (0, 0), (10, 0)), *draw(11, (0, 0), (5, 9), (10, 0)))})[:2], (0, []))
+        self.assertEqual(
+            self.found({**files, "bot.gbr": gerber(*flash(10, (0, 0), (10, 0)), *draw(11, (0, 0), (5, 9), (10, 0)))})[
+                :2
+            ],
+            (0, []),
+        )
 
     def test_between_bounds(self):
         """An arc above a hole that ends at its lower border, or bites half of it, or takes it whole."""
-        arc = [*flash(10, (-5, 0), (5, 0)), "%ADD20C,0.2*%", "D20*", "G75*", "X5000000Y0D02*", "G03X-5000000Y0I-5000000J0D01*", "G01*"]
+        arc = [
+            *flash(10, (-5, 0), (5, 0)),
+            "%ADD20C,0.2*%",
+            "D20*",
+            "G75*",
+            "X5000000Y0D02*",
+            "G03X-5000000Y0I-5000000J0D01*",
+            "G01*",
+        ]
         ends = netlist(record("A", "J1.1", -5, 0), record("A", "J1.2", 5, 0))
         for program in self.over_both():
             for y, status, wanted in (("3.3", 0, []), ("3.5", 0, []), ("5.0", 1, [("cut-0", True)])):
@@ -142,11 +208,16 @@ class AsMade(made.Case):
         square = profile((-2, -2), (12, -2), (12, 2), (-2, 2))
         self.assertEqual(self.found(board(TRACK, **{"edge.gbr": square}))[:2], (0, []))
         # A pad outside, and a track that runs outside alone.
-        self.assertEqual(self.found(board(TRACK, **{"edge.gbr": profile((-2, -2), (8, -2), (8, 2), (-2, 2))}))[:2], (1, [("outside-0", None)]))
+        self.assertEqual(
+            self.found(board(TRACK, **{"edge.gbr": profile((-2, -2), (8, -2), (8, 2), (-2, 2))}))[:2],
+            (1, [("outside-0", None)]),
+        )
         away = [*flash(10, (0, 0), (10, 0)), *draw(11, (0, 0), (0, 5), (10, 5), (10, 0))]
         status, found, _ = self.found(board(away, **{"edge.gbr": square}))
         self.assertEqual((status, found), (1, [("outside-0", None)]))
-        status, found, notes = self.found(board(TRACK, **{"edge.gbr": gerber(*OUTLINE, *draw(11, (-2, -2), (12, -2), (12, 2)))}))
+        status, found, notes = self.found(
+            board(TRACK, **{"edge.gbr": gerber(*OUTLINE, *draw(11, (-2, -2), (12, -2), (12, 2)))})
+        )
         self.assertEqual((status, found, len(notes)), (0, [], 1))
         self.assertIn("the board's edge is not known", notes[0])
         _, _, notes = self.found(board(TRACK, **{"edge.gbr": profile((50, 50), (62, 50), (62, 54), (50, 54))}))
@@ -154,7 +225,22 @@ class AsMade(made.Case):
 
     def test_forms(self):
         self.board(board(TRACK, unplated("X5.0Y0.0")))
-        status, out, notes = self.show("board", "--junit", "j.xml", "--rdb", "r.xml", "--sarif", "s.json", "--page", "p.html", "--svg", "s.svg", "--at", "cut-0", "-q")
+        status, out, notes = self.show(
+            "board",
+            "--junit",
+            "j.xml",
+            "--rdb",
+            "r.xml",
+            "--sarif",
+            "s.json",
+            "--page",
+            "p.html",
+            "--svg",
+            "s.svg",
+            "--at",
+            "cut-0",
+            "-q",
+        )
         self.assertEqual((status, notes), (1, ""))
         self.assertIn(": cut-0: ", out)
         self.assertIn("cut-0", self.read("j.xml"))
@@ -164,6 +250,7 @@ class AsMade(made.Case):
 
 
 # ---- random boards against a raster
+
 
 class Random(made.Case):
     def test_against_a_raster(self):

@@ -14,7 +14,10 @@ POINT = [*flash(10, (0, 0), (1, 0)), *draw(10, (1, 0), (10, 0))]
 LINE = [*flash(10, (0, 0)), *region((0.5, -0.5), (10.5, -0.5), (10.5, 0.5), (0.5, 0.5))]
 # Two squares of 2 mm that share a strip of 0.3 mm, and two contours that abut along an edge of 0.3 mm.
 STRIP = [*region((-1, -1), (5, -1), (5, 1), (-1, 1)), *region((4.7, -1), (11, -1), (11, 1), (4.7, 1))]
-ABUT = [*region((-1, -1), (5, -1), (5, 0.15), (5, -0.15), (5, 1), (-1, 1)), *region((5, -0.15), (11, -1), (11, 1), (5, 0.15))]
+ABUT = [
+    *region((-1, -1), (5, -1), (5, 0.15), (5, -0.15), (5, 1), (-1, 1)),
+    *region((5, -0.15), (11, -1), (11, 1), (5, 0.15)),
+]
 # An hourglass of one contour, 0.4 mm wide at its waist.
 WAIST = region((-1, -1), (5, -0.2), (11, -1), (11, 1), (5, 0.2), (-1, 1))
 
@@ -51,8 +54,13 @@ class Necks(made.Case):
         _, _, told = self.found(WAIST, "--necks", "0.41")
         self.assertTrue(told["line"].endswith("; 1 neck under 0.410 mm"), told["line"])
         words = told["findings"][0]["words"]
-        self.assertTrue(words.startswith("A is less than 0.410 mm wide between J1 pin 1 (the one layer, 0.000, 0.000 mm) and J1 pin 2 "
-                                         "(the one layer, 10.000, 0.000 mm), near the one layer (top.gbr) at 5.000, "), words)
+        self.assertTrue(
+            words.startswith(
+                "A is less than 0.410 mm wide between J1 pin 1 (the one layer, 0.000, 0.000 mm) and J1 pin 2 "
+                "(the one layer, 10.000, 0.000 mm), near the one layer (top.gbr) at 5.000, "
+            ),
+            words,
+        )
 
     def test_without_the_option(self):
         """Joins of no width are noted."""
