@@ -83,6 +83,9 @@ STAYS = {
     "a via with a span of another place": [VIA, SPAN.replace(" " * 3 + "L02", "A02") + "X+000009Y+000009"],
     "a span from below": [VIA, SPAN.replace("L02L05", "L05L02")],
     "an unknown unit": [ONE, "P  UNITS MM"],
+    "a via on no layer, the only point of its net there": [ONE, NOWHERE.replace("X+001000", "X+001001")],
+    "a via on no layer, where another net has a point": [ONE, with_code(NOWHERE.replace("A ", "B ", 1), "307")],
+    "a via on no layer, of which others say none": [NOWHERE, NOWHERE],
     "a via of half a layer": [NOWHERE[:38] + "A" + NOWHERE[39:]],
     "an unknown code": [ONE, with_code(ONE, "337")],
     "a sign for printers within": [ONE[:4] + "\x0c" + ONE[5:]],
@@ -160,7 +163,8 @@ class Forms(unittest.TestCase):
         """Signs behind the end are taken away, records are not."""
         lines = [UNITS, ONE, "999", with_code(ONE, "307")]
         self.assertEqual(self.told(lines), (file_of(lines), []))
-        self.assertEqual(self.told([UNITS, "307A B"])[0], file_of([UNITS, "C 307A B"]))
+        # A via without a place says no point that another record has.
+        self.assertEqual(self.told([UNITS, "307A B"]), (file_of([UNITS, "307A B"]), []))
 
 
 class Names(unittest.TestCase):
@@ -356,7 +360,8 @@ class Tool:
         if kind in ("via", "span", "nowhere"):
             code = "   " if kind == "nowhere" else f"A{first:02d}"
             self.lines.append(f"307{field}{part}{code}{where}{end}")
-            layers = set() if kind == "nowhere" else layers
+            if kind == "nowhere":
+                self.lines.append(f"327{field}{part}A{first:02d}{where}")
             if kind == "span":
                 self.lines.append(f"027{'':35}L{first:02d}L{last:02d}")
                 layers = {first, last}

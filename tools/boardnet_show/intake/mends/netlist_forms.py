@@ -4,7 +4,7 @@ What stays as it is `check` refuses by its line.
 """
 import re
 from functools import lru_cache
-from typing import Dict, Iterator, List, NamedTuple, Optional, Tuple
+from typing import Dict, Iterable, Iterator, List, NamedTuple, Optional, Set, Tuple
 
 from boardnet_show.formats import ipc356
 
@@ -45,16 +45,32 @@ def is_end_of_text(text: bytes) -> bool:
     return END_OF_TEXT in text and not text.strip(BLANKS + END_OF_TEXT)
 
 
+def lacks_layer(text: bytes) -> bool:
+    """Whether a record is that of a via on no layer that is said."""
+    return text[ipc356.CODE] == ipc356.VIA and not text[ipc356.LAYER].strip()
+
+
+def stands(text: bytes) -> bool:
+    """Whether a record has its columns of the layer and of the place."""
+    return ipc356.has_coordinates(text) and (ipc356.has_access(text) or lacks_layer(text))
+
+
 def in_characters(text: bytes) -> Optional[str]:
     """A record whose columns stand where characters are counted, and do not where bytes are, else None."""
-    if not OUTSIDE.search(text) or text[ipc356.CODE] not in RECORDS or ipc356.has_access(text):
+    if not OUTSIDE.search(text) or text[ipc356.CODE] not in RECORDS or ipc356.has_access(text) or stands(text):
         return None
     try:
         line = text.decode("utf-8")
     except UnicodeDecodeError:
         return None
     plain = line.encode("ascii", "replace")
-    return line if ipc356.has_access(plain) and ipc356.has_coordinates(plain) else None
+    return line if stands(plain) else None
+
+
+def columns_of(text: bytes) -> Tuple[bytes, bytes]:
+    """A record in columns of bytes, and its name as it is written."""
+    line = in_characters(text)
+    return (text, text[ipc356.NAME]) if line is None else (line.encode("ascii", "replace"), line[ipc356.NAME].encode())
 
 
 # ---- vias and continuations
@@ -84,9 +100,26 @@ def says_again(text: bytes, came: bytes) -> bool:
     return bool(is_known) and of_same_pin(text, came) and is_same(text, came, ipc356.PLACE)
 
 
-def lacks_layer(text: bytes) -> bool:
-    """Whether a record is that of a via on no layer that is said."""
-    return text[ipc356.CODE] == ipc356.VIA and not text[ipc356.LAYER].strip()
+class Spot(NamedTuple):
+    """A net at a place, in the netlist's unit."""
+
+    name: str
+    x: int
+    y: int
+
+
+def spot_of(text: bytes, name: bytes) -> Optional[Spot]:
+    """Where a record has its net; None where its columns have no place."""
+    if not ipc356.has_coordinates(text):
+        return None
+    x, y = (int(text[its][1:2].strip() + text[its][2:].strip()) for its in (ipc356.X, ipc356.Y))
+    return Spot(ipc356.text_of(name.strip()), x, y)
+
+
+def spots_on_layers(lines: Iterable[bytes]) -> Set[Optional[Spot]]:
+    """Where the records that say a layer have their nets."""
+    its = (columns_of(line) for line in lines if line[ipc356.CODE] in RECORDS)
+    return {spot_of(text, name) for text, name in its if ipc356.has_access(text)}
 
 
 def continued(text: bytes, record: Record) -> Optional[bytes]:
@@ -177,6 +210,8 @@ class Netlist:
             self.replaced(PAPER, at, line, without_paper(line))
         ends = (at for at, line in enumerate(self.lines) if line[ipc356.CODE] == ipc356.END)
         self.end = next(ends, len(self.lines))
+        has_gap = any(map(lacks_layer, self.lines[: self.end]))
+        self.spots = spots_on_layers(self.lines[: self.end]) if has_gap else set()
         for at in range(self.end):
             self.read(at, self.lines[at])
         # Before the end such a sign would cut the file off.
@@ -192,16 +227,15 @@ class Netlist:
 
     def read(self, at: int, text: bytes) -> None:
         """A line before the end."""
-        line = in_characters(text)
-        if line is not None:
-            text = self.replaced(CHARACTERS, at, text, line.encode("ascii", "replace"))
+        came, (text, name) = text, columns_of(text)
+        self.replaced(CHARACTERS, at, came, text)
         code = text[ipc356.CODE]
         if code in ipc356.CONTINUED:
             self.go_on(at, text)
         elif code in RECORDS:
-            self.test(at, text, line[ipc356.NAME].encode() if line is not None else text[ipc356.NAME])
+            self.test(at, text, name)
             # Columns of characters are not compared.
-            self.record = None if line is not None else self.record
+            self.record = self.record if text == came else None
         else:
             self.record = None
             self.replaced(METRIC, at, text, SI.sub(rb"\1CUST 1\2", text))
@@ -213,12 +247,13 @@ class Netlist:
         new = self.named(at, text, name.strip())
         self.record = Record(text, new)
         if text[ipc356.CODE] == ipc356.VIA:
-            self.via(at, text, new)
+            self.via(at, text, new, spot_of(text, name))
         else:
             self.on_last(at, new)
 
-    def via(self, at: int, text: bytes, new: bytes) -> None:
-        """A via: a point on its layer, and one at its other end where the line behind it says that."""
+    def via(self, at: int, text: bytes, new: bytes, spot: Optional[Spot]) -> None:
+        """A via: a point on its layer, and one at its other end where the line behind it says that. Without a layer it
+        says nothing more where another record has its net at its place, and else stays."""
         behind = self.lines[at + 1] if at + 1 < self.end else b""
         ends, front = via_ends(behind, text), ipc356.THROUGH + new[ipc356.NAME.start : ipc356.LAYER.start]
         if ends:
@@ -226,18 +261,19 @@ class Netlist:
             self.replaced(VIA, at, new, first)
             self.replaced(CONTINUED, at + 1, behind, second, "says the layers of its via: a point at the other end")
             self.spanned = at + 1
-        elif lacks_layer(text):
-            self.replaced(NO_POINT, at, new, b"C " + text)
-        else:
+        elif not lacks_layer(text):
             self.on_last(at, self.replaced(VIA, at, new, ipc356.THROUGH + new[ipc356.NAME.start :]))
+        elif spot and spot in self.spots:
+            self.replaced(
+                NO_POINT, at, new, b"C " + text, "says no layer, and another record has its net there: left out"
+            )
 
     def named(self, at: int, text: bytes, name: bytes) -> bytes:
         """A record with an alias in place of a name that `check` does not take."""
         # Behind an alias it would not be seen that a name runs on, and may be cut.
         runs_on = not any(text[at : at + 1].strip() == b"" for at in (ipc356.NAME.stop - 1, ipc356.NAME.stop))
         is_unplain = not runs_on and UNPLAIN.fullmatch(name) and (b" " in name or OUTSIDE.search(name))
-        stands = ipc356.has_coordinates(text) and (ipc356.has_access(text) or lacks_layer(text))
-        if not is_unplain or not stands or self.end == len(self.lines):
+        if not is_unplain or not stands(text) or self.end == len(self.lines):
             return text
         return self.replaced(NAME, at, text, ipc356.with_name(text, self.aliases.alias(name)), shown=name)
 

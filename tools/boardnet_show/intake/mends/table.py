@@ -239,9 +239,9 @@ ROWS = (
     ),
     Row(
         NO_POINT,
-        "`390`, `088`, `099`; `307` without a layer",
+        "`390`, `088`, `099`; `307` without a layer at a place of its net in another record",
         "a comment",
-        "they name no point",
+        "they name no further point",
         "names no test point: left out",
     ),
     Row(
