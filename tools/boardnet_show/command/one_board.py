@@ -108,6 +108,20 @@ def looked_at(program, told, seen, wants_picture):
     )
 
 
+def declared_files(seen):
+    """The files that what is declared has changed."""
+    return tuple(dict.fromkeys(name for it in seen.declared for name in it.files))
+
+
+def of_the_files_that_came(program, told, seen):
+    """The answer on copies with whether it is proved of the files themselves."""
+    if not told.package.rewritten():
+        return seen
+    from boardnet_show.judging import between_command  # of most boards no copy is judged
+
+    return seen._replace(answer=between_command.exact(program, told, seen.answer, seen.ties, declared_files(seen)))
+
+
 def bounded(program, told, seen, asked):
     """What bounds say of a board that is refused."""
     from boardnet_show.judging import two_bounds
@@ -116,7 +130,9 @@ def bounded(program, told, seen, asked):
     if bounds:
         from boardnet_show.judging import between_command
 
-        bounds = between_command.answer_of_between(program, told, bounds, seen.ties, requested.wants_copper(asked))
+        bounds = between_command.answer_of_between(
+            program, told, bounds, seen.ties, requested.wants_copper(asked), declared_files(seen)
+        )
         seen = seen._replace(bounds=bounds, answer=bounds.answer).noted(*bounds.notes)
         if bounds.sides:
             seen = looked_at_between(program, told.package, seen, asked)
@@ -184,6 +200,7 @@ def explained(program, told, seen, asked, signed):
     """All that is known of a judged board; `signed` are the waivers that are declared."""
     if told.report:
         seen = looked_at(program, told, seen, asked.page or asked.svg or requested.wants_copper(asked))
+        seen = of_the_files_that_came(program, told, seen)
     if told.status == 3:
         seen = bounded(program, told, seen, asked)
         seen = with_others(program, told.package, seen)
@@ -287,7 +304,8 @@ def keep(files, seen, folder):
         from . import declared
 
         files.put(package.DECLARATIONS, declared.kept_text(seen).encode())
-    package.keep(files, seen.report, folder)
+    its = seen.answer.of_files
+    package.keep(files, seen.report, folder, its.asked_on.folder if its and its.is_proved else "")
 
 
 def show(path, asked, program, scratch):

@@ -109,6 +109,21 @@ def files_of(told):
         }
 
 
+def between_of(seen):
+    """What `between` was asked and said of the files as they came, where the answer is proved of them."""
+    its = seen.answer.of_files
+    if not its or not its.is_proved:
+        return None
+    folder, words, text = its.asked_on
+    counts, said = (read_text(os.path.join(folder, name)) for name in (words[-1], text))
+    return {"read": list(its.read), "but_for": list(its.but_for), "words": list(words), "counts": counts, "text": said}
+
+
+def read_text(path):
+    with open(path, encoding="ascii") as file:
+        return file.read()
+
+
 def of(program, told, seen, its):
     """The record of a board, whatever became of it; `its` is what was asked for besides."""
     reports = [
@@ -130,6 +145,7 @@ def of(program, told, seen, its):
         "hints": [hints.words(hint) for hint in seen.hints],
         "notes": [*seen.notes, *its.notes],
         "reports": reports,
+        "between": between_of(seen),
     }
 
 

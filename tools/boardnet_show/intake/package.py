@@ -3,7 +3,7 @@ import errno
 import os
 import stat
 from itertools import chain, count
-from typing import Callable, NamedTuple, Optional, Tuple
+from typing import Callable, List, NamedTuple, Optional, Sequence, Tuple
 
 from boardnet_show.base.statuses import FULL, NOT_UNDERSTOOD, REFUSED, UNCLEAR, UNREADABLE, UNWRITABLE, Stop
 from boardnet_show.formats import manifest
@@ -12,6 +12,8 @@ from .file_names import MOST_BYTES, Refused
 
 # Declared net ties, and all else that is declared, beside the manifest.
 TIES, DECLARATIONS = "ties.txt", "boardnet.json"
+# In a kept folder, what the program was asked on by that command.
+BETWEEN = "between"
 
 
 class Taken(NamedTuple):
@@ -130,6 +132,21 @@ class Package:
             copy.link(name, self.path(name))
         copy.put(self.name, copy.manifest.json_text().encode())
         return copy
+
+    def rewritten(self) -> List[str]:
+        """The user's files in whose place a copy is judged."""
+        return [name for name in self.manifest.names() if name in self.came and not os.path.islink(self.path(name))]
+
+    def as_it_came(self, folder: str, names: Sequence[str]) -> "Package":
+        """Another package of the same files, of which these are those that the user has."""
+        real = Package(self.manifest, folder, self.name)
+        os.makedirs(folder)
+        for name in names:
+            real.link(name, self.came[name])
+        for name in self.manifest.names():
+            real.link(name, self.path(name))
+        real.put(self.name, self.manifest.json_text().encode())
+        return real
 
     def told_path(self, name):
         """A file as the caller would open it."""
@@ -323,8 +340,9 @@ def need_netlist(package, asked):
         raise Stop(NOT_UNDERSTOOD, f"--netlist {asked.netlist}: {package.name} names {its}, so have it name the other")
 
 
-def keep(package, report, folder):
-    """Copies the package as it was judged, and its report, to a folder that must not be there yet."""
+def keep(package, report, folder, asked=""):
+    """Copies the package as it was judged, and its report, to a folder that must not be there yet; with what `between` was asked on, where
+    it was."""
     if os.path.exists(folder):
         raise Stop(UNWRITABLE, f"{folder} is there already: --keep wants a new folder")
     import shutil  # loading takes long, as above
@@ -333,6 +351,8 @@ def keep(package, report, folder):
         shutil.copytree(package.folder, folder)
         with open(os.path.join(folder, package.report_name()), "wb") as file:
             file.write(report)
+        if asked:
+            shutil.copytree(asked, os.path.join(folder, package.free_name(BETWEEN, "")))
     except OSError as error:
         shutil.rmtree(folder, ignore_errors=True)
         raise Stop(UNWRITABLE, f"{folder}: {error.strerror}: cannot be written") from None

@@ -29,6 +29,25 @@ class Both(NamedTuple):
     is_proved: bool = False
 
 
+class AskedOn(NamedTuple):
+    """What `between` was asked on: the folder, the words behind the command there, and the name of the file with its text."""
+
+    folder: str = ""
+    words: Tuple[str, ...] = ()
+    text: str = ""
+
+
+class OfFiles(NamedTuple):
+    """Whether the program says the same of the files as they came, where copies of them were judged: of those that are `read`. Those of `but_for`
+    it has read as their copies; `why` is its line where it takes the copies not."""
+
+    is_proved: bool
+    read: Tuple[str, ...] = ()
+    but_for: Tuple[str, ...] = ()
+    why: str = ""
+    asked_on: AskedOn = AskedOn()
+
+
 class Answer(NamedTuple):
     """`said` is the program's own line, or why the board is not judged; `no_bounds` why there are no bounds of a board
     that is refused, `behind` what else would stop it; `is_trial` whether a trial build said it, which is not proved.
@@ -52,6 +71,7 @@ class Answer(NamedTuple):
     waived: int = 0
     stale: int = 0
     behind: Tuple[Refusal, ...] = ()
+    of_files: Optional[OfFiles] = None
 
     def is_between(self) -> bool:
         return self.both is not None

@@ -5,7 +5,6 @@ It reads the user's files with their arcs and macros, and tests of each piece of
 it. A file of counts says how many stand for each; nothing trusts it. What it finds is compared with the reports on both boards, line
 by line. Of regions with arcs it wants smaller areas: the board is judged by these too, and where they find the same, they are shown.
 """
-import copy
 import re
 from itertools import groupby
 from operator import itemgetter
@@ -13,14 +12,13 @@ from typing import NamedTuple
 
 from boardnet_show.base.statuses import UNDECIDED, UNJUDGED, Stop
 from boardnet_show.geometry.exact import Refused
-from boardnet_show.intake.package import beside
 
-from . import answers, two_bounds
+from . import answers, files_that_came, two_bounds
+from .files_that_came import Asked, Side
 from .net_ties import Ties
 from .two_bounds import own_commands
 
 ANSWERS = {0: "agrees", 1: "differs", UNDECIDED: "undecided"}
-FIRST_LINE = "boardnet-bounds 1\n"
 UNBOUNDED = (": not bounded below", ": not bounded above")
 NAME = re.compile(rb"^name [0-9]+ (.*)$", re.M)
 
@@ -33,31 +31,16 @@ def counts(package, sides, high):
     above, told = own_commands(high.report, manifest, sides.sources[1]).sources, []
     for (file, command, _), its in groupby(above, itemgetter(0, 1, 2)):
         told += rows[file].get(command) or [(1, 1) for _ in its]
-    return FIRST_LINE + "".join(f"{below} {over}\n" for below, over in told)
+    return "".join(f"{below} {over}\n" for below, over in told)
 
 
-def side_manifest(files, side, package, changed):
-    """The manifest of one of both boards among the files of the board, with links to those that it has of its own."""
-    told, names = copy.copy(files.manifest), {}
-    for name in changed:
-        names[name] = files.free_name(side, ".gbr")
-        files.link(names[name], package.path(name))
-    told.copper = [names.get(name, name) for name in told.copper]
-    name = files.free_name(side, ".json")
-    files.put(name, told.json_text().encode())
-    return name
-
-
-def asked(program, package, sides, high):
+def asked(program, package, sides, high, declared) -> Asked:
     """What the program answers on the board between both."""
-    files = package.changed(beside(package, "proved"))
-    words = [
-        side_manifest(files, side, its, origin)
+    both = [
+        Side(side, its, [*dict.fromkeys([*origin, *package.rewritten()])])
         for side, its, origin in zip(two_bounds.SIDES, sides.packages, sides.sources)
     ]
-    name = files.free_name("counts", ".txt")
-    files.put(name, counts(package, sides, high).encode())
-    return program.between(files, *words, name)
+    return files_that_came.ask(program, package, both, counts(package, sides, high), declared)
 
 
 # ---- what it finds, by the reports on both boards
@@ -170,12 +153,30 @@ def refused(judged, why):
     )
 
 
-def proved(bounds):
+def proved(bounds, its):
     """The same answer, by bounds that the program takes."""
-    return bounds._replace(answer=bounds.answer._replace(both=bounds.answer.both._replace(is_proved=True)))
+    answer = bounds.answer
+    return bounds._replace(
+        answer=answer._replace(both=answer.both._replace(is_proved=True), of_files=its.of_files(True))
+    )
 
 
-def answer_of_between(program, judged, answer, ties, is_finer=False):
+def exact(program, judged, answer, ties, declared=()):
+    """The answer on a board of whose files copies were judged, with whether the program says the same of the files as they came."""
+    package = judged.package
+    copies = package.rewritten()
+    if answer.status not in (0, 1) or not copies:
+        return answer
+    its = files_that_came.ask(
+        program, package, [Side("judged", package, copies)], files_that_came.each_as_itself(judged.report), declared
+    )
+    is_proved = its.answer.status in (0, 1)
+    if is_proved:
+        confirm(its.answer.out, Decision(judged, judged), answer.status, ties)
+    return answer._replace(of_files=its.of_files(is_proved))
+
+
+def answer_of_between(program, judged, answer, ties, is_finer=False, declared=()):
     """The answer on a board between two bounds, with the word where the program takes these and finds what they do;
     they are the package's then. Of regions with arcs `is_finer` keeps the areas that it does not take."""
     package = judged.package
@@ -185,7 +186,8 @@ def answer_of_between(program, judged, answer, ties, is_finer=False):
     if not boards:
         return answer
     sides, between = boards
-    its = asked(program, package, sides, between[2])
+    found = asked(program, package, sides, between[2], declared)
+    its = found.answer
     if its.status == 3 and its.line.endswith(UNBOUNDED):
         return refused(judged, its.line)
     if its.status not in (0, 1):
@@ -194,4 +196,4 @@ def answer_of_between(program, judged, answer, ties, is_finer=False):
     if package.sides.is_bent and (is_finer or not finds_as(between, package.between, ties)):
         return answer
     package.sides, package.between = boards
-    return proved(between[0])
+    return proved(between[0], found)

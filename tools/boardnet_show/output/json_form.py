@@ -187,6 +187,15 @@ def bounds_of(shown: Shown) -> Dict[str, Any]:
     return {"bounds": {"findings": findings, "left_out": list(shown.bounds.left_out), **lines}}
 
 
+def files_of(shown: Shown) -> Dict[str, Any]:
+    """Whether the program says the same of the files as they came."""
+    its = shown.answer.of_files
+    if not its:
+        return {}
+    told = {"proved": its.is_proved, "read": list(its.read), "but_for": list(its.but_for), "why": its.why}
+    return {"files_as_they_came": told}
+
+
 def besides_of(shown: Shown) -> Dict[str, Any]:
     """What was asked for besides."""
     its = shown.requested
@@ -235,7 +244,8 @@ def board_of(shown: Shown) -> Dict[str, Any]:
         "mends": [it._asdict() for it in seen.mends],
         "hints": list(map(hint_of, shown.hints)),
     }
-    return {**told, **bounds_of(shown), **besides_of(shown), **(judged_of(shown) if shown.board else {})}
+    its = judged_of(shown) if shown.board else {}
+    return {**told, **files_of(shown), **bounds_of(shown), **besides_of(shown), **its}
 
 
 def json_text(all_shown: Sequence[Shown]) -> str:

@@ -3,7 +3,7 @@ from typing import Iterable, List
 
 from boardnet_show.base.refusals import Refusal
 from boardnet_show.base.statuses import UNDECIDED, UNJUDGED
-from boardnet_show.base.wording import counted
+from boardnet_show.base.wording import counted, spoken
 from boardnet_show.judging.answers import BETWEEN, Answer, Both, Counts
 
 OWN_NAMES = "by the copper's own names, so that only opens and shorts against those are known: "
@@ -58,6 +58,14 @@ def bare_line(answer: Answer) -> str:
     return answer.said + conditions(answer)
 
 
+def files_words(answer: Answer) -> str:
+    """That the answer is proved of the files as they came, where copies were judged."""
+    its = answer.of_files
+    if not its or not its.is_proved or not its.read or not answer.mends:
+        return ""
+    return ", proved of the files as they came" + (f" but for {spoken(its.but_for)}" if its.but_for else "")
+
+
 def behind_words(refusal: Refusal) -> str:
     """What else would stop a board, and whether bounds have an answer for it."""
     return refusal.line() + (", which has bounds" if refusal.has_bounds() else "")
@@ -67,7 +75,7 @@ def line(answer: Answer) -> str:
     """The answer on the netlist."""
     text = bare_line(answer) + (f"; no bounds: {answer.no_bounds}" if answer.no_bounds else "")
     if answer.mends and answer.status != UNJUDGED:
-        text += f", after {counted(answer.mends, 'mend')}"
+        text += f", after {counted(answer.mends, 'mend')}{files_words(answer)}"
     if answer.advice.line and answer.refusal:
         text += f"; line {answer.advice.line} of {answer.refusal.file}"
     if answer.advice.export:
