@@ -198,7 +198,8 @@ def changes_of(seen: Explained, was_made: bool) -> Tuple[Change, ...]:
 
 
 def waivers_of(seen: Explained) -> Tuple[Waiver, ...]:
-    return tuple(dict.fromkeys(it.waiver for it in seen.waived))
+    """Those that are of a finding, and those of kinds that were not looked for."""
+    return tuple(dict.fromkeys([*(it.waiver for it in seen.waived), *seen.unlooked]))
 
 
 def kept_text(seen: Explained) -> str:

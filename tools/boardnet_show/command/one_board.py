@@ -219,7 +219,17 @@ def explained(program, told, seen, asked, signed):
     if seen.board:
         names, short = seen.board.report.names, seen.board.report.short_names
         seen = seen._replace(findings=with_short_names(seen.findings, names, short))
-    return of_files(told.package, seen)
+    return seen
+
+
+def looked_for(program, told, seen, asked, signed):
+    """What is found on a board besides, and all that is known of it by what is signed for of that."""
+    found = requested.found(program, told, seen, asked)
+    if signed or asked.waive:
+        from . import waived
+
+        return waived.with_besides(program, told, seen, found, signed, asked)
+    return seen, found
 
 
 def of_files(files, seen):
@@ -300,7 +310,7 @@ def keep(files, seen, folder):
     """Keeps the files as they were judged, with what is declared of them still."""
     if seen.ties.ties:
         files.put(package.TIES, seen.ties.file_text().encode())
-    if seen.declared or seen.waived or seen.stale:
+    if seen.declared or seen.waived or seen.stale or seen.unlooked:
         from . import declared
 
         files.put(package.DECLARATIONS, declared.kept_text(seen).encode())
@@ -342,10 +352,15 @@ def shown_once(path, asked, program, scratch, taken):
                 answer=ties.answer(told), audit=told.audit, report=told.text or b"", notes=own + package_notes(files)
             )
         )
-        shown = shown._replace(seen=explained(program, told, shown.seen, asked, its.waivers() if its else ()))
+        signed = its.waivers() if its else ()
+        seen = explained(program, told, shown.seen, asked, signed)
+        shown = shown._replace(seen=of_files(told.package, seen))
         if shown.status == 1 and any(it.files for it in shown.seen.declared):
-            shown = shown._replace(seen=shown.seen.noted(*agrees_without(path, asked, program, scratch, its, ties)))
-        shown = shown._replace(requested=requested.made(program, told, shown.seen, asked, scratch))
+            seen = seen.noted(*agrees_without(path, asked, program, scratch, its, ties))
+            shown = shown._replace(seen=of_files(told.package, seen))
+        seen, found = looked_for(program, told, seen, asked, signed)
+        shown = shown._replace(seen=of_files(told.package, seen), requested=found)
+        shown = shown._replace(requested=requested.made(program, told, shown.seen, found, asked, scratch))
         if asked.keep:
             keep(files, shown.seen, asked.keep)
     except BrokenPipeError:

@@ -110,4 +110,4 @@ def requested(program, judged, board, u):
     told = f"{counted(count, 'gap') if count else 'no gap'} under {millimetres(u)} mm" + (
         f" and {counted(possible, 'possible one')}" if possible else ""
     )
-    return Requested([found(GAPS, its, told)], its, [words], count)
+    return Requested([found(GAPS, its, told)], its, [words], [GAP], count)

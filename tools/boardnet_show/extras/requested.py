@@ -14,11 +14,17 @@ def wants_copper(asked) -> Any:
     return asked.ipc or asked.gaps or asked.like
 
 
-def made(program, judged, seen: Explained, asked, scratch: str) -> Requested:
-    """All that is asked for of a board."""
+def found(program, judged, seen: Explained, asked) -> Requested:
+    """What is found on a board besides."""
     its = Requested()
-    for step in steps(program, judged, seen, asked, scratch):
-        its = its.joined(step(its))
+    if seen.board and seen.answer.status in (0, 1, UNDECIDED):
+        from .as_made import looks
+
+        its = looks.requested(program, judged, seen, asked)
+    if asked.gaps:
+        from . import gaps
+
+        its = its.joined(gaps.requested(program, judged, seen.board, asked.gaps))
     return (
         its._replace(findings=with_short_names(its.findings, seen.board.report.names, seen.board.report.short_names))
         if its.findings
@@ -26,16 +32,15 @@ def made(program, judged, seen: Explained, asked, scratch: str) -> Requested:
     )
 
 
+def made(program, judged, seen: Explained, its: Requested, asked, scratch: str) -> Requested:
+    """The same with all that is made."""
+    for step in steps(program, judged, seen, asked, scratch):
+        its = its.joined(step(its))
+    return its
+
+
 def steps(program, judged, seen: Explained, asked, scratch: str) -> Iterator[Callable[[Requested], Requested]]:
     """What makes each of them of those before it."""
-    if seen.board and seen.answer.status in (0, 1, UNDECIDED):
-        from .as_made import looks
-
-        yield lambda _: looks.requested(program, judged, seen, asked)
-    if asked.gaps:
-        from . import gaps
-
-        yield lambda _: gaps.requested(program, judged, seen.board, asked.gaps)
     if asked.like:
         from . import comparison
 
@@ -55,7 +60,8 @@ def netlist(program, judged, seen: Explained, before: Requested) -> Requested:
     """The netlist for a tester, with the nets that are too close where they were found before."""
     from boardnet_show.netlists import tester
 
-    close = [tuple(it.nets) for it in before.findings if it.kind == GAP and len(it.nets) == 2]
+    gaps = [*before.findings, *(it.finding for it in seen.waived)]
+    close = [tuple(it.nets) for it in gaps if it.kind == GAP and len(it.nets) == 2]
     its = tester.made(program, judged, seen.title, seen.board, adjacent=None if before.gap_count is None else close)
     lacks = lacking(
         "netlist for a tester", "no netlist for a tester", tuple(("netlist", words, ()) for words in its.lines)

@@ -3,9 +3,10 @@ from typing import Any, NamedTuple, Optional, Sequence, Tuple
 
 from boardnet_show.base.statuses import UNDECIDED, UNJUDGED
 
-from .finding import Finding, doubt
+from .finding import CUT, GAP, NECK, OUTSIDE, Finding, doubt
 
 GAPS, AS_MADE, NECKS, BOARD_AUDIT = "gaps between nets", "the board as it is made", "necks", "holes by the netlist"
+KINDS = {GAPS: (GAP,), AS_MADE: (CUT, OUTSIDE), NECKS: (NECK,)}
 # What was found in its course: its name, words and places.
 Detail = Tuple[str, str, Any]
 
@@ -27,11 +28,13 @@ class Beside(NamedTuple):
 
 
 class Requested(NamedTuple):
-    """What became of it: findings and notes for the board's, what is told besides in lines, and what there is of each kind."""
+    """What became of it: findings and notes for the board's, of which kinds all are known, what is told besides in lines, and what there
+    is of each kind."""
 
     besides: Sequence[Beside] = ()
     findings: Sequence[Finding] = ()
     notes: Sequence[str] = ()
+    kinds: Sequence[str] = ()
     gap_count: Optional[int] = None
     like: Any = None
     tester: Any = None
@@ -39,8 +42,27 @@ class Requested(NamedTuple):
 
     def joined(self, other: "Requested") -> "Requested":
         """Both: lists one behind the other, and of the rest what is there."""
-        lists = ((*one, *two) for one, two in zip(self[:3], other[:3]))
-        return Requested(*lists, *(one if two is None else two for one, two in zip(self[3:], other[3:])))
+        lists = ((*one, *two) for one, two in zip(self[:4], other[:4]))
+        return Requested(*lists, *(one if two is None else two for one, two in zip(self[4:], other[4:])))
+
+    def without(self, waived: Sequence[Finding]) -> "Requested":
+        """The same with some findings that count no more, which its words say."""
+        gone = {it.id for it in waived}
+        left = [it for it in self.findings if it.id not in gone]
+        count = self.gap_count
+        if count is not None:
+            count = sum(it.kind == GAP and it.sure is not False for it in left)
+        return self._replace(besides=[less(it, left, waived) for it in self.besides], findings=left, gap_count=count)
+
+
+def less(beside: Beside, left: Sequence[Finding], waived: Sequence[Finding]) -> Beside:
+    """What was looked for, by the findings that are left of it."""
+    kinds = KINDS.get(beside.what, ()) if beside.are_findings else ()
+    gone, its = sum(it.kind in kinds for it in waived), [it for it in left if it.kind in kinds]
+    if not gone:
+        return beside
+    told = f"{gone} of them waived" if its else "all waived" if gone > 1 else "waived"
+    return found(beside.what, its, f"{beside.words}, {told}")
 
 
 def lacking(what: str, why: str, details: Tuple[Detail, ...] = ()) -> Beside:

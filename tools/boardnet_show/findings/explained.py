@@ -39,6 +39,7 @@ class Explained(NamedTuple):
     declared: Sequence[Any] = ()
     waived: Sequence[Waived] = ()
     stale: Sequence[Waiver] = ()
+    unlooked: Sequence[Waiver] = ()
     wider: Sequence[Tuple[int, Any]] = ()
 
     def noted(self, *notes: str) -> "Explained":

@@ -1,5 +1,5 @@
 """A finding as a value, and what is known of where to look."""
-from typing import Any, Dict, List, NamedTuple, Optional, Sequence
+from typing import Any, Dict, List, NamedTuple, Optional, Sequence, Tuple
 
 from .nearest_copper import Gap
 
@@ -26,6 +26,7 @@ class Finding(NamedTuple):
     `points` are the test points that it speaks of, the first one leads; `nets` those of the copper, `names` those of the netlist, by their
     numbers; `parts` the points on both parts of an open and `gap` their nearest copper, `meets` the places where a short's names meet,
     `sides` the name of each piece on it. Between two bounds `sure` says whether both boards have it, else it is None.
+    `places` (x, y, layer) are those of all that parts a net when the board is made, `bare` the points that lose their copper.
     """
 
     kind: str
@@ -43,6 +44,8 @@ class Finding(NamedTuple):
     is_labelled: bool = False
     pieces: Sequence[int] = ()
     sure: Optional[bool] = None
+    places: Sequence[Tuple[int, int, int]] = ()
+    bare: Sequence[int] = ()
 
     @property
     def id(self) -> str:

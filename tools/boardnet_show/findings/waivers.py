@@ -2,7 +2,8 @@
 
 A waiver is of one finding alone: of an open by the pins that stand apart, of a point without copper by its pin and place, of a short by the
 place where its names meet. A short is waived where, without what touches within that place, no copper joins two of its names: else there
-is another one. What a waiver does not find is told as stale.
+is another one. What a waiver does not find is told as stale. Of what is found beside the netlist, the pins and places are compared here,
+and copper where that is found (`extras.waived_gaps`, `extras.as_made.waived_necks`).
 """
 from collections import Counter
 from typing import Dict, FrozenSet, List, NamedTuple, Optional, Sequence, Set, Tuple
@@ -11,9 +12,11 @@ from boardnet_show.base.wording import millimetres
 from boardnet_show.formats.report import Report
 
 from .board import Board
-from .finding import MISSING, OPEN, SHORT, Finding
+from .finding import CUT, GAP, MISSING, NECK, OPEN, OUTSIDE, SHORT, Finding
 
-KINDS = (OPEN, SHORT, MISSING)
+OF_NETLIST = (OPEN, SHORT, MISSING)
+BESIDES = (GAP, CUT, OUTSIDE, NECK)
+KINDS = OF_NETLIST + BESIDES
 NEAR = 50_000  # 5 micrometres: two roundings of a netlist's place
 WITHIN = 10_000_000  # the radius of a short's place where the waiver says none, and the most that it may say
 MOST_WITHIN = 50_000_000
@@ -23,7 +26,9 @@ Place = Tuple[int, int, int]
 
 class Waiver(NamedTuple):
     """What is waived, by whom, when and why. `pins` are of an open those of each part that stands apart; `places`
-    (x, y, layer) in u."""
+    (x, y, layer) in u. Of a gap `nets` are the names of both, and `distances` how near they may come at each place; of
+    a neck `width` is how narrow it may be; of these and of cuts `parts` says how many there are, and `bare` which
+    points have no copper left. What was undecided when it was signed for covers no certain finding."""
 
     kind: str
     names: Tuple[str, ...]
@@ -34,6 +39,12 @@ class Waiver(NamedTuple):
     places: Tuple[Place, ...] = ()
     within: int = WITHIN
     source: str = ""
+    nets: Tuple[Tuple[str, ...], ...] = ()
+    distances: Tuple[int, ...] = ()
+    width: int = 0
+    parts: int = 0
+    bare: FrozenSet[str] = frozenset()
+    is_undecided: bool = False
 
 
 class Waived(NamedTuple):
@@ -86,12 +97,20 @@ class Pins:
         return frozenset(self.pin(other) for other in points) if net >= 0 else frozenset([self.pin(point)])
 
     def of(self, finding: Finding) -> Tuple[FrozenSet[str], ...]:
-        """Of an open those of each part but the second one, where the name is at home; of a point without copper its
-        own."""
+        """Of an open those of each part but the second one, where the name is at home; of what is parted otherwise
+        those of each part but the largest; of a point its own."""
         if finding.kind == OPEN:
             its = [self.part(finding, point) for k, point in enumerate(finding.points) if k != 1]
             return tuple(sorted(its, key=sorted))
-        return (frozenset([self.pin(finding.points[0])]),) if finding.kind == MISSING else ()
+        if finding.kind in (CUT, OUTSIDE, NECK) and finding.parts:
+            parts = sorted(
+                (frozenset(map(self.pin, part)) for part in finding.parts), key=lambda pins: (len(pins), sorted(pins))
+            )
+            return tuple(sorted(parts[:-1] or parts, key=sorted))
+        return (frozenset([self.pin(finding.points[0])]),) if finding.kind in (MISSING, OUTSIDE) else ()
+
+    def bare(self, finding: Finding) -> FrozenSet[str]:
+        return frozenset(map(self.pin, finding.bare))
 
 
 def names_of(board: Board, finding: Finding) -> FrozenSet[str]:
@@ -101,6 +120,8 @@ def names_of(board: Board, finding: Finding) -> FrozenSet[str]:
 def places_of(board: Board, finding: Finding) -> List[Place]:
     if finding.kind == SHORT:
         return list(dict.fromkeys((round(meet.place[0]), round(meet.place[1]), meet.layer) for meet in finding.meets))
+    if finding.places:
+        return list(finding.places)
     point = finding.points[0]
     return [(*board.spot(point), board.layer(point))]
 
@@ -125,9 +146,13 @@ def explains(board: Board, finding: Finding, waivers: Sequence[Waiver]) -> bool:
 
 def waiver_of(finding: Finding, low: Board, high: Board, reason: str, author: str, date: str) -> Waiver:
     """The waiver that is of a finding alone."""
-    pins = Pins(low, (high if finding.sure else low).report).of(finding)
+    pins = Pins(low, (high if finding.sure else low).report)
     places = [] if finding.kind == OPEN else places_of(low, finding)
-    return Waiver(finding.kind, tuple(sorted(names_of(low, finding))), reason, author, date, pins, tuple(places))
+    its = Waiver(
+        finding.kind, tuple(sorted(names_of(low, finding))), reason, author, date, pins.of(finding), tuple(places)
+    )
+    its = its._replace(is_undecided=finding.sure is False)
+    return its if finding.kind in OF_NETLIST else its._replace(parts=len(finding.parts), bare=pins.bare(finding))
 
 
 class Waivers:
@@ -147,13 +172,24 @@ class Waivers:
         """Whether a waiver is of a finding, as far as names, pins and places say."""
         if waiver.kind != finding.kind or self.whole(waiver.names) != names_of(self.low, finding):
             return False
-        if finding.kind == SHORT:
-            return True
-        if finding.kind == MISSING and not any(
-            is_near(place, it, NEAR) for place in waiver.places for it in places_of(self.low, finding)
-        ):
+        if waiver.is_undecided and finding.sure is not False:
             return False
-        return tuple(sorted(waiver.pins, key=sorted)) == self.pins[bool(finding.sure)].of(finding)
+        if finding.kind in (SHORT, GAP):
+            return True
+        if finding.kind in (MISSING, CUT, OUTSIDE) and not self.is_there(waiver, finding):
+            return False
+        pins = self.pins[bool(finding.sure) and finding.kind in OF_NETLIST]
+        if finding.kind in BESIDES and (waiver.parts, waiver.bare) != (len(finding.parts), pins.bare(finding)):
+            return False
+        return tuple(sorted(waiver.pins, key=sorted)) == pins.of(finding)
+
+    def is_there(self, waiver: Waiver, finding: Finding) -> bool:
+        """Whether each place of a finding is near one of its waiver, and each of these near one of it."""
+        most = waiver.within if finding.kind == CUT else NEAR
+        ours, theirs = places_of(self.low, finding), waiver.places
+        return all(any(is_near(a, b, most) for b in theirs) for a in ours) and all(
+            any(is_near(a, b, most) for b in ours) for a in theirs
+        )
 
     def of(self, finding: Finding) -> Optional[Waiver]:
         """The waiver of a finding, or None; each but those of shorts is of one finding alone."""

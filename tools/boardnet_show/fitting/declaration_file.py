@@ -9,8 +9,8 @@ from typing import Any, Callable, Dict, List, NamedTuple, Sequence, Tuple
 
 from boardnet_show.base.statuses import NOT_UNDERSTOOD, Stop
 from boardnet_show.base.wording import printable
-from boardnet_show.findings.finding import MISSING, OPEN, SHORT
-from boardnet_show.findings.waivers import KINDS, MOST_WITHIN, WITHIN, Waiver
+from boardnet_show.findings.finding import CUT, GAP, MISSING, NECK, OPEN, OUTSIDE, SHORT
+from boardnet_show.findings.waivers import BESIDES, KINDS, MOST_WITHIN, WITHIN, Waiver
 from boardnet_show.formats import indented_json
 from boardnet_show.formats.units import MM
 from boardnet_show.intake.package import Drilled, Taken
@@ -33,6 +33,22 @@ KEYS = ("changes", "made", "taken", "plated", "ties", "waivers")
 CHANGES = ("netlist", "drills", "copper", "layers", "digits", "codes")
 TURNS = [words for words, _ in FORMS]
 UNITS = {"mm": 10_000, "inch": 25_400}
+WAIVER_KEYS = ("pins", "places", "within", "nets", "width", "parts", "without_copper", "undecided")
+# Which kinds of finding may have a key, and which must.
+OF_KINDS = {
+    "within": (SHORT, GAP, CUT, NECK),
+    "nets": (GAP,),
+    "width": (NECK,),
+    "parts": (CUT, OUTSIDE, NECK),
+    "without_copper": (CUT, OUTSIDE, NECK),
+}
+MUST_HAVE = {
+    "pins": (OPEN, MISSING, CUT, OUTSIDE, NECK),
+    "places": (SHORT, MISSING, GAP, CUT, OUTSIDE, NECK),
+    "nets": (GAP,),
+    "parts": (CUT, NECK),
+}
+LEAST_WITHIN = {GAP: MM // 10}
 DATE = re.compile(r"\d{4}-(?:0[1-9]|1[0-2])-(?:0[1-9]|[12]\d|3[01])")
 
 
@@ -181,40 +197,73 @@ class Reader:
         self.need(len(names) == 2 and not any("=" in name for name in names), "a tie is two names without the sign =")
         return "=".join(names)
 
-    def spot(self, value: Any) -> Tuple[int, int, int]:
-        its = self.fields(value, ("x", "y", "layer"), ("x", "y", "layer"))
+    def spot(self, value: Any, more: Tuple[str, ...] = ()) -> Tuple[int, int, int]:
+        its = self.fields(value, ("x", "y", "layer", *more), ("x", "y", "layer", *more))
         return self.length(its["x"]), self.length(its["y"]), self.whole(its["layer"], 1, 32, "`layer`")
+
+    def list_of(self, its: Dict[str, Any], key: str) -> List[Any]:
+        value = its.get(key, [])
+        self.need(isinstance(value, list), f"`{key}` is no list")
+        return list(value)
 
     def waiver(self, value: Any) -> Waiver:
         must = ("kind", "names", "reason", "author", "date")
-        its = self.fields(value, (*must, "pins", "places", "within"), must)
-        self.need(its["kind"] in KINDS, f"`kind` is none of {', '.join(KINDS)}")
+        its = self.fields(value, (*must, *WAIVER_KEYS), must)
+        kind = its["kind"]
+        self.need(kind in KINDS, f"`kind` is none of {', '.join(KINDS)}")
         self.need(bool(DATE.fullmatch(str(its["date"]))), "`date` is no day as 2026-12-01")
-        pins, places = its.get("pins", []), its.get("places", [])
-        self.need(isinstance(pins, list) and isinstance(places, list), "`pins` or `places` is no list")
+        for key, kinds in OF_KINDS.items():
+            self.need(key not in its or kind in kinds, f"a waiver of a finding of the kind {kind} has no `{key}`")
+        for key, kinds in MUST_HAVE.items():
+            self.need(
+                kind not in kinds or bool(its.get(key)), f"a waiver of a finding of the kind {kind} has its {key}"
+            )
+        pins, places = self.list_of(its, "pins"), self.list_of(its, "places")
         self.need(
-            bool(pins) if its["kind"] == OPEN else bool(places),
-            f"a waiver of a finding of the kind {its['kind']} has its {'pins' if its['kind'] == OPEN else 'places'}",
+            kind != MISSING or len(places) == len(pins) == 1, "a waiver of a missing point has one pin and one place"
         )
-        self.need(
-            its["kind"] != MISSING or len(places) == len(pins) == 1,
-            "a waiver of a missing point has one pin and one place",
-        )
-        within = self.length(its["within"]) if "within" in its else WITHIN
-        self.need(
-            0 < within <= MOST_WITHIN and (its["kind"] == SHORT or "within" not in its),
-            "`within` is over 0 and at most 5 mm, of a short",
-        )
-        return Waiver(
-            its["kind"],
+        self.need(its.get("undecided", True) is True, "`undecided` is not true")
+        waiver = Waiver(
+            kind,
             self.texts(its["names"], "`names`"),
             self.words(its["reason"], "`reason`"),
             self.words(its["author"], "`author`"),
             its["date"],
             tuple(frozenset(self.texts(it, "`pins`")) for it in pins),
-            tuple(map(self.spot, places)),
-            within,
+            tuple(self.spot(it, ("distance",) if kind == GAP else ()) for it in places),
+            self.within(its),
             self.source,
+            is_undecided="undecided" in its,
+        )
+        return self.gap(waiver, its) if kind == GAP else self.parted(waiver, its) if kind in BESIDES else waiver
+
+    def within(self, its: Dict[str, Any]) -> int:
+        within, least = self.length(its["within"]) if "within" in its else WITHIN, LEAST_WITHIN.get(its["kind"], 1)
+        self.need(
+            least <= within <= MOST_WITHIN,
+            f"`within` is at least {millimetres(least)} and at most {millimetres(MOST_WITHIN)} mm",
+        )
+        return within
+
+    def gap(self, waiver: Waiver, its: Dict[str, Any]) -> Waiver:
+        """A waiver with the names of both nets of a gap, and how near they may come at each place."""
+        nets = self.list_of(its, "nets")
+        self.need(len(nets) == 2 and all(isinstance(net, list) for net in nets), "`nets` are two lists of names")
+        sides = tuple(self.texts(net, "`nets`") if net else () for net in nets)
+        self.need({*sides[0], *sides[1]} == set(waiver.names), "`nets` have other names than `names`")
+        distances = tuple(self.length(it["distance"]) for it in its["places"])
+        self.need(min(distances) >= 0, "a `distance` is under 0")
+        return waiver._replace(nets=sides, distances=distances)
+
+    def parted(self, waiver: Waiver, its: Dict[str, Any]) -> Waiver:
+        """A waiver with what it says of parts of a net, or of points outside the board's edge."""
+        bare = self.list_of(its, "without_copper")
+        width = self.length(its.get("width", 0))
+        self.need(width >= 0, "`width` is under 0")
+        return waiver._replace(
+            parts=self.whole(its.get("parts", 0), 0, 10**6, "`parts`"),
+            bare=frozenset(self.texts(bare, "`without_copper`") if bare else ()),
+            width=width,
         )
 
     def all_of(self, value: Any, key: str, of: Callable[[Any], Any]) -> Tuple[Any, ...]:
@@ -299,14 +348,30 @@ def change_values(change: Change) -> Dict[str, Any]:
     return {"of": "codes", "rule": change.rule}
 
 
+def spot_values(waiver: Waiver, k: int) -> Dict[str, Any]:
+    x, y, layer = waiver.places[k]
+    distance = {"distance": millimetres(waiver.distances[k])} if waiver.distances else {}
+    return {"x": millimetres(x), "y": millimetres(y), "layer": layer, **distance}
+
+
 def waiver_values(waiver: Waiver) -> Dict[str, Any]:
     its: Dict[str, Any] = {"kind": waiver.kind, "names": list(waiver.names)}
+    if waiver.nets:
+        its["nets"] = [list(names) for names in waiver.nets]
     if waiver.pins:
         its["pins"] = [sorted(pins) for pins in waiver.pins]
+    if waiver.parts:
+        its["parts"] = waiver.parts
+    if waiver.bare:
+        its["without_copper"] = sorted(waiver.bare)
     if waiver.places:
-        its["places"] = [{"x": millimetres(x), "y": millimetres(y), "layer": layer} for x, y, layer in waiver.places]
-    if waiver.kind == SHORT:
+        its["places"] = [spot_values(waiver, k) for k in range(len(waiver.places))]
+    if waiver.kind in OF_KINDS["within"]:
         its["within"] = millimetres(waiver.within)
+    if waiver.kind == NECK:
+        its["width"] = millimetres(waiver.width)
+    if waiver.is_undecided:
+        its["undecided"] = True
     return {**its, "reason": waiver.reason, "author": waiver.author, "date": waiver.date}
 
 

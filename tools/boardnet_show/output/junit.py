@@ -2,6 +2,7 @@
 from typing import Dict, List, NamedTuple, Sequence, Tuple
 
 from boardnet_show.base.wording import printable
+from boardnet_show.findings import besides
 from boardnet_show.findings.finding import doubt
 
 from .markup import escaped, for_xml
@@ -60,12 +61,23 @@ def of_names(shown: Shown) -> List[Case]:
     return cases + ([Case("ties", nowhere)] if nowhere else [])
 
 
+def waived_of(shown: Shown, what: str) -> List[str]:
+    """What is waived of things that were looked for besides."""
+    kinds = besides.KINDS.get(what, ())
+    return [declarations.waived_words(it) for it in shown.seen.waived if it.finding.kind in kinds]
+
+
 def cases_of(shown: Shown) -> List[Case]:
     """All cases: no status but 0 is without one that fails or is an error."""
     status = shown.answer.status
     cases = of_names(shown) if shown.board and status in (0, 1) else [whole(shown, status, shown.netlist_line)]
     cases += [
-        Case(it.what, [cause[:2] for cause in it.causes()], "failure" if it.status == 1 else "error")
+        Case(
+            it.what,
+            [cause[:2] for cause in it.causes()],
+            "failure" if it.status == 1 else "error",
+            waived_of(shown, it.what),
+        )
         for it in shown.besides
     ]
     return (

@@ -18,6 +18,7 @@ from boardnet_show.base.wording import counted, printable, spoken
 from boardnet_show.findings.board import Board
 from boardnet_show.findings.finding import Finding, doubt
 from boardnet_show.findings.meeting_places import Meet
+from boardnet_show.findings.waivers import OF_NETLIST
 
 from . import record_page, text_lines
 from .markup import in_html
@@ -266,8 +267,11 @@ def audited(shown: Shown) -> str:
         *(f"{name} (flattened)" for name in sorted(shown.board.package.flattened)),
     ]
     words += dict.fromkeys(f"{name} (as declared)" for it in shown.seen.declared for name in it.files)
+    waived = (
+        ", and what is waived as a finding" if any(it.finding.kind in OF_NETLIST for it in shown.seen.waived) else ""
+    )
     of = f"these files, with copies in place of {spoken(words, FEW)}" if words else "these files"
-    return f"The report was audited: it is true of {of}{', and has each declared tie as a short' if shown.seen.ties.ties else ''}{', and what is waived as a finding' if shown.seen.waived else ''}."
+    return f"The report was audited: it is true of {of}{', and has each declared tie as a short' if shown.seen.ties.ties else ''}{waived}."
 
 
 def facts(shown: Shown) -> str:

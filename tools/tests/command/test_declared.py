@@ -476,6 +476,23 @@ class Files(unittest.TestCase):
     """The form of the file: what is not understood is refused."""
 
     WAIVER = {"kind": "open", "names": ["A"], "pins": [["J1-1"]], **SIGNED}
+    GAP = {
+        "kind": "gap",
+        "names": ["A", "B"],
+        "nets": [["A", "B"], []],
+        "pins": [],
+        "places": [{"x": 0, "y": 1, "layer": 1, "distance": 0.1}],
+        "within": 0.5,
+    }
+    NECK = {
+        "kind": "neck",
+        "parts": 2,
+        "places": [{"x": 0, "y": 1, "layer": 1}],
+        "without_copper": ["J1-1"],
+        "within": 2,
+        "width": 0.15,
+        "undecided": True,
+    }
 
     def test_refused(self):
         rows = [
@@ -517,6 +534,17 @@ class Files(unittest.TestCase):
                 {"waivers": [{**self.WAIVER, **it}]}
                 for it in (
                     {"kind": "gap"},
+                    {"kind": "tie"},
+                    {**self.GAP, "nets": [["A"]]},
+                    {**self.GAP, "nets": [["A"], ["C"]]},
+                    {**self.GAP, "places": [{"x": 0, "y": 0, "layer": 1}]},
+                    {**self.GAP, "within": 0.09},
+                    {**self.GAP, "width": 1},
+                    {**self.NECK, "parts": 0},
+                    {**self.NECK, "width": -1},
+                    {**self.NECK, "places": []},
+                    {**self.NECK, "kind": "cut"},
+                    {"undecided": False},
                     {"kind": "short"},
                     {"kind": "missing"},
                     {"reason": " "},
@@ -550,6 +578,7 @@ class Files(unittest.TestCase):
             (waiver["properties"]["kind"]["enum"], set(waiver["required"])),
             (list(waivers.KINDS), set(SIGNED) | {"kind", "names"}),
         )
+        self.assertEqual(set(waiver["properties"]), set(SIGNED) | {"kind", "names", *declaration_file.WAIVER_KEYS})
         for words in ('{"boardnet": 1, "changes": [%s]}' % it for it in self.SAMPLES):
             declaration_file.of_bytes(words.encode(), "f")
 
@@ -588,6 +617,8 @@ class Files(unittest.TestCase):
                         "within": 0.25,
                         **SIGNED,
                     },
+                    {**self.GAP, **SIGNED},
+                    {**self.WAIVER, **self.NECK},
                 ],
                 "netlist": "n.ipc",
                 "no_drills": True,

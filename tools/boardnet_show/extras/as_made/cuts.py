@@ -127,8 +127,8 @@ def finding(board: Board, number: int, group: Group, cutters: Sequence[Removal],
     else:
         verb = f"{may}take" if may or not is_one else "takes"
         told = f"{what} {verb} the copper from under {board.point_words(firsts[0])}, of {name}, when the board is made."
-    place = next((it.place for it in cutters if it.place), board.spot(firsts[0]))
-    gap = Gap(0, place, board.layer(firsts[0]))
+    layer = board.layer(firsts[0])
+    places = [(*it.place, layer) for it in cutters if it.place] or [(*board.spot(firsts[0]), layer)]
     return Finding(
         kind,
         number,
@@ -138,8 +138,10 @@ def finding(board: Board, number: int, group: Group, cutters: Sequence[Removal],
         nets=[group.net],
         names=[group.name],
         parts=list(map(list, group.parts)),
-        gap=gap,
+        gap=Gap(0, places[0][:2], layer),
         sure=sure,
+        places=tuple(places),
+        bare=tuple(sorted(group.bare)),
     )
 
 

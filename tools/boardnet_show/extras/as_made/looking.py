@@ -105,11 +105,12 @@ def requested(
     ]
     notes += [f"the board's edge is not known, so nothing is said of copper outside it: {edge.why}"] if edge.why else []
     removals = [removal for its in holes for removal in of_holes(its)] + ([edge.removal] if edge.removal else [])
+    known = [*([CUT] if all(its.is_read for its in holes) else []), *([] if edge.why else [OUTSIDE])]
     if not removals:
-        return Requested(notes=notes)
+        return Requested(notes=notes, kinds=known)
     try:
         findings, more = look(program, told, board, removals, edge)
     except (Refused, BadCopper, Stop) as why:
         return Requested(notes=[*notes, f"what unplated holes and the board's edge take away is not known: {why}"])
     besides = [found(AS_MADE, findings, words_of(findings))] if findings else []
-    return Requested(besides, findings, [*notes, *more])
+    return Requested(besides, findings, [*notes, *more], known)

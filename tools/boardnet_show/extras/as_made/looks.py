@@ -7,6 +7,7 @@ from boardnet_show.base.wording import counted
 from boardnet_show.bounds.files import profile_files
 from boardnet_show.findings.besides import Requested
 from boardnet_show.findings.explained import Explained
+from boardnet_show.findings.finding import CUT, OUTSIDE
 from boardnet_show.intake import unplated_holes
 
 from . import thin_joins
@@ -14,7 +15,7 @@ from . import thin_joins
 
 def requested(program: Any, judged: Any, seen: Explained, asked: Any) -> Requested:
     """What unplated holes and the board's edge take away from a judged board, or that this was left away; its necks, and its holes by the netlist."""
-    package, told = judged.package, Requested()
+    package, told = judged.package, Requested(kinds=[CUT, OUTSIDE])
     holes, profiles = list(unplated_holes.of_package(package)), profile_files.texts(package.around)
     if asked.no_cuts and (holes or profiles):
         words = [counted(sum(len(it.lines) for it in holes), "unplated hole")] if holes else []

@@ -139,6 +139,7 @@ def findings_of(board: Board, its: Sequence[Group], width: int, places: Places) 
                 parts=list(map(list, group.parts)),
                 gap=place._replace(distance=0),
                 sure=True if group.is_certain else False,
+                bare=tuple(sorted(group.bare)),
             )
         )
     return told
@@ -183,4 +184,4 @@ def requested(program: Any, told: Judged, board: Board, width: int) -> Requested
     words = f"{counted(count, 'neck') if count else 'no neck'} {than}" + (
         f" and {counted(possible, 'possible one')}" if possible else ""
     )
-    return Requested([found(NECKS, its, words)], its)
+    return Requested([found(NECKS, its, words)], its, kinds=[NECK])
