@@ -97,8 +97,9 @@ def shown(data: bytes) -> str:
 
 
 def companion_of(name: str, drilled: bytes, others: Iterable[str], read: Callable[[str], bytes]) -> Optional[Companion]:
-    """The file among `others`, names of files in a drill file's folder, that says what its numbers are; or none."""
-    stem = name.rsplit(".", 1)[0].lower()
+    """What the files among `others`, names of files in a drill file's folder, say of what its numbers are; or none. A
+    Contradiction where two of them say two things."""
+    stem, first = name.rsplit(".", 1)[0].lower(), None
     for other in sorted(others):
         if other.lower() == PARAMETERS and HOLESIZE.search(drilled):
             found = parameters(other, read(other))
@@ -106,17 +107,19 @@ def companion_of(name: str, drilled: bytes, others: Iterable[str], read: Callabl
             found = drill_station(other, read(other), drilled)
         else:
             continue
-        if found:
-            return found
-    return None
+        if found and first:
+            its = agreed(first.said, found, f"{first.name} beside it")
+            first = first._replace(said=its, words=f"{first.words}, and {found.name} {found.words}")
+        first = first or found
+    return first
 
 
-def agreed(said: Said, companion: Companion) -> Said:
-    """What both say together; a Contradiction where they say two things."""
+def agreed(said: Said, companion: Companion, who: str = "it") -> Said:
+    """What both say together; a Contradiction where they say two things. `who` says the first."""
     its = companion.said
 
     def differ(what: str, mine: object, theirs: object) -> Contradiction:
-        return Contradiction(f"it says {what} {mine}, and {companion.name} beside it {theirs}")
+        return Contradiction(f"{who} says {what} {mine}, and {companion.name} beside it {theirs}")
 
     if None not in (said.unit, its.unit) and said.unit != its.unit:
         raise differ("a unit of", UNIT_NAMES[said.unit or MM], UNIT_NAMES[its.unit or MM])
