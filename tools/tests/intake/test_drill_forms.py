@@ -580,6 +580,20 @@ class NearMisses(Case):
             {"mini.dri": beside["mini.dri"].replace("10000 Inch", "1000 mm")},
             "it says a unit of inches, and mini.dri beside it millimetres",
         )
+        # Two companions say the same, or are refused.
+        head = (*allegro_comments(), "M48", "INCH", *(f"T{t:02d}C{size(t, INCH, 4)}" for t in SIZES), "%")
+        drilled = text(*head, *hits(full(INCH, 2, 4)), "M30")
+        tools = "\n".join(f" T{t:02d}   {size(t, INCH, 4)}inch   {len(HOLES[t])}" for t in SIZES)
+        full_24 = FULL_25.replace("2.5", "2.4")
+        its = {"mini.dri": DRI.format(over=10000, tools=tools), "nc_param.txt": full_24}
+        data, mends, _ = self.mended(name, drilled, its, folder="d")
+        self.assertIn("mini.dri beside it says Units : 1/10000 Inch, and nc_param.txt FORMAT 2.4", str(mends))
+        self.assertEqual(set(read(data)), PLATED)
+        for old, new, words in (
+            ("2.4", "2.5", "mini.dri beside it says digits of 0.4, and nc_param.txt beside it 2.5"),
+            ("ENGLISH", "METRIC", "mini.dri beside it says a unit of inches, and nc_param.txt beside it millimetres"),
+        ):
+            self.refused(name, drilled, {**its, "nc_param.txt": full_24.replace(old, new)}, words)
         # One of another name says nothing.
         self.assertEqual(len(self.mended(name, drilled, {"other.dri": beside["mini.dri"]}, folder="c")[2]), 1)
 
@@ -600,6 +614,15 @@ class NearMisses(Case):
         self.assertEqual([asked([off, *holes[:n]]) for n in (8, 18, 19)], [0, 0, 1])
         # Repeats count, and are not looked at.
         self.assertEqual([asked([*holes[:19], f"R{n}X1Y1"]) for n in (1, 2)], [1, 0])
+        # Slots and routs count, by their middles: on a pad, off pads, one that bends.
+        (x, y), (far, up) = [(int(n) for n in line[1:].split("Y")) for line in holes[19:21]]
+        for more, wanted in (
+            ((f"X{x - 400}Y{y}G85X{x + 400}",), 1),
+            ((f"G00X{x}Y{y - 300}", "M15", f"G01Y{y + 300}", "M16", "G05"), 1),
+            ((f"X{x}Y{y}G85X{x + 800}", f"X{far}Y{up}G85Y{up + 800}"), 0),
+            ((f"G00X{x}Y{y - 300}", "M15", f"G01X{x + 700}", f"G01Y{y + 900}", "M16", "G05"), 0),
+        ):
+            self.assertEqual(asked([*holes[:19], *more]), wanted, more)
         # As many pads where another reading has them, too.
         every = sorted(PLATED)[:40]
         lines = [f"X{x}Y{y}" for x, y, _ in every]

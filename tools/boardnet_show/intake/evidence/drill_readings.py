@@ -1,12 +1,12 @@
-"""How the numbers of a drill file are read where nothing says it: the one reading by which its holes lie on middles
-of pads.
+"""How the numbers of a drill file are read where nothing says it: the one reading by which its holes, and the middles
+of its slots, lie on middles of pads.
 
 What is found so is evidence and no certainty: it is told, and taken only where the user says so.
 """
 from fractions import Fraction
 from typing import Callable, Dict, Iterable, Iterator, List, NamedTuple, Optional, Set, Tuple
 
-from boardnet_show.formats.drills.drill_lines import BEHIND, Hit, Place, Repeat, lines, places_of
+from boardnet_show.formats.drills.drill_lines import BEHIND, Hit, Place, Repeat, Rout, lines, places_of
 from boardnet_show.formats.drills.drill_plating import Plating
 from boardnet_show.formats.drills.number_forms import (
     LEADING,
@@ -27,7 +27,7 @@ DEFAULTS = {INCH: (2, 4), MM: (3, 3)}
 MOST_DIGITS = 7
 
 Cell = Tuple[int, int]
-Texts = Tuple[bytes, bytes]
+Texts = Tuple[bytes, ...]  # x and y of a place, or of both ends
 
 
 class Reading(NamedTuple):
@@ -92,15 +92,19 @@ def readings(said: Said, bare: List[bytes]) -> Iterator[Reading]:
 
 
 def holes_of(data: bytes) -> List[Texts]:
-    """The numbers of all round holes that are not called unplated, each place once; what is missing stays."""
+    """The numbers of all holes that are not called unplated, of slots and routs those of both ends; each once, what is
+    missing stays."""
     unplated = {number for number, called in Plating(data).holes() if called == {False}}
     last, found = Place(b"0", b"0"), set()
     for line in lines(data):
-        record = line.record()
-        for place in places_of(record) if line.part != BEHIND else ():
+        record = line.record() if line.part != BEHIND else None
+        # A rout goes on from where the tool is.
+        ends = [last] if isinstance(record, Rout) else []
+        for place in places_of(record) if record else ():
             last = Place(place.x or last.x, place.y or last.y)
-        if isinstance(record, Hit) and len(record.places) == 1 and line.number not in unplated and line.part != BEHIND:
-            found.add((last.x or b"0", last.y or b"0"))
+            ends.append(last)
+        if isinstance(record, (Hit, Rout)) and line.number not in unplated:
+            found.add(tuple(text or b"0" for place in ends for text in place))
     return sorted(found)
 
 
@@ -127,6 +131,12 @@ def around(pads: Middles) -> Set[Cell]:
     return {(x + i, y + j) for x, y in pads.cells for i in (-1, 0, 1) for j in (-1, 0, 1)}
 
 
+def middle(ends: List[int]) -> Cell:
+    """The cell of a hole's place, of a slot that of its middle."""
+    count = len(ends) // 2
+    return sum(ends[::2]) // count // NEAR, sum(ends[1::2]) // count // NEAR
+
+
 def fits(holes: List[Texts], its: Iterable[Reading], cells: Set[Cell]) -> List[Fit]:
     """How many holes lie on pads by each reading; of readings that give all holes the same places the first."""
     texts = list({text for hole in holes for text in hole})
@@ -134,8 +144,8 @@ def fits(holes: List[Texts], its: Iterable[Reading], cells: Set[Cell]) -> List[F
     for reading in its:
         key = tuple(length(text, reading) for text in texts)
         if key not in found:
-            cell = {text: u // NEAR for text, u in zip(texts, key)}
-            on = sum((cell[x], cell[y]) in cells for x, y in holes)
+            at = dict(zip(texts, key))
+            on = sum(middle([at[text] for text in hole]) in cells for hole in holes)
             found[key] = Fit(reading, on, len(holes), not reading.form.wrong_number([(0, text) for text in texts]))
     return list(found.values())
 
