@@ -39,7 +39,8 @@ FULL_NAME = re.compile(rb"^3[012]7[!-~]{14}", re.M)
 KICAD, HEAD = b"arrayDim", 400
 # A test record's name, what stands behind that, and its access code.
 FIELDS = re.compile(rb"^3[12]7(.{14})(.{3})?(?:.{18}A([ \d]\d))?", re.M)
-GRAPHIC = re.compile(rb"[!-~]+")
+# Columns of a name that are full, or of which a name may go on behind one blank.
+LONG_NAME = re.compile(rb".{13}[!-~]|.{12}[!-~] [!-~]", re.S)
 
 # ---- parameters
 
@@ -215,8 +216,8 @@ def name_of(line: bytes) -> bytes:
 
 
 class Fields(NamedTuple):
-    """Of all test records: their names, each once in their order, those that fill their columns and run on behind them,
-    and the access codes."""
+    """Of all test records: their names, each once in their order, those that fill their columns or go on behind them,
+    with what stands there, and the access codes."""
 
     names: List[bytes]
     long_names: List[bytes]
@@ -228,8 +229,8 @@ def fields(data: bytes) -> Fields:
     """Read in one pass, kept for the netlists that were read last: a netlist may have many records."""
     rows = dict.fromkeys(FIELDS.findall(data))
     names = [name for name in dict.fromkeys(field.strip() for field, _, _ in rows) if name]
-    runs = ((field, GRAPHIC.match(behind)) for field, behind, _ in rows if GRAPHIC.match(field[-1:]))
-    long_names = dict.fromkeys(field + found[0] for field, found in runs if found)
+    runs = ((field + behind).rstrip() for field, behind, _ in rows)
+    long_names = dict.fromkeys(name for name in runs if LONG_NAME.match(name))
     return Fields(names, list(long_names), {int(code) for _, _, code in rows if code})
 
 

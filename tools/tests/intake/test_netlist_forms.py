@@ -179,6 +179,35 @@ class Names(unittest.TestCase):
     def record(self, name, component="U1", width=14):
         return f"327{name:<{width}}   {component:<6}-1          A01X+001000Y+002000"
 
+    def test_two_codings(self):
+        """Names of the same characters that are written otherwise may be one net: refused, but for UTF-8 and Latin-1."""
+        rows = (
+            (["GR\\u00D6", "GR\u00d6"], True),
+            (["GR\\u00D6", "GR\\u00d6"], True),
+            (["GRO\u0308", "GR\u00d6"], True),
+            (["GR\\U000000D6", "GR\\u00D6"], True),
+            (["GR\u00d6", "GR\u00dc", "GR\udcd6", "GR\\u00D8", "GR\\u12", "GR\\U00D6"], False),
+        )
+        for names, is_refused in rows:
+            aliases = [f"P  NNAME{n}  {name}" for n, name in enumerate(names, 1)]
+            for its in (
+                map(self.record, names),
+                [*aliases, *(self.record(f"NNAME{n + 1}") for n in range(len(names)))],
+            ):
+                why = netlist_mends.unclear(file_of([UNITS, *its]), 2)
+                self.assertEqual("are the same characters, written in two ways" in why, is_refused, (names, why))
+
+    def test_a_character_that_is_cut(self):
+        """Columns that end within a character are no whole name: no alias, so that it stays refused."""
+        for name, has_alias in (
+            (b"A" * 13 + b"\xc3", False),
+            (b"A" * 13 + b"\xe6", False),
+            (b"A" * 12 + b"\xc3", True),
+        ):
+            row = self.record("x" * 14).encode().replace(b"x" * 14, name.ljust(14))
+            data = netlist_mends.mended(file_of([UNITS]).replace(b"999", row + b"\n999"), 6)[0]
+            self.assertEqual(b"NNAME" in data, has_alias, name)
+
     def test_blanks(self):
         names, kinds, data = self.told(
             self.record("MY NET"), self.record("MY_NET"), self.record(" MY NET"), self.record("MY  NET")
@@ -245,8 +274,20 @@ class Names(unittest.TestCase):
             netlist_mends.unclear(file_of([UNITS, *rows]), 2),
             f"{long}1 and {long}2 run on behind their columns, and are one name within them",
         )
-        for some in (rows[:1], [rows[0], self.record(long)], [self.record(long)] * 2):
+        for some in (rows[:1], rows[:1] * 2, [self.record(long)] * 2):
             self.assertEqual(netlist_mends.unclear(file_of([UNITS, *some]), 2), "", some)
+        # The columns are the whole of another name, or have a blank where it goes on.
+        for one, other, words in (
+            (long, long + "1", f"{long}1 runs on behind its columns, and is {long} within them"),
+            (long + " 1", long + " 2", f"{long} 1 and {long} 2 run on"),
+            (long[1:] + " 1", long[1:] + " 2", f"{long[1:]} 1 and {long[1:]} 2 run on"),
+        ):
+            its = [self.record(name, width=17)[:20] + rows[0][20:] for name in (one, other)]
+            self.assertIn(words, netlist_mends.unclear(file_of([UNITS, *its]), 2))
+            self.assertEqual(netlist_mends.unclear(file_of([UNITS, its[1], its[1]]), 2), "")
+        # A part's name that begins early is none of the net's.
+        its = [self.record("A" * 12, width=17)[:18] + f"U{n}" + rows[0][20:] for n in (1, 2)]
+        self.assertEqual(netlist_mends.unclear(file_of([UNITS, *its]), 2), "")
 
     def test_no_alias_of_a_name_that_runs_on(self):
         """Behind an alias two names would be one, in columns of bytes and of characters."""

@@ -23,6 +23,8 @@ SI = re.compile(rb"^(P[ \t]*UNITS[ \t]+)SI([ \t\r]*)$")
 BEHIND_PIN = slice(ipc356.PIN.stop, None)
 FORM_FEED, END_OF_TEXT, BLANKS = b"\x0c", b"\x1a", b" \t\r"
 OUTSIDE = re.compile(rb"[\x80-\xff]")
+# Columns that end within a character of UTF-8.
+CUT = re.compile(rb".*(?:[\xc2-\xf4]|[\xe0-\xf4][\x80-\xbf]|[\xf0-\xf4][\x80-\xbf]{2})\Z", re.S)
 # A name that its columns hold and `check` does not take: with blanks, or letters outside ASCII.
 UNPLAIN = re.compile(rb"[!-~\x80-\xff][ !-~\x80-\xff]*")
 
@@ -273,6 +275,7 @@ class Netlist:
         # Behind an alias it would not be seen that a name runs on, and may be cut.
         runs_on = not any(text[at : at + 1].strip() == b"" for at in (ipc356.NAME.stop - 1, ipc356.NAME.stop))
         is_unplain = not runs_on and UNPLAIN.fullmatch(name) and (b" " in name or OUTSIDE.search(name))
+        is_unplain = is_unplain and not CUT.match(text[ipc356.NAME])
         if not is_unplain or not stands(text) or self.end == len(self.lines):
             return text
         return self.replaced(NAME, at, text, ipc356.with_name(text, self.aliases.alias(name)), shown=name)

@@ -2,6 +2,7 @@
 
 To `check` each name is one of its own.
 """
+import re
 from typing import Dict, List, Tuple
 
 from boardnet_show.formats import ipc356
@@ -12,6 +13,9 @@ from .table import ALIAS
 
 NO_NET = ipc356.NO_NET.encode()
 MOST_LAYERS = 99  # what the two digits of an access code hold
+# A character by its number.
+ESCAPE = re.compile(rb"\\[uU][0-9A-Fa-f]{4}")
+ESCAPED = re.compile(r"\\U(000[0-9A-Fa-f]{5}|0010[0-9A-Fa-f]{4})|\\u([0-9A-Fa-f]{4})")
 Groups = Dict[bytes, List[bytes]]
 
 
@@ -66,19 +70,44 @@ def renamed(data: bytes) -> Tuple[Dict[bytes, bytes], str]:
 
 def cut(data: bytes) -> str:
     """Why names that run on behind their columns may be of two nets, or nothing: the columns have what both begin
-    with."""
+    with, be it the whole of one."""
     whole: Dict[bytes, bytes] = {}
     for name in ipc356.fields(data).long_names:
         other = whole.setdefault(name[: ipc356.NAME_WIDTH], name)
         if other != name:
+            less, more = sorted((other, name), key=len)
+            if len(less) <= ipc356.NAME_WIDTH:
+                return f"{short(more)} runs on behind its columns, and is {short(less)} within them"
             return f"{short(other)} and {short(name)} run on behind their columns, and are one name within them"
+    return ""
+
+
+def characters(name: bytes) -> str:
+    """A name in characters, be they written as such, by their numbers, or in parts."""
+    import unicodedata  # few boards have such names
+
+    text = ESCAPED.sub(lambda found: chr(int(found[1] or found[2], 16)), ipc356.text_of(name))
+    return unicodedata.normalize("NFC", text)
+
+
+def in_two_codings(data: bytes) -> str:
+    """Which two names are written otherwise and are the same characters, so that they may be one net; or nothing."""
+    if data.isascii() and not ESCAPE.search(data):
+        return ""
+    whole = Names(data).whole
+    first: Dict[str, bytes] = {}
+    for name in ipc356.fields(data).names:
+        full = whole.get(name, name)
+        other = first.setdefault(characters(full), full)
+        if other != full:
+            return f"{short(other)} and {short(full)} are the same characters, written in two ways"
     return ""
 
 
 def unclear(data: bytes, layers: int = MOST_LAYERS) -> str:
     """Why it is not known which records are of one net, or nothing."""
     text = netlist_forms.mended(data, layers)[0]
-    return cut(text) or (renamed(text)[1] if b"NNAME" in text else "")
+    return cut(text) or (renamed(text)[1] if b"NNAME" in text else "") or in_two_codings(text)
 
 
 def mended(data: bytes, layers: int = MOST_LAYERS, last: int = 0) -> Tuple[bytes, List[Mend]]:
