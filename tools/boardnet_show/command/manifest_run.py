@@ -93,7 +93,7 @@ def mended(folder, manifest, asked):
     drills, made = [it["file"] for it in manifest["drills"]], {}
     read = lambda name: made.get(name) or bytes_of(folder, name)
     settling = drill_numbers.Settling(folder, lambda: list(map(read, manifest["copper"])))
-    for name, data, told in mends.of_files(
+    for name, data, told, _ in mends.of_files(
         lambda name: bytes_of(folder, name), manifest["copper"], drills, manifest["netlist"], settling
     ):
         made[name] = data

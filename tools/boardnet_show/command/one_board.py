@@ -46,9 +46,9 @@ def labels_of(program, told):
 def flattened_notes(flattened, outside):
     """One note of all files that were flattened, and one of those that could not be, with the reason of the first."""
     if len(flattened) == 1:
-        yield f"{flattened[0]} has macros and was flattened: commands are those of the flattened file, which --keep keeps"
+        yield f"{flattened[0]} has macros and was flattened, which --keep keeps; commands are those of the file that came"
     elif flattened:
-        yield f"{spoken(flattened)} have macros and were flattened: commands are those of the flattened files, which --keep keeps"
+        yield f"{spoken(flattened)} have macros and were flattened, which --keep keeps; commands are those of the files that came"
     for name in [*outside][:1]:
         rest = [*outside][1:]
         yield f"{name} could not be flattened: {outside[name]}" + (f"; nor could {spoken(rest)}" if rest else "")

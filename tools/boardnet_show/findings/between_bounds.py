@@ -10,7 +10,7 @@ from boardnet_show.judging.two_bounds import own_commands
 from .board import Board
 from .finding import MISSING, OPEN, SHORT, Finding
 from .findings import Opens, open_clues
-from .shorts import findings as shorts_of
+from .shorts import JOINED, findings as shorts_of
 
 MICROMETRE = 10_000
 MOST = 400  # pieces of a command that are looked at one by one
@@ -60,7 +60,12 @@ class Findings:
         known = self.shorts.get(nets[0]) if kind == SHORT and sure else None
         if known:
             return found._replace(
-                clues=known.clues, meets=known.meets, sides=known.sides, is_labelled=known.is_labelled
+                words=found.words.replace(JOINED, JOINED + known.where, 1),
+                clues=known.clues,
+                meets=known.meets,
+                sides=known.sides,
+                is_labelled=known.is_labelled,
+                where=known.where,
             )
         return self.with_gap(found)
 

@@ -99,7 +99,12 @@ class Board:
     def line(self, point: int) -> int:
         """The line of the netlist that a point is from."""
         record = self.record(point)
-        return record.line if record else 0
+        return self.came_line(self.manifest.netlist, record.line) if record else 0
+
+    def came_line(self, name: str, line: int) -> int:
+        """The line of the file that came by that of its copy; 0 where it is not known."""
+        lines = self.package.lines.get(name)
+        return line if lines is None else lines[line - 1] if line <= len(lines) else 0
 
     def point_words(self, point: int) -> str:
         """A point with its layer and place."""
@@ -118,13 +123,28 @@ class Board:
         x, y = (round(v, -4) for v in spot)
         return f"{self.manifest.layer_word(layer)} ({self.manifest.copper[layer - 1]}) at {self.place_words((x, y))}"
 
+    @cached_property
+    def came_places(self) -> Any:
+        from .came_places import CamePlaces  # boards that agree want none, and loading takes longer than a small board
+
+        return CamePlaces(self)
+
+    def came(self, piece: int) -> Optional[Tuple[int, int]]:
+        """The command or line of the file that came, and its copy, that made a piece; None where that is not known."""
+        is_as_it_came = not (self.package.mends or self.package.flattened or self.package.lines)
+        source: Optional[Tuple[int, int]] = (
+            self.report.sources[piece][1:3] if is_as_it_came else self.came_places.of(piece)
+        )
+        return source
+
     def source(self, piece: int) -> str:
-        """Which command or line of which file made a piece."""
-        file, command, copy, *_ = self.report.sources[piece]
-        name = self.manifest.files[file]
+        """Which command or line of which file made a piece; the file alone where no more is known."""
+        file = self.report.sources[piece][0]
+        name, came = self.manifest.files[file], self.came(piece)
+        if came is None:
+            return f"{name} as it was rewritten"
         word = "line" if self.manifest.is_drilled(file) else "command"
-        flattened = " as flattened" if name in self.package.flattened and not self.manifest.is_drilled(file) else ""
-        return f"{name}{flattened} {word} {command}" + (f" copy {copy}" if copy else "")
+        return f"{name} {word} {came[0]}" + (f" copy {came[1]}" if came[1] else "")
 
     def common_layer(self, p: int, q: int) -> int:
         """The first layer that two pieces share."""

@@ -26,7 +26,7 @@ class Finding(NamedTuple):
     `points` are the test points that it speaks of, the first one leads; `nets` those of the copper, `names` those of the netlist, by their
     numbers; `parts` the points on both parts of an open and `gap` their nearest copper, `meets` the places where a short's names meet,
     `sides` the name of each piece on it. Between two bounds `sure` says whether both boards have it, else it is None.
-    `places` (x, y, layer) are those of all that parts a net when the board is made, `bare` the points that lose their copper.
+    `where` is what its words say of a short's place, `places` (x, y, layer) are those of all that parts a net when the board is made, `bare` the points that lose their copper.
     """
 
     kind: str
@@ -46,6 +46,7 @@ class Finding(NamedTuple):
     sure: Optional[bool] = None
     places: Sequence[Tuple[int, int, int]] = ()
     bare: Sequence[int] = ()
+    where: str = ""
 
     @property
     def id(self) -> str:
@@ -62,7 +63,9 @@ class Finding(NamedTuple):
     def without_suggestion(self) -> "Finding":
         """The same with what is known alone: not where to look, where something else than the copper is the cause."""
         its = self._replace(clues=[clue for clue in self.clues if clue.why != SUGGESTED], gap=None)
-        return its if self.kind != SHORT or self.is_labelled else its._replace(meets=[], sides={})
+        if self.kind != SHORT or self.is_labelled:
+            return its
+        return its._replace(meets=[], sides={}, words=self.words.replace(self.where, "", 1), where="")
 
 
 def with_short_names(findings: Sequence[Finding], names: Sequence[str], short: Dict[str, str]) -> Sequence[Finding]:

@@ -7,6 +7,7 @@ from .finding import KNOWN, LABELLED, SHORT, SUGGESTED, Clue, Finding
 from .meeting_places import Net
 
 MOST_TOLD = 3
+JOINED = "are joined"
 
 
 def findings(board):
@@ -14,13 +15,15 @@ def findings(board):
     budget = least_cuts.Budget()
     for number, (net, branches) in board.ties.shorts(board.report):
         pins = [f"{board.spoken_name(name)} has {board.point_words(point)}" for name, point, _ in branches]
-        told = f"{wording.spoken(sides(board, branches, board.spoken_name))} are joined: {wording.spoken(pins, 4)}."
         points = [point for _, point, _ in branches]
         numbers = [name for name, _, _ in branches]
         heading = wording.spoken(sides(board, branches, board.name), 3)
         joined = Net(board, net) if board.shapes else None
         meets = joined.meets(budget) if joined else []
         clues = [*meet_clues(board, joined, meets)] if meets else by_branch(board, branches)
+        where = where_words(board, joined, meets) if meets else ""
+        joins = f"{wording.spoken(sides(board, branches, board.spoken_name))} {JOINED}{where}"
+        told = f"{joins}: {wording.spoken(pins, 4)}."
         yield Finding(
             SHORT,
             number,
@@ -33,7 +36,14 @@ def findings(board):
             meets=meets,
             sides=joined.sides if joined else {},
             is_labelled=bool(joined and joined.is_labelled),
+            where=where,
         )
+
+
+def where_words(board, joined, meets):
+    """Where the names of a short meet, as its head says it; labels say it, else it is where to look."""
+    more = f", and in {wording.counted(joined.count - 1, 'more place')}" if joined.count > 1 else ""
+    return f"{'' if joined.is_labelled else ', it seems'} on {board.copper_place(meets[0].place, meets[0].layer)}{more}"
 
 
 def sides(board, branches, said):

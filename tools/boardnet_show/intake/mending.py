@@ -65,9 +65,11 @@ def rewritten(package, told=lambda number, count: None):
         settling,
         told,
     )
-    for name, data, mends_of_it in its:
+    for name, data, mends_of_it, lines in its:
         package.put(name, data)
         package.mends += mends_of_it
+        if lines is not None:
+            package.lines[name] = lines
     return [Taken(name, f"as {how}") for name, how in settling.taken()] + taken(package)
 
 

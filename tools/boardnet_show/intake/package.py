@@ -53,6 +53,10 @@ class Package:
         self.flattened, self.outside = set(), {}
         # Those files as they were before, and where each file of the scratch folder came from.
         self.before, self.came = {}, {}
+        # Of copies whose lines do not stand as they came, the line of each that came, none where that is not known.
+        self.lines = {}
+        # The package that this one is a changed copy of.
+        self.base = None
         # What was left out and what was guessed, in words, where the manifest was made here, and what was taken as what.
         self.left_out, self.guessed, self.taken = [], [], []
         # What was rewritten before `check`, as mends/mend.py says.
@@ -101,6 +105,14 @@ class Package:
         os.symlink(os.path.abspath(source), path)
         self.came[name] = os.path.abspath(source)
 
+    def bytes_that_came(self, name):
+        """A file as the user has it, nothing where it is not known."""
+        path = (self.base or self).came.get(name)
+        if not path:
+            return b""
+        with open(path, "rb") as file:
+            return file.read()
+
     def is_taken(self, name):
         """Whether a name is that of a file of the board, be it there or not."""
         its = self.manifest.names() if self.manifest else []
@@ -125,6 +137,7 @@ class Package:
         copy.flattened, copy.home, copy.around = set(self.flattened) - set(files or ()), self.home, self.around
         copy.before = {name: data for name, data in self.before.items() if name in copy.flattened}
         copy.own, copy.mends, copy.made, copy.whole = self.own, self.mends, self.made, self.whole
+        copy.lines, copy.base = self.lines, self.base or self
         os.makedirs(folder)
         for name, data in (files or {}).items():
             copy.put(name, data)

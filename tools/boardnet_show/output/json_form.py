@@ -48,13 +48,12 @@ def point(board: Board, number: int) -> Dict[str, Any]:
 
 
 def piece(board: Board, number: int) -> Dict[str, Any]:
-    file, command, copy, top, bottom = board.report.sources[number]
-    word = "line" if board.manifest.is_drilled(file) else "command"
+    file, _, _, top, bottom = board.report.sources[number]
+    word, came = "line" if board.manifest.is_drilled(file) else "command", board.came(number)
     return {
         "piece": number,
         "file": board.manifest.files[file],
-        word: command,
-        "copy": copy,
+        **({word: came[0], "copy": came[1]} if came else {}),
         "top": top,
         "bottom": bottom,
         **({"label": board.labels[number]} if number in board.labels else {}),

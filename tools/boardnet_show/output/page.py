@@ -128,7 +128,9 @@ def columns_of(board: Board, sides: Sequence[int]) -> Columns:
     columns.add_steps("ys", in_nanometres(shapes.y))
     columns.add_steps("nets", report.net_of)
     columns.add_steps("sides", sides)
-    for name, column in by_names(("pieceFiles", "commands", "copies", "tops", "bottoms"), report.sources):
+    # No command is 0: it stands for one that is not known.
+    came = [(file, *(board.came(piece) or (0, 0)), *span) for piece, (file, _, _, *span) in enumerate(report.sources)]
+    for name, column in by_names(("pieceFiles", "commands", "copies", "tops", "bottoms"), came):
         columns.add_steps(name, column)
     for name, column in by_names(("pointXs", "pointYs"), report.spots):
         columns.add_steps(name, in_nanometres(column))
@@ -197,7 +199,8 @@ def block(board: Board, findings: Sequence[Finding], wider: Sequence[Any] = ()) 
     columns = columns_of(board, column)
     components, which_component = distinct(record.component for record in board.records)
     pins, which_pin = distinct(record.pin for record in board.records)
-    columns.add_steps("recordLines", (record.line for record in board.records))
+    netlist = board.manifest.netlist
+    columns.add_steps("recordLines", (board.came_line(netlist, record.line) for record in board.records))
     columns.add_steps("recordComponents", which_component)
     columns.add_steps("recordPins", which_pin)
     head = json.dumps(
@@ -206,7 +209,6 @@ def block(board: Board, findings: Sequence[Finding], wider: Sequence[Any] = ()) 
                 "files": manifest.files,
                 "copper": manifest.layers,
                 "netlist": manifest.netlist,
-                "flattened": sorted(board.package.flattened),
                 "layers": [manifest.layer_word(k + 1) for k in range(manifest.layers)],
                 "names": board.report.names,
                 "netCount": board.report.nets,

@@ -45,7 +45,7 @@ QUIET = """\
 board: differs, opens 1, shorts 1, missing 1
 board/n.ipc:5: open-0: R1 pin 2 (the one layer, 3.000, 5.000 mm) is not joined to J1 pin 2 (the one layer, 0.000, 5.000 mm), 3.000 mm away; \
 SIG is in 2 parts, here R1 pin 2, there J1 pin 2. Suggestion: their copper comes nearest, 2.000 mm, on the one layer (top.gbr) at 1.500, 5.000 mm.
-board/n.ipc:2: short-0: GND and VCC are joined: GND has J1 pin 1 (the one layer, 0.000, 0.000 mm) and VCC has U1 pin 8 (the one layer, 10.000, 0.000 mm). \
+board/n.ipc:2: short-0: GND and VCC are joined, it seems on the one layer (top.gbr) at 5.000, 0.000 mm: GND has J1 pin 1 (the one layer, 0.000, 0.000 mm) and VCC has U1 pin 8 (the one layer, 10.000, 0.000 mm). \
 Suggestion: GND and VCC meet on the one layer (top.gbr) at 5.000, 0.000 mm; top.gbr command 13 is one piece that could be either's, between top.gbr command 7 and top.gbr command 8.
 board/n.ipc:6: missing-0: no copper of top.gbr lies under </b> (the one layer, -0.500, 9.999 mm), of SIG.
 """
@@ -221,7 +221,7 @@ class Answers(made.Case):
         status, out, _ = self.show("board", "--keep", "kept")
         self.assertEqual(status, 1)
         self.assertIn("top.gbr has macros and was flattened", out)
-        self.assertIn("top.gbr as flattened command ", out)
+        self.assertIn("top.gbr command ", out)
         self.assertIn("%FSLAX47Y47*%", self.read("kept/top.gbr"))
         self.assertTrue(self.read("kept/report.txt").startswith("boardnet 2\n"))
         self.assertEqual(self.show("board", "--keep", "kept")[0], 5)
@@ -246,7 +246,7 @@ class Answers(made.Case):
         self.assertEqual(
             told,
             [
-                "l0.gbr, l1.gbr, l2.gbr, l3.gbr, l4.gbr, l5.gbr and 6 more have macros and were flattened: commands are those of the flattened files, which --keep keeps",
+                "l0.gbr, l1.gbr, l2.gbr, l3.gbr, l4.gbr, l5.gbr and 6 more have macros and were flattened, which --keep keeps; commands are those of the files that came",
                 "l0.gbr could not be flattened: l0.gbr: flatten 34 ExposureOff; nor could l1.gbr, l2.gbr, l3.gbr, l4.gbr, l5.gbr, l6.gbr and 5 more",
             ],
         )

@@ -81,7 +81,7 @@ class Ties(made.Case):
             status, out, board = self.tied(SHORT, words=["--tie", "GND=AGND"], program=program)
             self.assertEqual((status, board["shorts"], len(board["findings"])), (1, 1, 1))
             found = board["findings"][0]
-            self.assertTrue(found["words"].startswith("GND=AGND and VCC are joined: "), found["words"])
+            self.assertTrue(found["words"].startswith("GND=AGND and VCC are joined, it seems on the one layer (top.gbr) at 2.000, 0.000 mm: "), found["words"])
             self.assertEqual([it["names"] for it in found["meets"]], [["AGND=GND", "VCC"]])
             self.assertNotIn("--tie", " ".join(found["hints"]))
             self.assertIn(
@@ -171,7 +171,7 @@ class Ties(made.Case):
     def test_pins_without_net(self):
         """A pin without net on tied copper is another's."""
         board = self.tied(points=[*POINTS, record("N/C", "U1.4", 5, 0)], words=["--tie", "GND=AGND"])[2]
-        self.assertTrue(board["findings"][0]["words"].startswith("GND=AGND and a pin without net (N/C) are joined: "))
+        self.assertTrue(board["findings"][0]["words"].startswith("GND=AGND and a pin without net (N/C) are joined, it seems on "))
 
     def test_batch(self):
         self.tied()

@@ -124,7 +124,14 @@ class InABrowser(common.Case):
         self.assertIn("Copper 2.000 mm apart at top, 1.500, 5.000 mm", self.all(".more button"))
 
     def test_a_short(self):
+        """It stands where its names meet, which is framed; the whole board shows both."""
         self.open(place="#short-0")
+        self.assertEqual(self.middle(), (5000, 0))
+        framed = self.scale()
+        left, right = (self.on_screen(x, 0)[0] for x in (4, 6))
+        self.assertGreater(right - left, self.ask("document.getElementById('marks').clientHeight") / 4)
+        self.browser.key("f")
+        self.browser.rest()
         self.assertLessEqual({BLUE}, self.colours("marks", -0.4, 0.3, 0.8, 0.1))
         self.assertLessEqual({ORANGE, WHITE}, self.colours("marks", 9.6, 0.25, 0.8, 0.15), "the other side is striped")
         self.assertLessEqual(
@@ -141,7 +148,7 @@ class InABrowser(common.Case):
         self.click(".more details button")
         self.assertGreater(self.scale(), before)
         self.browser.key("z")
-        self.assertAlmostEqual(self.scale() / before, 1)
+        self.assertAlmostEqual(self.scale() / framed, 1)
 
     def test_a_missing_point(self):
         self.open(place="#missing-0")
@@ -316,7 +323,7 @@ class InABrowser(common.Case):
         """The board with so many notes, a flood and many findings."""
         shown = pages.many(self.shown, 400)
         notes = [
-            f"file {k}.gbr has macros and was flattened: commands are those of the flattened file, which --keep keeps"
+            f"file {k}.gbr has macros and was flattened, which --keep keeps; commands are those of the file that came"
             for k in range(count)
         ]
         return shown._replace(

@@ -299,16 +299,24 @@ class Holes:
 
 def mended(data: bytes, settled: Optional[Settled] = None) -> Tuple[bytes, List[Mend]]:
     """A drill file as it is mended, and its mends; the same bytes where there are none."""
+    return with_lines(data, settled)[:2]
+
+
+def with_lines(data: bytes, settled: Optional[Settled] = None) -> Tuple[bytes, List[Mend], Optional[List[int]]]:
+    """The same, and the line that came of each line, or None where each stands as it came."""
     head = headed(data, settled.unit if settled else None)
     try:
         drill = Drill(head, settled, bool(REPEATED.search(data)))
     except Unclear:
         # Repeats stay, so that `check` refuses them.
-        return data, []
+        return data, [], None
     mends = drill.mends()
     if head.added:
         mends.insert(0, header_mend(data, head, settled))
-    return (b"\n".join(drill.lines), mends) if mends else (data, [])
+    if not mends:
+        return data, [], None
+    lines = [head.line(number) for number, text in enumerate(drill.lines, 1) for _ in text.split(b"\n")]
+    return b"\n".join(drill.lines), mends, None if lines == list(range(1, len(lines) + 1)) else lines
 
 
 def header_mend(data: bytes, head: Headed, settled: Optional[Settled]) -> Mend:

@@ -17,28 +17,29 @@ HEAD = 65_536
 
 
 def of_files(read, copper, drills, netlist, settled, told=lambda number, count: None):
-    """(name, data, mends) of each file that is mended, in order; `read` gives a file's bytes, or nothing where there
+    """(name, data, mends, lines) of each file that is mended, in order, lines as `package.lines` has them; `read` gives a file's bytes, or nothing where there
     are none, and `settled` of a drill file how its numbers are read, where that is said. `told` hears which file it is.
     """
 
     def drilled(name, data):
-        return mended_gerber(name, data) if is_gerber(data) else drill_mends.mended(data, settled(name, data))
+        return mended_gerber(name, data) if is_gerber(data) else drill_mends.with_lines(data, settled(name, data))
 
     rows = [(name, copper_mends.mended) for name in copper] + [(name, partial(drilled, name)) for name in drills]
     rows.append((netlist, partial(netlist_mends.mended, layers=len(copper))))
     works = [(mended, read(name)) for name, mended in dict(rows).items()]
     done = workers.mapped(mended_file, works, [len(data) for _, data in works])
     told(1, len(works))
-    for number, (name, (text, mends)) in enumerate(zip(dict(rows), done), 1):
+    for number, (name, (text, mends, lines)) in enumerate(zip(dict(rows), done), 1):
         if mends:
-            yield name, text, [described(name, it) for it in mends]
+            yield name, text, [described(name, it) for it in mends], lines
         told(min(number + 1, len(works)), len(works))
 
 
 def mended_file(work):
-    """The text and the mends of a file, by what mends it and its bytes."""
+    """The text, the mends and the lines of a file, by what mends it and its bytes."""
     mended, data = work
-    return mended(data) if data else (data, [])
+    text, mends, *lines = mended(data) if data else (data, [])
+    return text, mends, lines[0] if lines else None
 
 
 def is_gerber(data):
@@ -63,7 +64,7 @@ def mended_gerber(name, data):
         f"says that it is a drill file in the Gerber format: its {its} are written as holes and slots, in other lines"
     )
     start, end = found.function.start, found.function.end
-    return found.data, [Mend(GERBER_DRILLS, data.count(b"\n", 0, start) + 1, short(data[start:end]), 0, what)]
+    return found.data, [Mend(GERBER_DRILLS, data.count(b"\n", 0, start) + 1, short(data[start:end]), 0, what)], []
 
 
 def name_beside(name):

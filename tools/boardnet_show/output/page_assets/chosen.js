@@ -25,6 +25,7 @@ function gapList([x, y, layer, size, below]) {
 }
 
 // A short: each piece has the number of its name's side, or none where it could be either's.
+const AROUND = 1e6;                               // nm of a meeting place
 const MOST_SIDES = 8;                             // further names look like the last of them
 function shortParts(f, onChains) {
   const rests = [], links = [], between = [], betweenLinks = [];
@@ -37,9 +38,9 @@ function shortParts(f, onChains) {
     ...links.map((list, k) => [grouped(list), k, 1, 0.8]), [grouped(betweenLinks), -1, 1, 0.8]].filter(Boolean);
   return [parts, between.length + betweenLinks.length];
 }
-function shortBox(f, onChains) {                  // the chains where the names meet; without them the points
-  let box = boxOf([...onChains].filter(i => !isArea(i)));
-  for (const {x, y} of f.meets) box = around(box, x, y);
+function shortBox(f) {                            // the place where the names meet; without one the points
+  let box = NOTHING;
+  for (const {x, y} of f.meets.slice(0, 1)) box = [x - AROUND, y - AROUND, x + AROUND, y + AROUND];
   if (!f.meets.length) for (const p of f.points) box = around(box, pointXs[p], pointYs[p]);
   return box;
 }
@@ -48,7 +49,7 @@ function shortShown(f) {
   const lookOfPoint = (p, k) => { const at = f.sides.indexOf(names[pointNames[p]]); return at < 0 ? k : Math.min(at, MOST_SIDES - 1); };
   const looseWords = f.meets.length ? "could be either's" : "joined copper";
   return {
-    f, box: shortBox(f, onChains), layers: [...f.meets.map(join => join.layer), ...f.points.map(p => pointLayers[p])],
+    f, box: shortBox(f), layers: [...f.meets.map(join => join.layer), ...f.points.map(p => pointLayers[p])],
     legend: [...f.sides.slice(0, 6).map((name, k) => [k, `copper of ${name}`]), ...(loose ? [["between", `${looseWords}: ${plural(loose, "piece")}`]] : [])],
     draw() {
       for (const [part, k, alpha, behind] of parts) drawNet(part, k < 0 ? ink.between : lookOf(k), alpha, behind);

@@ -26,8 +26,8 @@ function netWords(net) {
   return `net ${net} (${told})`;
 }
 function sourceWords(i) {
-  const flattened = board.flattened.includes(files[pieceFiles[i]]) && !isDrilled(i) ? " as flattened" : "";
-  const where = `${files[pieceFiles[i]]}${flattened} ${isDrilled(i) ? "line" : "command"} ${commands[i]}`;
+  if (!commands[i]) return `${files[pieceFiles[i]]} as it was rewritten`;
+  const where = `${files[pieceFiles[i]]} ${isDrilled(i) ? "line" : "command"} ${commands[i]}`;
   return copies[i] ? `${where} copy ${copies[i]}` : where;
 }
 const spanWords = i => tops[i] === bottoms[i] ? layers[tops[i] - 1] : `${layers[tops[i] - 1]} to ${layers[bottoms[i] - 1]}`;
