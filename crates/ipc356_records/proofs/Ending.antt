@@ -38,7 +38,7 @@ needs_end k h ok = by k.ended h ok
     by true h ok = cc
     by false h ok = cc
 
-ends_of : (form : RecordLine) → is_end form ≡ true → form ≡ ends
+pub ends_of : (form : RecordLine) → is_end form ≡ true → form ≡ ends
 ends_of ends h = refl
 ends_of other h = cc
 
@@ -46,7 +46,7 @@ either : (a b : Bool) → b ≡ true → (a || b) ≡ true
 either true b h = refl
 either false b h = h
 
-table_ends : (layers : ℕ) → Ends (effect_at layers) is_end has_ended finishes
+pub table_ends : (layers : ℕ) → Ends (effect_at layers) is_end has_ended finishes
 table_ends layers = record {
   new = refl;
   still = λ earlier form no left. rw (no, left) refl;
@@ -66,7 +66,7 @@ ended_behind : (k : Known) (form : RecordLine) → k.ended ≡ true → effect k
 unfolding effect
 ended_behind k form h = rw h refl
 
-ended_idle : (layers : ℕ) (earlier : List RecordLine) (form : RecordLine) → has_ended earlier ≡ true → IsOk (effect_at layers earlier form) → netlist_of layers (form ∷ earlier) ≡ netlist_of layers earlier
+pub ended_idle : (layers : ℕ) (earlier : List RecordLine) (form : RecordLine) → has_ended earlier ≡ true → IsOk (effect_at layers earlier form) → netlist_of layers (form ∷ earlier) ≡ netlist_of layers earlier
 unfolding probes_of_effect
 ended_idle layers earlier form h ok =
     let judged = ended_behind (known_at layers earlier) form h in
@@ -75,7 +75,7 @@ ended_idle layers earlier form h ok =
     ap (λ (probes : List Probe). record { probes = probes; names = names_of (form ∷ earlier) }) same_probes ∙ ap (λ (name : Option (List ℕ)). record { probes = probes_of layers earlier; names = with_name_if name (names_of earlier) }) nothing.1
 
 -- the end's bytes
-abbrev tells : List ℕ → Bool
+abbrev pub tells : List ℕ → Bool
 tells text = begins text (codes "999")
 
 code_behind : (text : List ℕ) → tells text ≡ true → text ≡ codes "999" ++ drop 3 text
@@ -88,7 +88,7 @@ ends_line : (rest : List ℕ) → form_of (57 ∷ 57 ∷ 57 ∷ rest) ≡ ends
 unfolding form_of coded
 ends_line rest = refl
 
-told_ends : (text : List ℕ) → tells text ≡ true → form_of text ≡ ends
+pub told_ends : (text : List ℕ) → tells text ≡ true → form_of text ≡ ends
 told_ends text h = ap form_of (code_behind text h) ∙ ends_line (drop 3 text)
 
 -- and only they are read so
@@ -109,11 +109,11 @@ code_of_end : (b : Bool) (other : RecordLine) → is_end other ≡ false → is_
 code_of_end true other silent h = refl
 code_of_end false other silent h = cc
 
-neither : (b : Bool) (x y : RecordLine) → is_end x ≡ false → is_end y ≡ false → is_end (if b then x else y) ≡ false
+pub neither : (b : Bool) (x y : RecordLine) → is_end x ≡ false → is_end y ≡ false → is_end (if b then x else y) ≡ false
 neither true x y first second = first
 neither false x y first second = second
 
-ends_told : (text : List ℕ) → is_end (form_of text) ≡ true → tells text ≡ true
+pub ends_told : (text : List ℕ) → is_end (form_of text) ≡ true → tells text ≡ true
 unfolding form_of coded
 ends_told text h =
     let continued = begins text (codes "017") || begins text (codes "027") in
@@ -127,7 +127,7 @@ ends_told text h =
     code_of_end (tells text) (if continued then continues else (if test then tests (fields_in text) else (if is_other text then unread else unknown))) further of_code
 
 -- a prefix of a line with these bytes, and a line with a carriage return behind
-reach : List ℕ → ℕ
+unfoldable pub reach : List ℕ → ℕ
 reach text = 3
 
 long_code : (text : List ℕ) → tells text ≡ true → 3 ≤ length text
@@ -143,7 +143,7 @@ return_tells (a ∷ []) h = absurd (let l = long_code (a ∷ 13 ∷ []) h in ome
 return_tells (a ∷ b ∷ []) h = absurd (let third : 13 ≡ 57 = ap (λ (xs : List ℕ). get_or xs 2 0) (code_behind (a ∷ b ∷ 13 ∷ []) h) in omega (arith, third))
 return_tells (a ∷ b ∷ c ∷ text) h = h
 
-code_tells_end : TellsEnd tells reach
+pub code_tells_end : TellsEnd tells reach
 unfolding reach
 code_tells_end = record {
   whole = long_code;

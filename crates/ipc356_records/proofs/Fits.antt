@@ -159,7 +159,7 @@ step layers earlier (tests fields) e some f ok o = tested_fit layers earlier fie
 step layers earlier unknown e some f ok o = absurd o
 step layers earlier finishes e some f ok o = still layers earlier finishes e f ok (no_probes (known_at layers earlier) e stays o refl) refl refl
 
-fit : (layers : ℕ) → 1 ≤ layers → (earlier : List RecordLine) → Clean (effect_at layers) earlier → Fit layers earlier
+pub fit : (layers : ℕ) → 1 ≤ layers → (earlier : List RecordLine) → Clean (effect_at layers) earlier → Fit layers earlier
 fit layers some [] clean = record { lawful = λ i d below. absurd (omega arith); records = omega arith; names = omega arith; probes = omega arith }
 fit layers some (form ∷ earlier) clean = by (effect (known_at layers earlier) form) refl clean.0 (fit layers some earlier clean.1)
   where

@@ -2,10 +2,10 @@ pub mod KindNumbers
 mod NumberLemmas
 mod WordLemmas
 mod NameLemmas
-mod Outcome
-mod Bridge
+pub mod Outcome
+pub mod Bridge
 pub mod OneAnswer
-mod Ending
+pub mod Ending
 mod ReadSoFar
 pub mod Fits
 pub mod Written

@@ -7,17 +7,17 @@
 //! `file_reading` says for all files. The laws over the definitions stand in `laws`.
 #![tactic(auto)]
 
-mod blanks;
+pub mod blanks;
 mod effect;
 mod kind;
 pub mod laws;
-mod line;
+pub mod line;
 mod names;
-mod netlist;
-mod reader;
+pub mod netlist;
+pub mod reader;
 mod record;
 mod record_effects;
-mod record_lines;
+pub mod record_lines;
 
 pub use kind::{RecordFault, RecordKind};
 pub use names::NameTable;

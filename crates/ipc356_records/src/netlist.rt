@@ -33,8 +33,12 @@ fn fault_at(halt: Halt<RecordKind>, line: u32) -> RecordFault
     }
 }
 
-// Obeys a line of this number.
-fn obey_at<'a>(reader: &mut Reader<'a>, form: &RecordLine<'a>, line: u32) -> Result<(), RecordFault>
+/// Obeys a line of this number.
+pub fn obey_at<'a>(
+    reader: &mut Reader<'a>,
+    form: &RecordLine<'a>,
+    line: u32,
+) -> Result<(), RecordFault>
     requires lawful { IsLawfulReader reader.old }
     requires form { IsLawfulForm (view form.now) }
     ensures ok { OnOk result (Obeys reader.old (view form.now) reader.new) }
@@ -44,8 +48,8 @@ fn obey_at<'a>(reader: &mut Reader<'a>, form: &RecordLine<'a>, line: u32) -> Res
     reader.obey(form).map_err(|halt| fault_at(halt, line))
 }
 
-// Obeys the file's end, and gives the netlist.
-fn finished(alloc: Global, mut reader: Reader, line: u32) -> Result<Netlist, RecordFault>
+/// Obeys the file's end, and gives the netlist.
+pub fn finished(alloc: Global, mut reader: Reader, line: u32) -> Result<Netlist, RecordFault>
     requires lawful { IsLawfulReader reader }
     ensures ok { IfOk result (λ n. Leaves reader.entry finishes n.probes n.names) }
     ensures fault { IfErr result (Faults reader.entry finishes line) }

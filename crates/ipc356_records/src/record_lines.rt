@@ -14,7 +14,7 @@ use crate::record::Record;
 use lengths::decimal::{Unit, small_value};
 use texts::{all_digits, begins, is_blank, is_word, without_front};
 
-fn all_blank(text: &[u8]) -> bool
+pub fn all_blank(text: &[u8]) -> bool
     ensures { result ≡ list_all blank text.now }
 {
     text.iter().all(|byte| is_blank(*byte))
@@ -121,7 +121,7 @@ fn coordinate_in(line: &Record, letter: u8, at: usize) -> Option<Coordinate>
 }
 
 #[tactic(auto, unfolding(crate::specs::RecordLines::fields_in))]
-fn fields_in<'a>(line: &Record<'a>) -> TestFields<'a>
+pub fn fields_in<'a>(line: &Record<'a>) -> TestFields<'a>
     ensures value { view_fields result ≡ spec.fields_in line.now.text.now }
     ensures lawful { IsName (option_copied result.name) }
 {

@@ -48,7 +48,7 @@ crossed p earlier n from to e o =
     rw (across, up) refl
 
 -- the settings behind a line are found by looking back from the next
-settings-push : (p : Place) (earlier : List DrillLine) (n : ℕ) (f : DrillLine) (e : Effect) → Outcome (known_with p earlier n) f e → after (settings_at earlier) f e ≡ settings_at (f ∷ earlier)
+pub settings-push : (p : Place) (earlier : List DrillLine) (n : ℕ) (f : DrillLine) (e : Effect) → Outcome (known_with p earlier n) f e → after (settings_at earlier) f e ≡ settings_at (f ∷ earlier)
 settings-push p earlier n (form.Rout to) e o = let at = o.goes.there (record { x = x_at earlier; y = y_at earlier }) ∙ led earlier to o.to o.leads in rw at refl
 settings-push p earlier n (form.Straight to) e o = let at = o.goes.there (record { x = x_at earlier; y = y_at earlier }) ∙ led earlier to o.to o.leads in rw at refl
 settings-push p earlier n (form.Hit to) e o = let at = o.goes.there (record { x = x_at earlier; y = y_at earlier }) ∙ led earlier to o.to o.leads in rw at refl
@@ -71,7 +71,7 @@ kept old new earlier e h plain t = subst (λ (s : Tools). HasTools s earlier) (s
 idle : (e : Effect) → e ≡ stays → IsPlain e
 idle e h = subst IsPlain (sym h) tt
 
-tools-push : (old new : Tools) (p : Place) (earlier : List DrillLine) (n : ℕ) (f : DrillLine) (e : Effect) → HasTools old earlier → Outcome (known_with p earlier n) f e → Turns old e new → HasTools new (f ∷ earlier)
+pub tools-push : (old new : Tools) (p : Place) (earlier : List DrillLine) (n : ℕ) (f : DrillLine) (e : Effect) → HasTools old earlier → Outcome (known_with p earlier n) f e → Turns old e new → HasTools new (f ∷ earlier)
 tools-push old new p earlier n (form.Tool k d) e h o t =
     let adds : Adds old new k o.size = subst (λ (g : Effect). Turns old g new) o.is t in
     record {

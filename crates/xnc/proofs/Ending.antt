@@ -28,11 +28,11 @@ use Rattle.xnc.specs.DrillFile.{item_of, items, IsRead, IsRefused}
 use Rattle.xnc.specs.Laws.{IsEndLine, PrefixIsRefused, end_of}
 use Rattle.xnc.proofs.OneAnswer.{one_answer}
 
-abbrev is_end : DrillLine → Bool
+abbrev pub is_end : DrillLine → Bool
 is_end form.End = true
 is_end other = false
 
-abbrev has_ended : List DrillLine → Bool
+abbrev pub has_ended : List DrillLine → Bool
 has_ended earlier = is_ended (stage_at earlier)
 
 ends_of : (f : DrillLine) → is_end f ≡ true → f ≡ form.End
@@ -40,14 +40,14 @@ ends_of form.End h = refl
 ends_of other h = cc
 
 -- what the table says of the end
-staged_ended : (s : Stage) (k : Known) (f : DrillLine) → is_ended s ≡ true → IsOk (staged s k f) → ⊥
+pub staged_ended : (s : Stage) (k : Known) (f : DrillLine) → is_ended s ≡ true → IsOk (staged s k f) → ⊥
 unfolding staged
 staged_ended Opening k f h ok = cc
 staged_ended Header k f h ok = cc
 staged_ended Body k f h ok = cc
 staged_ended Ended k f h ok = cc
 
-still : (earlier : List DrillLine) (f : DrillLine) → is_end f ≡ false → has_ended earlier ≡ false → has_ended (f ∷ earlier) ≡ false
+pub still : (earlier : List DrillLine) (f : DrillLine) → is_end f ≡ false → has_ended earlier ≡ false → has_ended (f ∷ earlier) ≡ false
 still earlier form.Start h not = refl
 still earlier form.HeaderEnd h not = refl
 still earlier form.End h not = cc
@@ -116,7 +116,7 @@ table_ends p = record {
 }
 
 -- a line of no known form has a fault wherever it stands
-unknown_fault : (s : Stage) (k : Known) → IsOk (staged s k form.Unknown) → ⊥
+pub unknown_fault : (s : Stage) (k : Known) → IsOk (staged s k form.Unknown) → ⊥
 unfolding staged header body
 unknown_fault Opening k ok = cc
 unknown_fault Header k ok = cc
@@ -128,13 +128,13 @@ unfolding effect
 not_unknown p earlier ok = unknown_fault (stage_at earlier) (known_at p earlier) ok
 
 -- texts that begin with `M30` behind their blanks
-abbrev tells : List ℕ → Bool
+abbrev pub tells : List ℕ → Bool
 tells text = begins (without_front text) (codes "M30")
 
-abbrev reach : List ℕ → ℕ
+abbrev pub reach : List ℕ → ℕ
 reach text = prefix_len is_blank text + 3
 
-code_behind : (text : List ℕ) → begins text (codes "M30") ≡ true → text ≡ codes "M30" ++ drop 3 text
+pub code_behind : (text : List ℕ) → begins text (codes "M30") ≡ true → text ≡ codes "M30" ++ drop 3 text
 code_behind text h = (starts_is Decides-eqb text (codes "M30") (begins text (codes "M30")) refl).0 h
 
 code_begins : (text rest : List ℕ) → text ≡ codes "M30" ++ rest → begins text (codes "M30") ≡ true
@@ -181,7 +181,7 @@ return_tells (b ∷ text) h = by (is_blank b) refl (return_tells text)
     by true e more = ap (λ (xs : List ℕ). begins xs (codes "M30")) (front-blank b text e) ∙ more (ap (λ (xs : List ℕ). begins xs (codes "M30")) (sym (front-blank b (text ++ (13 ∷ [])) e)) ∙ h)
     by false e more = ap (λ (xs : List ℕ). begins xs (codes "M30")) (front-other b text e) ∙ return_begins (b ∷ text) (ap (λ (xs : List ℕ). begins xs (codes "M30")) (sym (front-other b (text ++ (13 ∷ [])) e)) ∙ h)
 
-code_tells_end : TellsEnd tells reach
+pub code_tells_end : TellsEnd tells reach
 code_tells_end = record { whole = whole_tells; part = part_tells; returned = return_tells }
 
 -- such a line is the end's, or of no known form
@@ -193,7 +193,7 @@ stops_within p (x ∷ ys) y zs h = by (p x) refl (stops_within p ys y zs h)
     by true e more = rw e (omega (arith, more))
     by false e more = rw e (omega arith)
 
-back_kept : (rest : List ℕ) → (n : ℕ) × (without_back (77 ∷ 51 ∷ 48 ∷ rest) ≡ 77 ∷ 51 ∷ 48 ∷ take n rest)
+pub back_kept : (rest : List ℕ) → (n : ℕ) × (without_back (77 ∷ 51 ∷ 48 ∷ rest) ≡ 77 ∷ 51 ∷ 48 ∷ take n rest)
 back_kept rest =
     let turned : reverse (77 ∷ 51 ∷ 48 ∷ rest) ≡ reverse rest ++ (48 ∷ 51 ∷ 77 ∷ []) = reverse-append (77 ∷ 51 ∷ 48 ∷ []) rest in
     let few : suffix_len is_blank (77 ∷ 51 ∷ 48 ∷ rest) ≤ length (reverse rest) = rw turned (stops_within is_blank (reverse rest) 48 (51 ∷ 77 ∷ []) refl) in
@@ -213,7 +213,7 @@ no_place rest = by (list_any is_g (77 ∷ rest))
     by true = rw (no_place_before rest) refl
     by false = refl
 
-abbrev IsEndOrUnknown : DrillLine → Type 0
+abbrev pub IsEndOrUnknown : DrillLine → Type 0
 IsEndOrUnknown f = (f ≡ form.End) ⊎ (f ≡ form.Unknown)
 
 code_form : (from to : ℕ) (rest : List ℕ) → IsEndOrUnknown (within_blanks from to (77 ∷ 51 ∷ 48 ∷ rest))
@@ -221,7 +221,7 @@ unfolding within_blanks command body_line
 code_form from to [] = inl refl
 code_form from to (c ∷ rest) = inr (no_place (51 ∷ 48 ∷ c ∷ rest))
 
-told_form : (from to : ℕ) (text : List ℕ) → tells text ≡ true → IsEndOrUnknown (form_of from to text)
+pub told_form : (from to : ℕ) (text : List ℕ) → tells text ≡ true → IsEndOrUnknown (form_of from to text)
 unfolding form_of
 told_form from to text h =
     let kept = back_kept (drop 3 (without_front text)) in
@@ -233,7 +233,7 @@ past : (b : Bool) (x y : DrillLine) → is_end x ≡ false → is_end (if b then
 past true x y silent h = cc
 past false x y silent h = h
 
-neither : (b : Bool) (x y : DrillLine) → is_end x ≡ false → is_end y ≡ false → is_end (if b then x else y) ≡ false
+pub neither : (b : Bool) (x y : DrillLine) → is_end x ≡ false → is_end y ≡ false → is_end (if b then x else y) ≡ false
 neither true x y first second = first
 neither false x y first second = second
 
@@ -250,7 +250,7 @@ no_slots (Some from) (Some to) = refl
 no_slots (Some from) None = refl
 no_slots None to = refl
 
-no_defines : (n : Option ℕ) (d : Option Fraction) → is_end (defines n d) ≡ false
+pub no_defines : (n : Option ℕ) (d : Option Fraction) → is_end (defines n d) ≡ false
 no_defines (Some n) (Some d) = refl
 no_defines (Some n) None = refl
 no_defines None d = refl
@@ -298,7 +298,7 @@ unfolding within_blanks
 ends_within from to [] h = cc
 ends_within from to (c ∷ text) h = (slice_eq-Decides Decides-eqb (c ∷ text) (codes "M30") (is_word (c ∷ text) (codes "M30")) refl).0 (ends_command (c ∷ text) (past (c == 59) (comment from to (c ∷ text)) (command (c ∷ text)) (no_comment from to (c ∷ text)) h))
 
-ends_told : (from to : ℕ) (text : List ℕ) → is_end (form_of from to text) ≡ true → tells text ≡ true
+pub ends_told : (from to : ℕ) (text : List ℕ) → is_end (form_of from to text) ≡ true → tells text ≡ true
 unfolding form_of
 ends_told from to text h =
     let w = without_front text in

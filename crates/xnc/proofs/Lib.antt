@@ -4,7 +4,7 @@ pub mod LawfulAfter
 mod Fronts
 pub mod Numbers
 pub mod OneAnswer
-mod Ending
+pub mod Ending
 pub mod Outcome
 mod Places
 pub mod Placing

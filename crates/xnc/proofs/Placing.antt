@@ -20,7 +20,7 @@ use Rattle.xnc.specs.DrillFile.{IsRead}
 use Rattle.xnc.proofs.Outcome.{bind_ok, past_test, no_ok, placed, outcome}
 
 -- a barrel has room
-abbrev HasRoom : Known → Effect → Type 0
+abbrev pub HasRoom : Known → Effect → Type 0
 HasRoom k stays = Unit {0}
 HasRoom k (makes n d) = Unit {0}
 HasRoom k (moves to) = Unit {0}
@@ -65,7 +65,7 @@ slot_room k from to e h =
     let t = bind_ok (target k.settings.unit f.0 to) (λ to. barrel k f.0 to) e f.2 in
     barrel_room k f.0 t.0 e t.2
 
-effect_room : (k : Known) (f : DrillLine) (e : Effect) → effect k f ≡ Ok e → HasRoom k e
+pub effect_room : (k : Known) (f : DrillLine) (e : Effect) → effect k f ≡ Ok e → HasRoom k e
 unfolding effect header body
 effect_room k (form.Tool n d) e h = let made = outcome k (form.Tool n d) e h in subst (λ x. HasRoom k x) (sym made.is) tt
 effect_room k (form.Rout to) e h = placed (HasRoom k e) k.settings.stage k (form.Rout to) e (λ s t. cc) (λ t. absurd (no_ok kind.BadLine e t)) (λ t. rout_room k to e (past_test k.settings.down kind.WrongMode (rout k to) e t)) h
@@ -75,7 +75,7 @@ effect_room k (form.Slot from to) e h = placed (HasRoom k e) k.settings.stage k 
 effect_room k other e h = stays_room k e (outcome k other e h)
 
 -- a piece more, where there is room for it
-one_more : (p : Place) (k : Known) (n : ℕ) (r : Result Effect DrillKind) → IsOk r → ((e : Effect) → r ≡ Ok e → HasRoom k e) → k.pieces ≤ k.room → k.pieces + length (piece_of p n r) ≤ k.room
+pub one_more : (p : Place) (k : Known) (n : ℕ) (r : Result Effect DrillKind) → IsOk r → ((e : Effect) → r ≡ Ok e → HasRoom k e) → k.pieces ≤ k.room → k.pieces + length (piece_of p n r) ≤ k.room
 one_more p k n (Ok stays) ok room few = omega arith
 one_more p k n (Ok (makes m d)) ok room few = omega arith
 one_more p k n (Ok (moves to)) ok room few = omega arith
@@ -91,10 +91,10 @@ few_barrels p (f ∷ earlier) clean =
     rw (length-append (barrels_at p earlier) (piece_of p (length earlier + 1) (effect k f))) fits
 
 -- the piece is on the layers of the span
-abbrev InSpan : Place → PlainPiece → Type 0
+abbrev pub InSpan : Place → PlainPiece → Type 0
 InSpan p piece = (piece.top ≡ p.from) × (piece.bottom ≡ p.to)
 
-piece_spans : (p : Place) (n : ℕ) (r : Result Effect DrillKind) → All (InSpan p) (piece_of p n r)
+pub piece_spans : (p : Place) (n : ℕ) (r : Result Effect DrillKind) → All (InSpan p) (piece_of p n r)
 piece_spans p n (Ok stays) = All-nil (InSpan p)
 piece_spans p n (Ok (makes m d)) = All-nil (InSpan p)
 piece_spans p n (Ok (moves to)) = All-nil (InSpan p)
@@ -107,7 +107,7 @@ barrels_span p [] = All-nil (InSpan p)
 barrels_span p (f ∷ earlier) = All-append (InSpan p) (barrels_at p earlier) (piece_of p (length earlier + 1) (effect (known_at p earlier) f)) (barrels_span p earlier) (piece_spans p (length earlier + 1) (effect (known_at p earlier) f))
 
 -- what holds of each of the plain pieces holds of the pieces
-each_piece : (p : Place) (pieces : List (Placed Shape)) → All (InSpan p) (plain_pieces pieces) → All (λ q. (q.top ≡ p.from) × (q.bottom ≡ p.to)) pieces
+pub each_piece : (p : Place) (pieces : List (Placed Shape)) → All (InSpan p) (plain_pieces pieces) → All (λ q. (q.top ≡ p.from) × (q.bottom ≡ p.to)) pieces
 each_piece p pieces h = λ i d below. subst (InSpan p) (get_or-map plain_piece pieces i d (plain_piece d) below) (h i (plain_piece d) (rw (length-map pieces plain_piece) below))
 
 pub few_read : {E V : Type 0} (items : V → List (Placed Shape)) (r : Result V E) (file : List ℕ) (p : Place) → IfOk r (λ v. IsRead file p (plain_pieces (items v))) → IfOk r (λ v. length (items v) ≤ p.room)

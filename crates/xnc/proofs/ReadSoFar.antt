@@ -42,7 +42,7 @@ nothing-read file p r n = record {
   };
 }
 
-is_ok : (k k' : Known) (f : DrillLine) (e : Effect) → k ≡ k' → effect k f ≡ Ok e → IsOk (effect k' f)
+pub is_ok : (k k' : Known) (f : DrillLine) (e : Effect) → k ≡ k' → effect k f ≡ Ok e → IsOk (effect k' f)
 is_ok k k' f e same h = let g : effect k' f ≡ Ok e = subst (λ (t : Known). effect t f ≡ Ok e) same h in rw g refl
 
 -- what lies ahead are these lines

@@ -22,7 +22,7 @@ fn is_number(text: &[u8], number: u8) -> bool
     }
 }
 
-fn names_span(span: Span, fields: &[u8]) -> bool
+pub fn names_span(span: Span, fields: &[u8]) -> bool
     ensures { result ≡ spec.names_span span.from span.to fields.now }
 {
     is_number(before_byte(fields, b','), span.from)
@@ -148,7 +148,7 @@ fn place_line(text: &[u8]) -> DrillLine
 
 // A tool's number.
 #[tactic(auto, unfolding(crate::specs::DrillLines::tool_number))]
-fn tool_number(digits: &[u8]) -> Option<u32>
+pub fn tool_number(digits: &[u8]) -> Option<u32>
     ensures { result ≡ spec.tool_number digits.now }
 {
     if digits.is_empty() || digits.len() > 4 || !all_digits(digits) {
@@ -161,7 +161,7 @@ fn tool_number(digits: &[u8]) -> Option<u32>
     Some(number)
 }
 
-fn defines(number: Option<u32>, diameter: Option<Decimal>) -> DrillLine
+pub fn defines(number: Option<u32>, diameter: Option<Decimal>) -> DrillLine
     ensures { result ≡ spec.defines number diameter }
 {
     match (number, diameter) {

@@ -9,13 +9,13 @@
 
 mod drill_effects;
 mod drill_file;
-mod drill_lines;
+pub mod drill_lines;
 mod effect;
 mod kind;
 pub mod laws;
-mod line;
-mod reader;
-mod settings;
+pub mod line;
+pub mod reader;
+pub mod settings;
 mod span;
 mod tools;
 

@@ -1,0 +1,5 @@
+use Rattle.drill_forms.proofs.OneAnswer.{one_answer}
+use Rattle.drill_forms.proofs.laws.one_answer.Goals as goal
+
+pub returns : goal.returns
+returns c = one_answer

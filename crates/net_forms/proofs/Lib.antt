@@ -1,0 +1,4 @@
+pub mod OneAnswer
+pub mod ReadSoFar
+pub mod Same
+pub mod Ending
