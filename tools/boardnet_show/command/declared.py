@@ -16,7 +16,9 @@ from boardnet_show.intake.package import DECLARATIONS, Drilled, Sorted, Taken
 
 OPTION, HINTS = "--with", "--take-hints"
 NETLIST, NO_HOLES = "the netlist", Taken("the board", "without plated holes")
-NONE_TAKEN = "no hint is taken, since none agrees, or several do that are not one"
+NONE_TAKEN = (
+    "no hint is taken, since none agrees, or several do that are not one, or another fits as well that does not"
+)
 LISTS, WHOLE = ("moved", "files", "order"), ("decimals", "digits", "from", "to")
 
 
@@ -181,8 +183,11 @@ def made(files, its: Declarations, digits: Sequence[Declaration]) -> List[Declar
 
 
 def agreeing(hints: Sequence[Hint]) -> Tuple[Change, ...]:
-    """The changes of the one hint that agrees; nothing where none does, or several that are not one."""
-    found = {hint.changes for hint in hints if hint.answer.status == 0 and hint.changes}
+    """The changes of the one hint that agrees; nothing where none does, or several that are not one, or where another
+    change than one of them fits about as well and has another answer."""
+    unknown = {hint.change for hint in hints if hint.rival}
+    agree = [hint.changes for hint in hints if hint.answer.status == 0 and hint.changes]
+    found = {changes for changes in agree if not unknown & set(changes)}
     return found.pop() if len(found) == 1 else ()
 
 

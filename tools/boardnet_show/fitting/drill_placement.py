@@ -13,10 +13,9 @@ from boardnet_show.formats.units import decimal_millimetres
 
 from .changes import CopperPlaced, DrillsPlaced
 from .layer_order import is_near, near_cells
-from .placement import ENOUGH, FORMS, MANY, SAMPLE, all_flashes, moved, records, text_of, unit_of, vote
+from .placement import FORMS, MANY, SAMPLE, all_flashes, moved, records, text_of, unit_of, vote
 
 STEP = 10_000  # a micrometre: what shifts of holes are rounded to
-TRIED = 4  # shifts of one file
 # The form that takes a form back, by its number.
 BACK = (0, 1, 2, 3, 5, 4, 6, 7)
 
@@ -76,7 +75,7 @@ class Holes:
         ]
 
     def candidates(self, names):
-        """(form, shift in u) that bring most holes of these files onto pads, the likeliest first."""
+        """(share of the votes, form, shift in u) that bring most holes of these files onto pads, the likeliest first."""
         holes = sorted({hole for name in names for hole in self.of[name]})
         sample, centres, found = holes[:: max(1, len(holes) // SAMPLE)][:SAMPLE], sorted(self.pads), []
         for turn, (_, form) in enumerate(FORMS if len(centres) <= MANY else FORMS[:1]):
@@ -84,9 +83,8 @@ class Holes:
                 (-Q(n, len(sample)), turn > 0, turn, tuple(v * STEP for v in by))
                 for n, by in vote(sample, centres, form, STEP)
             ]
-            if -min(found)[0] > ENOUGH:
-                break
-        return [(turn, by) for _, _, turn, by in sorted(found) if (turn, by) != (0, (0, 0))][:TRIED]
+        moves = dict.fromkeys((-less, turn, by) for less, _, turn, by in sorted(found))
+        return [(share, turn, by) for share, turn, by in moves if (turn, by) != (0, (0, 0))]
 
     def files(self, names, turn, by):
         """These drill files moved, or None."""
@@ -95,11 +93,11 @@ class Holes:
 
 
 def moved_drills(holes, names):
-    """(change, changed files) for drill files that do not lie on the copper's pads."""
-    for turn, by in holes.candidates(names):
+    """(share of the votes, change, changed files) for drill files that do not lie on the copper's pads."""
+    for share, turn, by in holes.candidates(names):
         files = holes.files(names, turn, by)
         if files:
-            yield DrillsPlaced(tuple(names), len(names) == len(holes.of), turn, by), files
+            yield share, DrillsPlaced(tuple(names), len(names) == len(holes.of), turn, by), files
 
 
 # ---- the copper, moved: where netlist and drills fit each other, both go the other way
@@ -114,15 +112,15 @@ def fit_each_other(package, holes):
 
 
 def moved_copper(package, holes):
-    """(change, changed files) for copper that lies elsewhere than netlist and drills."""
+    """(share of the votes, change, changed files) for copper that lies elsewhere than netlist and drills."""
     name, names = package.manifest.netlist, list(holes.of)
     text = text_of(package, name)
     unit = unit_of(text)
-    for turn, by in holes.candidates(names):
+    for share, turn, by in holes.candidates(names):
         steps = [round(Q(v, unit)) for v in by]
         netlist = moved(text, FORMS[turn][1], steps)
         shift = tuple(v * unit for v in steps)
         files = holes.files(names, turn, shift)
         if netlist is not None and files:
             back = FORMS[BACK[turn]][1](*(-v for v in shift))
-            yield CopperPlaced(BACK[turn], back), {name: netlist.encode("latin-1"), **files}
+            yield share, CopperPlaced(BACK[turn], back), {name: netlist.encode("latin-1"), **files}

@@ -3,6 +3,7 @@
 A hint says what was changed and the answer; nothing is told that was not tried, the user's files are not touched, and the board's
 status stays what it is.
 """
+from fractions import Fraction as Q
 from functools import partial
 from typing import NamedTuple, Optional, Tuple, Union
 
@@ -19,15 +20,24 @@ from .changes import Change, NowherePlaced
 from .layer_order import as_labelled, layerings
 from .placement import placements
 
-TRIED = 4  # placements that are checked, at most
+TRIED = 4  # placements that are checked until one agrees, at most
+MOST_RIVALS = 12  # and then of those that fit about as well
+ALIKE = Q(95, 100)  # of the votes, or of the points on copper, that a placement has that fits about as well
 NOWHERE = "no placement"
 UPSIDE_DOWN = 2  # the turn of `placement.FORMS` that a tool's setting makes
+
+
+class Rival(NamedTuple):
+    """Another change that fits about as well and has another answer, or none where it was not tried."""
+
+    change: Change
+    answer: Optional[answers.Answer] = None
 
 
 class Hint(NamedTuple):
     """What was changed and what `check` says then. `changes` are all that were made in that copy, in their order, this
     one the last; `setting` is the tool's that would make it so; `explains` says that it leaves less than half of the
-    findings."""
+    findings; with a `rival` it is not known whether it is right."""
 
     kind: str
     change: Union[Change, NowherePlaced]
@@ -36,6 +46,7 @@ class Hint(NamedTuple):
     setting: str = ""
     is_besides: bool = False
     explains: bool = False
+    rival: Optional[Rival] = None
 
 
 class Trial(NamedTuple):
@@ -59,6 +70,17 @@ class Trial(NamedTuple):
     def rank(self) -> Tuple[int, int]:
         opens, shorts, missing, parted = self.ties.counts(self.report)
         return missing, opens + shorts + parted
+
+    def is_rival(self, other: "Trial", base: "Trial") -> bool:
+        """Whether it has other faults than another, about as many points with copper, and no so many faults, for what
+        was changed, that it cannot be meant."""
+        most = max(other.missing(), (1 - ALIKE) * len(self.report.points))
+        is_better = base.report is None or self.leaves_little_of(base)
+        return self.rank() != other.rank() and self.missing() <= most and is_better and not self.is_wanting()
+
+    def leaves_little_of(self, base: "Trial") -> bool:
+        """Whether it has less than half of the faults of another."""
+        return sum(self.rank()) * 2 < sum(base.rank())
 
     def is_misplaced(self) -> bool:
         """More than one point of ten has no copper."""
@@ -124,8 +146,36 @@ class Trials:
             return Trial(base.package, answers.stopped(stop))
 
 
-def hint(kind, trial, words=""):
-    return Hint(kind, trial.changes[-1], trial.answer, trial.changes, words)
+def hint(kind, trial, words="", rival=None):
+    return Hint(kind, trial.changes[-1], trial.answer, trial.changes, words, rival=rival)
+
+
+class Likely:
+    """Copies by likely changes, each with its share of the votes, the most first: tried until one agrees, and then all
+    that have nearly as many. `found` are the trials with a report."""
+
+    def __init__(self, trials, base, changes):
+        self.base, self.found, self.unseen, least = base, [], None, None
+        for number, (share, change, files) in enumerate(changes):
+            if share < (least or 0) or least is None and number >= TRIED:
+                break
+            if number >= TRIED + MOST_RIVALS:
+                self.unseen = Rival(change)
+                break
+            answer = trials.of(base, change, files)
+            self.found += [answer] if answer.report else []
+            if answer.status == 0 and least is None:
+                least = share * ALIKE
+
+    def best(self):
+        """The trial with the fewest faults, or None."""
+        return min(self.found, key=Trial.rank, default=None)
+
+    def rival(self):
+        """What fits about as well as the best, with other faults, or None."""
+        best = self.best()
+        rivals = (it for it in self.found if it.is_rival(best, self.base))
+        return next((Rival(it.changes[-1], it.answer) for it in rivals), self.unseen)
 
 
 def decimals(trials, base):
@@ -133,10 +183,13 @@ def decimals(trials, base):
     agree."""
     from .drill_decimals import implied
 
-    for change, files, on in implied(base.package):
-        answer = trials.of(base, change, files)
-        if answer.report and (on or answer.status == 0):
-            yield hint("decimals", answer), answer
+    found = [(on, trials.of(base, change, files)) for change, files, on in implied(base.package)]
+    found = [(on, answer) for on, answer in found if answer.report]
+    for on, answer in found:
+        rivals = (it for many, it in found if many >= on * ALIKE and it.is_rival(answer, base))
+        rival = next((Rival(it.changes[-1], it.answer) for it in rivals), None)
+        if on or answer.status == 0:
+            yield hint("decimals", answer, rival=rival), answer
 
 
 def labelled(trials, base):
@@ -173,16 +226,13 @@ def coded(trials, base):
 
 
 def best(trials, base, kind, changes, names):
-    """The best of some changes, tried until one agrees, where it leaves fewer faults."""
-    found = None
-    for (change, files), _ in zip(changes, range(TRIED)):
-        answer = trials.of(base, change, files)
-        if answer.report and answer.rank() < (found[1] if found else base).rank():
-            wanted = "mirrored drills" if kind == "drills" and change.turn == UPSIDE_DOWN else kind
-            found = hint(kind, answer, setting(base.package, wanted, names)), answer
-        if answer.status == 0:
-            break
-    return [found] if found else []
+    """The best of some changes, where it leaves fewer faults."""
+    likely = Likely(trials, base, changes)
+    answer = likely.best()
+    if answer is None or answer.rank() >= base.rank():
+        return []
+    wanted = "mirrored drills" if kind == "drills" and answer.changes[-1].turn == UPSIDE_DOWN else kind
+    return [(hint(kind, answer, setting(base.package, wanted, names), likely.rival()), answer)]
 
 
 def drills(trials, base):
@@ -224,18 +274,11 @@ def copper(trials, base):
 
 
 def best_placement(trials, base):
-    """The best of the likeliest placements, tried until one agrees."""
-    found, without = None, trials.holes(base.package).off
-    for (change, files), _ in zip(placements(base.package, without), range(TRIED)):
-        answer = trials.of(base, change, files)
-        if answer.report and (found is None or answer.rank() < found[1].rank()):
-            found = (
-                hint("placement", answer, setting(base.package, "placement", base.package.manifest.copper[:1])),
-                answer,
-            )
-        if answer.status == 0:
-            break
-    return found
+    """The best of the likeliest placements, or None."""
+    likely = Likely(trials, base, placements(base.package, trials.holes(base.package).off))
+    answer = likely.best()
+    words = setting(base.package, "placement", base.package.manifest.copper[:1]) if answer else ""
+    return (hint("placement", answer, words, likely.rival()), answer) if answer else None
 
 
 def nowhere(base, best):
@@ -294,7 +337,7 @@ def all_hints(program, told, ties):
                 base = min((answer for _, answer in found), key=Trial.rank)
     if base.report and base.status:
         for found, answer in fitted(trials, base):
-            yield found._replace(explains=found.kind != NOWHERE and sum(answer.rank()) * 2 < sum(base.rank()))
+            yield found._replace(explains=found.kind != NOWHERE and answer.leaves_little_of(base))
 
 
 def explain(found):

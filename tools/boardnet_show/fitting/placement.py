@@ -112,7 +112,8 @@ def middle(counts):
 
 
 def vote(sample, centres, form, unit):
-    """The shifts, in units, that bring most sampled places, in u, onto a centre: (votes, shift), the best two."""
+    """The shifts, in units, that bring most sampled places, in u, onto a centre: (votes, shift), the best two and those
+    with as many votes."""
     turned = [form(x, y) for x, y in sample]
     votes = counted(turned, centres, unit)
     around = lambda c: sum(votes[coded(c[0] + i, c[1] + j)] for i in (0, 1) for j in (0, 1))
@@ -120,7 +121,7 @@ def vote(sample, centres, form, unit):
         ((around(cell), cell) for cell in most_voted(votes, turned, centres, unit)), key=lambda v: (-v[0], v[1])
     )
     near = Near(centres, 2 * unit)
-    for n, cell in best[:2]:
+    for n, cell in best[:2] + [row for row in best[2:] if row[0] == best[0][0]]:
         yield n, settled(turned, near, cell, unit)
 
 
@@ -208,19 +209,19 @@ def votes(package, text, declared, without=()):
 
 
 def placements(package, without):
-    """(change, changed files), the likeliest first; among equal votes the fewest changes first. Holes of some files
-    have no vote."""
+    """(share of the votes, change, changed files), the likeliest first; among equal votes the fewest changes first.
+    Holes of some files have no vote."""
     name = package.manifest.netlist
     text = text_of(package, name)
     declared = unit_of(text)
     if declared is None or not records(text):
         return
     seen = {(0, 0, (0, 0))}
-    for _, (other, turn, by) in votes(package, text, declared, without):
+    for (less, _), (other, turn, by) in votes(package, text, declared, without):
         changed = None if (other, turn, by) in seen else moved(text, FORMS[turn][1], by)
         seen.add((other, turn, by))
         if changed is not None:
             unit = sum(UNIT_WORDS) - declared if other else declared
             change = NetlistPlaced(unit if other else None, turn, (by[0] * unit, by[1] * unit))
             data = changed.encode("latin-1")
-            yield change, {name: ipc356.in_other_unit(data) if other else data}
+            yield -less, change, {name: ipc356.in_other_unit(data) if other else data}

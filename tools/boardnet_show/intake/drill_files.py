@@ -1,7 +1,7 @@
 """Drill files: plated or not, and the layers that their holes span."""
 import re
 
-from boardnet_show.formats.drills.drill_plating import Plating, unplated_hole
+from boardnet_show.formats.drills.drill_plating import Plating, in_both_ways, unplated_hole
 
 from .file_names import Refused, shown
 
@@ -45,8 +45,18 @@ def of_attribute(name, function, data):
     return Drills(name, (int(fields[1]), int(fields[2]))), ""
 
 
+def need_one_kind(name, data):
+    """Refuses a file with a word that says of holes that they are plated and that they are not."""
+    found = in_both_ways(data)
+    if found:
+        raise Refused(
+            f"{name}: line {found.line}, `{shown(found.words)}`, says that holes are plated and that they are not: {APART}"
+        )
+
+
 def of(name, data):
     """What a drill file is: a file of plated holes, or a reason to leave it out."""
+    need_one_kind(name, data)
     plating, line = Plating(data), unplated_hole(data)
     if line and not plating.is_unplated_alone():
         raise Refused(
@@ -67,8 +77,9 @@ def of(name, data):
     return Drills(name, *by_other_evidence(name, plating)), ""
 
 
-def of_gerber(name, said):
+def of_gerber(name, said, data):
     """What a drill file in the Gerber format is, by its file functions."""
+    need_one_kind(name, data)
     if len(said) > 1:
         raise Refused(f"{name} has several attributes TF.FileFunction ({'; '.join(map(shown, sorted(said)))}): {APART}")
     return of_attribute(name, said[0], b"")

@@ -81,7 +81,7 @@ class Package:
             self.layers.append(layer)
             self.origins.setdefault(copper_layers.origin_of(data), name)
         elif function.startswith(("Plated,", "NonPlated,", "MixedPlating,")):
-            found, why = drill_files.of_gerber(name, said)
+            found, why = drill_files.of_gerber(name, said, data)
             self.add_drills(name, found, why)
             if found:
                 self.origins.setdefault(copper_layers.origin_of(data), name)

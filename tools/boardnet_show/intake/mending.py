@@ -5,7 +5,7 @@ from typing import Optional
 
 from boardnet_show.base.refusals import Advice, Refusal
 from boardnet_show.base.statuses import REFUSED, UNCLEAR, Stop
-from boardnet_show.formats.drills.drill_plating import unplated_hole, unread_function
+from boardnet_show.formats.drills.drill_plating import in_both_ways, unplated_hole, unread_function
 from boardnet_show.formats.gerber_lexer import may_lack_quadrants
 from boardnet_show.intake.mends import mended_files as mends, netlist_mends
 
@@ -99,6 +99,7 @@ def need_functions(package):
     """Refuses a drill file that says of itself what `check` would refuse, in a form that it passes over."""
     for name, first, last in package.manifest.drills:
         data = bytes_of(package, name)
+        need_one_kind(name, data)
         kind, line = unread_function(data, first, last) or ("", 0)
         if kind:
             place = sum(len(it) + 1 for it in data.split(b"\n")[: line - 1])
@@ -110,6 +111,19 @@ def need_functions(package):
                 f"{name}: {kind} at line {line}, byte {place}, by a form of the file function that `check` passes over"
                 + (f"; to export: {way}" if way else ""),
             )
+
+
+def need_one_kind(name, data):
+    """Refuses a drill file with a word that says of holes that they are plated and that they are not."""
+    found = in_both_ways(data)
+    if found:
+        from . import cad_tools  # as below
+
+        way = cad_tools.way("MixedPlating", cad_tools.tool_of(data))
+        raise Stop(
+            REFUSED,
+            f"{name}: line {found.line}, `{found.words}`, says that holes are plated and that they are not; to export: {way}",
+        )
 
 
 def need_plated(package, drills):

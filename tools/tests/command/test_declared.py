@@ -88,6 +88,20 @@ class Changes(Case):
             out,
         )
 
+    def test_what_fits_as_well(self):
+        """Another placement with as many points on copper and one fault: which is right is not known, and none is taken."""
+        pads = [(2 * k, 0) for k in range(12)]
+        pairs = [made.draw(11, pads[k], pads[k + 1]) for k in range(0, 12, 2)]
+        points = [made.record("ABCDE"[k // 2], f"U{k}.1", 2 * k + 50, 0) for k in range(10)]
+        for tracks, flashed, status in ((pairs[1:], pads, 1), (pairs, pads, 0), (pairs[:5], pads[:10], 0)):
+            copper = made.gerber(*made.flash(10, *flashed), *(line for track in tracks for line in track))
+            self.put({"m.json": made.manifest(), "top.gbr": copper, "n.ipc": made.netlist(*points)})
+            found, out, _ = self.show("board", "--take-hints")
+            self.assertEqual(
+                (found, "which fits about as well, `check` says: differs" in out), (status, status == 1), out
+            )
+            self.assertEqual("which is right is not known" in self.show("board")[1], status == 1)
+
     def test_options(self):
         """Each as a hint says it, by words and as JSON."""
         rows = [

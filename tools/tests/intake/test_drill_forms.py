@@ -1,4 +1,5 @@
 """Drill files in the forms of many writers: each is read as the same 300 holes, hole by hole, and near misses are not read."""
+import os
 import random
 import re
 import unittest
@@ -754,6 +755,8 @@ class GerberDrills(Case):
             ("FSLAX", "FSTAX", "line 2: its format"),
             ("FSLAX", "FSLIX", "format"),
             ("M02*\n", "", "no end"),
+            ("D11*", "M02*\nD11*", "line 16: a hole stands behind its end"),
+            ("D11*", "M00*\nD11*", "line 13: its word M00 is not read"),
             ("%MOMM*%\n", "", "before its unit"),
             ("G75*", "G91*", "not read"),
             ("-300000D01", "-300000", "no code"),
@@ -769,6 +772,48 @@ class GerberDrills(Case):
             self.assertIn(words, str(caught.exception))
 
 
+class BothWays(made.Case):
+    """A word that says of holes that they are plated and that they are not is refused, by its line, in a folder and by a manifest."""
+
+    WORDS = {
+        "TF.FileFunction,Plated,1,2,PTH": False,
+        "TF.FileFunction,Plated,1,2,Blind": False,
+        "TF.FileFunction,Plated,1,2,NPTH": True,
+        "TF.FileFunction,Plated,1,2,NonPlated,Drill": True,
+        "TF.FileFunction,NonPlated,1,2,PTH": True,
+        "TF.FileFunction,NonPlated,1,2,NPTH": False,
+        "TF.FileFunction, plated ,1,2, npth": True,
+        "TA.AperFunction,Plated,NPTH,ViaDrill": True,
+        "TA.AperFunction,NonPlated,NPTH,ComponentDrill": False,
+        "TA.AperFunction,Plated,PTH,ViaDrill": False,
+    }
+
+    def test_words(self):
+        for word, is_both in self.WORDS.items():
+            for text in (f"M48\n; #@! {word}\nT1C0.4\n", f"%FSLAX46Y46*%\n%{word}*%\n", f"M48\n;#@!{word}\r\n"):
+                found = drill_plating.in_both_ways(text.encode())
+                self.assertEqual(found and (found.line, found.words), (2, word) if is_both else None, text)
+
+    def test_shown(self):
+        top, bottom = "%TF.FileFunction,Copper,L1,Top*%\n", "%TF.FileFunction,Copper,L2,Bot*%\n"
+        pads = made.gerber(*made.flash(10, (0, 0), (5, 5)))
+        points = [made.record("A", f"J1.{k}", 5 * k, 5 * k, "00") for k in (0, 1)]
+        files = {"top.gbr": top + made.gerber(*made.flash(10, (0, 0), (5, 5)), *made.draw(11, (0, 0), (5, 5)))}
+        files = {**files, "bot.gbr": bottom + pads, "n.ipc": made.netlist(*points)}
+        gerber = "%FSLAX46Y46*%\n%MOMM*%\n%TF.FileFunction,Plated,1,2,PTH*%\n%ADD10C,0.4*%\nD10*\nX0Y0D03*\nX5000000Y5000000D03*\nM02*\n"
+        xnc = made.drill((0.0, 0.0), (5.0, 5.0)).replace("METRIC", "; #@! TF.FileFunction,Plated,1,2,PTH\nMETRIC")
+        for drilled in (gerber, xnc):
+            for old, new, statuses in (("", "", (0, 0)), ("PTH", "NPTH", (10, 3)), ("Plated", "NonPlated", (10, 3))):
+                its = {**files, "p.drl": drilled.replace(old, new)}
+                told = made.manifest(["top.gbr", "bot.gbr"], [("p.drl", 1, 2)])
+                for status, more in zip(statuses, ({}, {"m.json": told})):
+                    folder = self.board({**its, **more}, f"b{len(os.listdir(self.scratch))}")
+                    found, out, _ = self.show(folder)
+                    self.assertEqual(
+                        (found, "says that holes are plated and that they are not" in out), (status, status > 0), out
+                    )
+
+
 def exchanged(text):
     """A netlist of which the first name that comes twice stands at another record in one place."""
     lines = text.split("\n")
@@ -781,6 +826,23 @@ def exchanged(text):
 
 class Shown(made.Case):
     """Whole boards by `show`: in one form of each kind, as it comes and spoilt."""
+
+    def test_stops_within(self):
+        """A stop, an end or a second end of the header behind a hole is none that is read over: what stands behind it is not taken."""
+        program = common.program()
+        pads = made.gerber(*made.flash(10, (1, 1), (2, 2)))
+        points = made.netlist(made.record("A", "J1.1", 1, 1), made.record("B", "J1.2", 2, 2))
+        front = (("M48", "METRIC", "T1C0.4", "%", "T1"), ("%", "M71", "T1C0.4"))
+        for head, stop in ((head, stop) for head in front for stop in ("M00", "M01", "M02", "M06", "M30", "%", "M95")):
+            its = text(*head, "X1.0Y1.0", stop, "X2.0Y2.0", "M30")
+            self.board(
+                {"m.json": made.manifest(drills=[("p.drl", 1, 1)]), "top.gbr": pads, "n.ipc": points, "p.drl": its}
+            )
+            status, out, _ = self.show("board", "--yes", program=program)
+            kind = "AfterEnd" if stop == "M30" else "BadLine"
+            self.assertEqual(
+                (status, f"p.drl: drill {15 if stop == 'M30' else 2} {kind}" in out), (3, True), (stop, out)
+            )
 
     @staticmethod
     def track(k):

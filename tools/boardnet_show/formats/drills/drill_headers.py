@@ -175,7 +175,8 @@ class Frame:
         self.read()
 
     def read(self) -> None:
-        ends = [line.number for line in self.its if line.text in HEADER_ENDS]
+        # Behind a hole such a line ends no header: it stays.
+        ends = [line.number for line in self.its if line.text in HEADER_ENDS and not self.has_place(0, line.number)]
         for line, record, comments in before_each(self.its):
             if isinstance(record, Tool) and is_defined(record):
                 size, its = self.size(record.sizes()[0]), [it for it in comments if it.number > self.front]
@@ -183,7 +184,7 @@ class Frame:
                 # Before the header's end a definition selects nothing.
                 is_picked = not any(end > line.number and not self.has_place(line.number, end) for end in ends)
                 self.changed[line.number] = b"T%d" % record.number if is_picked else b""
-            elif line.text in HEADER_ENDS or isinstance(record, (Unit, Mode)) and record.unit == self.unit:
+            elif line.number in ends or isinstance(record, (Unit, Mode)) and record.unit == self.unit:
                 self.changed[line.number] = b""
         if not self.moved.header:
             for it in self.sized:

@@ -5,7 +5,7 @@ by their numbers. More is read here than `check` takes or passes over, so that a
 in each form of it.
 """
 import re
-from typing import Dict, Iterator, List, Optional, Set, Tuple
+from typing import Dict, Iterator, List, NamedTuple, Optional, Set, Tuple
 
 from .drill_headers import headed
 from .drill_lines import BODY, Comment, Hit, Line, Pick, Repeat, Rout, Tool, lines
@@ -21,6 +21,9 @@ TYPE = re.compile(rb";[ \t]*TYPE[ \t]*=[ \t]*(?:" + KIND + rb")?.*", re.I | re.S
 HOLESIZE = re.compile(rb";[ \t]*(?:T([0-9]{1,4})[ \t]+Holesize\b|Holesize[ \t]+([0-9]{1,4})\b).*?[ \t]" + KIND, re.I)
 # `; NON-PLATED HOLES START AT T1` and `; THROUGH (PLATED) HOLES START AT T100` of Fritzing.
 STARTS = re.compile(rb";[ \t]*(?:THROUGH[ \t]*)?\(?" + KIND + rb"\)?\s+HOLES\s+START\s+AT\s+T([0-9]{1,4})\b", re.I)
+
+WHOLE_KIND = re.compile(KIND, re.I)
+ANY_FUNCTION = re.compile(rb"T[FA]\.(?:File|Aper)Function[ \t]*,([^*%\r\n]*)")
 
 # Plated, not plated, or not said.
 Kind = Optional[bool]
@@ -165,6 +168,22 @@ def unplated_hole(data: bytes) -> int:
     plating = Plating(data)
     holes = plating.holes() if plating.is_taken_as_plated() else ()
     return next((number for number, called in holes if False in called), 0)
+
+
+class Both(NamedTuple):
+    """A word that says of holes that they are plated and that they are not: its line, and what it says."""
+
+    line: int
+    words: str
+
+
+def in_both_ways(data: bytes) -> Optional[Both]:
+    """The first file function, or tool's, that says both, as `Plated,1,2,NPTH`; of drill files in either format."""
+    for found in ANY_FUNCTION.finditer(data) if b"Function" in data else ():
+        fields = (WHOLE_KIND.fullmatch(field.strip()) for field in found[1].split(b","))
+        if len({is_plated(it[1]) for it in fields if it}) > 1:
+            return Both(data.count(b"\n", 0, found.start()) + 1, found[0].decode("latin-1").strip())
+    return None
 
 
 def unread_function(data: bytes, first: int, last: int) -> Optional[Tuple[str, int]]:

@@ -67,7 +67,9 @@ class Drilled(Machine):
         self.body.append(b"T%d" % number)
 
     def needs(self) -> None:
-        """Has a tool of a known size, and coordinates of a known length."""
+        """Has a tool of a known size, and coordinates of a known length, before the end."""
+        if self.is_ended:
+            self.refuse("a hole stands behind its end")
         if self.tool is None or self.sizes.get(self.tool) is None or self.tool > MOST_TOOLS:
             self.refuse("a hole is no flash or draw of a circle")
         if self.scale is None or self.decimals is None:

@@ -1,6 +1,6 @@
 """Hints in words: what was changed, and what `check` says of that copy."""
 from boardnet_show.fitting.changes import NowherePlaced
-from boardnet_show.fitting.hints import Hint
+from boardnet_show.fitting.hints import Hint, Rival
 from boardnet_show.judging.answers import BETWEEN, Answer
 
 from . import changes
@@ -25,5 +25,12 @@ def change_words(hint: Hint) -> str:
     return f"{'besides, ' if hint.is_besides else ''}with {changes.words(hint.change)}{hint.setting},"
 
 
+def rival_words(rival: Rival) -> str:
+    """What fits about as well."""
+    its = f"; with {changes.words(rival.change)}, which fits about as well, "
+    its += answer_words(rival.answer) if rival.answer else "it was not tried"
+    return its + ": which is right is not known"
+
+
 def words(hint: Hint) -> str:
-    return f"{change_words(hint)} {answer_words(hint.answer)}"
+    return f"{change_words(hint)} {answer_words(hint.answer)}" + (rival_words(hint.rival) if hint.rival else "")
