@@ -604,8 +604,8 @@ class NearMisses(Case):
         head, body = drilled.split("%\n")
         holes = [line for line in body.splitlines() if line.startswith("X")]
 
-        def asked(lines, copper=PADS):
-            its = text(*head.splitlines(), "%", "T01", *lines, "M30")
+        def asked(lines, copper=PADS, zeros=",TZ"):
+            its = text(*head.replace(",TZ", zeros).splitlines(), "%", "T01", *lines, "M30")
             data, _, doubts = self.mended(name, its, copper=copper)
             self.assertEqual(not doubts, b"." not in data.split(b"%")[1])
             return len(doubts)
@@ -624,6 +624,13 @@ class NearMisses(Case):
             ((f"G00X{x}Y{y - 300}", "M15", f"G01X{x + 700}", f"G01Y{y + 900}", "M16", "G05"), 0),
         ):
             self.assertEqual(asked([*holes[:19], *more]), wanted, more)
+        # A reading whose writer would not write such numbers counts where holes lie elsewhere by it: eight have to.
+        full = [f"X{100 + k}{k}40Y{100 + k}{k}41" for k in range(1, 10)]
+        short = [f"X{k}270Y{20 + k}{k}41" for k in range(1, 9)]
+        for few, wanted in ((8, 1), (7, 0)):
+            its = [tuple(int(n) for n in line[1:].split("Y")) for line in (*full, *short[:few])]
+            pads = made.gerber(*made.flash(10, *((x / 1000, y / 1000) for x, y in its)))
+            self.assertEqual(asked([*full, *short[:few]], pads, ""), wanted)
         # As many pads where another reading has them, too.
         every = sorted(PLATED)[:40]
         lines = [f"X{x}Y{y}" for x, y, _ in every]

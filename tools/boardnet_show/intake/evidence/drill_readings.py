@@ -20,13 +20,13 @@ from boardnet_show.formats.drills.number_forms import (
 from boardnet_show.formats.units import INCH, MM
 
 from .pad_middles import NEAR, Middles
-from .readings import AT_MOST, ENOUGH, FEWEST
+from .readings import AT_MOST, ENOUGH, FEWEST, is_clear
 
 # Excellon's digits, by the unit.
 DEFAULTS = {INCH: (2, 4), MM: (3, 3)}
 MOST_DIGITS = 7
 
-Cell = Tuple[int, int]
+Cell = Tuple[int, int]  # of places, or a place in u
 Texts = Tuple[bytes, ...]  # x and y of a place, or of both ends
 
 
@@ -42,21 +42,27 @@ class Reading(NamedTuple):
 
 
 class Fit(NamedTuple):
-    """A reading, how many of the holes lie on pads by it, and whether its writer would write all these numbers."""
+    """A reading, how many of the holes lie on pads by it, and whether its writer would write all these numbers; `at` are
+    the places of the holes, and `hits` whether each is on a pad."""
 
     reading: Reading
     on: int
     holes: int
     is_written: bool = True
+    at: Tuple[Cell, ...] = ()
+    hits: Tuple[bool, ...] = ()
 
     def is_enough(self) -> bool:
         return self.holes >= FEWEST and self.on * ENOUGH[1] >= ENOUGH[0] * self.holes
 
     def leaves(self, other: "Fit") -> bool:
-        """Whether another reading is no rival: where its writer would write these numbers, far fewer holes fit it."""
-        if other.is_written:
-            return other.on * AT_MOST[1] <= self.on * AT_MOST[0]
-        return other.on < self.on and not other.is_enough()
+        """Whether another reading is no rival: far fewer holes fit it; where its writer would not write these numbers, of
+        those alone that lie elsewhere by it, which are enough to decide."""
+        if other.on * AT_MOST[1] <= self.on * AT_MOST[0]:
+            return True
+        apart = [both for a, b, *both in zip(self.at, other.at, self.hits, other.hits) if a != b]
+        mine, theirs = (sum(hits) for hits in zip(*apart)) if apart else (0, 0)
+        return not other.is_written and is_clear(mine, len(apart), [theirs])
 
     def words(self, others: List["Fit"]) -> str:
         """The evidence, in words."""
@@ -132,9 +138,9 @@ def around(pads: Middles) -> Set[Cell]:
 
 
 def middle(ends: List[int]) -> Cell:
-    """The cell of a hole's place, of a slot that of its middle."""
+    """A hole's place in u, of a slot that of its middle."""
     count = len(ends) // 2
-    return sum(ends[::2]) // count // NEAR, sum(ends[1::2]) // count // NEAR
+    return sum(ends[::2]) // count, sum(ends[1::2]) // count
 
 
 def fits(holes: List[Texts], its: Iterable[Reading], cells: Set[Cell]) -> List[Fit]:
@@ -144,9 +150,11 @@ def fits(holes: List[Texts], its: Iterable[Reading], cells: Set[Cell]) -> List[F
     for reading in its:
         key = tuple(length(text, reading) for text in texts)
         if key not in found:
-            at = dict(zip(texts, key))
-            on = sum(middle([at[text] for text in hole]) in cells for hole in holes)
-            found[key] = Fit(reading, on, len(holes), not reading.form.wrong_number([(0, text) for text in texts]))
+            of = dict(zip(texts, key))
+            at = tuple(middle([of[text] for text in hole]) for hole in holes)
+            hits = tuple((x // NEAR, y // NEAR) in cells for x, y in at)
+            is_written = not reading.form.wrong_number([(0, text) for text in texts])
+            found[key] = Fit(reading, sum(hits), len(holes), is_written, at, hits)
     return list(found.values())
 
 
