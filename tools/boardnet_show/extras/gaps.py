@@ -8,6 +8,7 @@ from boardnet_show.findings.besides import GAPS, Requested, found, lacking
 from boardnet_show.findings.finding import GAP, Finding
 from boardnet_show.findings.nearest_copper import Gap
 from boardnet_show.formats.ipc356 import NO_NET
+from boardnet_show.judging import board_copper
 from boardnet_show.netlists.tester import copper_of, with_copper
 
 from . import gaps_between_bounds
@@ -91,7 +92,8 @@ def of_board(program, board, u):
 
 def of_bounds(program, told, board, u):
     """The gaps of a board between two, of which `board` is the lower one."""
-    high, nets = with_copper(program, told.package.between[2], told.package.sides.sources[1]), Nets(board)
+    known = board_copper.Known(board)
+    high, nets = with_copper(program, told.package.between[2], told.package.sides.sources[1], known), Nets(board)
     its = gaps_between_bounds.gaps(program, board, high, u)
     return [
         finding(nets, number, it, words, sure, others) for number, (sure, it, words, others) in enumerate(its)

@@ -21,7 +21,10 @@ def from_line(place: Spot, a: Spot, b: Spot) -> int:
 def of_lines(first: Line, second: Line) -> int:
     """The distance of two lines, each of two places."""
     (a, b), (c, d) = first, second
-    if a != b and c != d and segments_cross(a, b, c, d):
+    if a == b:
+        return from_line(a, c, d)
+    if c == d:
+        return from_line(c, a, b)
+    if segments_cross(a, b, c, d):
         return 0
-    ends = [from_line(c, a, b)] if c == d else [from_line(c, a, b), from_line(d, a, b)]
-    return min(ends + [from_line(a, c, d)] + ([from_line(b, c, d)] if a != b else []))
+    return min(from_line(c, a, b), from_line(d, a, b), from_line(a, c, d), from_line(b, c, d))

@@ -92,6 +92,27 @@ class Segments:
         return found
 
 
+class Rows:
+    """Lines by rows of heights, so high that most lines lie in one or two: for rays along them."""
+
+    def __init__(self, lines: Sequence[Line]) -> None:
+        self.low = min(min(a[1], b[1]) for a, b in lines)
+        high = max(max(a[1], b[1]) for a, b in lines)
+        heights = sum(abs(a[1] - b[1]) for a, b in lines)
+        self.step = 1 + max(high - self.low, 2 * heights) // len(lines)
+        self.rows: Dict[int, List[Line]] = {}
+        for line in lines:
+            low, high = line[0][1], line[1][1]
+            if low != high:
+                low, high = (low, high) if low < high else (high, low)
+                for row in range((low - self.low) // self.step, (high - self.low) // self.step + 1):
+                    self.rows.setdefault(row, []).append(line)
+
+    def at(self, y: int) -> Sequence[Line]:
+        """The lines of a height's row; level ones are none."""
+        return self.rows.get((y - self.low) // self.step, ())
+
+
 class Bands:
     """The edges of a contour by bands across its longer side, for even-odd at places times 2^21."""
 

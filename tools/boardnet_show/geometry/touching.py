@@ -4,10 +4,11 @@ from typing import Dict, Iterator, List, Optional, Sequence, Set, Tuple
 from . import box_grid, nearest_places
 from .box_tree import Tree
 from .pieces import Box, Line, Spot
-from .segments import box_of_line, cross, point_within, segments_within
+from .segments import Rows, box_of_line, cross, point_within, segments_within
 from .shapes import Shapes
 
 FEW_EDGES = 24
+FEW_LOOKS = 4_096  # pairs of lines that are compared one by one
 Nearest = Tuple[float, nearest_places.Place, nearest_places.Place]  # a distance, squared, and its places
 MOST_PAIRS = 100_000  # lines of two pieces that are all compared
 AROUND = sorted(
@@ -28,6 +29,7 @@ class Touching:
         self.shapes, self.spans = shapes, spans
         self.edges: Dict[int, List[Line]] = {}
         self.trees: Dict[int, Tree] = {}
+        self.rows: Dict[int, Rows] = {}
         self.box = shapes.box
 
     def lines(self, piece: int) -> List[Line]:
@@ -61,12 +63,24 @@ class Touching:
             self.trees[piece] = Tree([box_of_line(p, q, 0) for p, q in lines])
         return [lines[k] for k in self.trees[piece].meeting(box)]
 
+    def lines_across(self, piece: int, y: int) -> Sequence[Line]:
+        """The lines of a piece of which some may have a height."""
+        lines = self.lines(piece)
+        if len(lines) <= FEW_EDGES:
+            return lines
+        if piece not in self.rows:
+            self.rows[piece] = Rows(lines)
+        return self.rows[piece].at(y)
+
     def is_inside(self, piece: int, place: Spot) -> bool:
         """Whether a place lies inside an area, by how many edges a ray to the right meets."""
+        left, low, right, high = self.box(piece)
         x, y = place
         is_in = False
-        for (x1, y1), (x2, y2) in self.lines_near(piece, (x, y, self.box(piece)[2], y)):
-            if (y1 > y) != (y2 > y):
+        if not (left <= x <= right and low <= y <= high):
+            return False
+        for (x1, y1), (x2, y2) in self.lines_across(piece, y):
+            if (y1 > y) != (y2 > y) and (x1 >= x or x2 >= x):
                 turn = cross((x1, y1), (x2, y2), place)
                 is_in ^= (turn > 0) == (y2 > y1)
         return is_in
@@ -89,10 +103,20 @@ class Touching:
         if not self.shapes.is_area(p) and not self.shapes.is_area(q):
             return segments_within(*self.lines(p)[0], *self.lines(q)[0], r)
         wide = box[0] - r, box[1] - r, box[2] + r, box[3] + r
-        theirs = self.lines_near(q, wide)
-        if any(segments_within(a, b, c, d, r) for a, b in self.lines_near(p, wide) for c, d in theirs):
+        if self.lines_touch(p, q, wide, r):
             return True
         return self.is_within(p, q) or self.is_within(q, p)
+
+    def lines_touch(self, p: int, q: int, wide: Box, r: int) -> bool:
+        """Whether lines of two pieces in a box come within r of each other: of many on both sides, each of the fewer
+        with those near it."""
+        ours, theirs = self.lines_near(p, wide), self.lines_near(q, wide)
+        if len(ours) * len(theirs) <= FEW_LOOKS:
+            return any(segments_within(a, b, c, d, r) for a, b in ours for c, d in theirs)
+        few, other = (ours, q) if len(ours) <= len(theirs) else (theirs, p)
+        return any(
+            segments_within(a, b, c, d, r) for a, b in few for c, d in self.lines_near(other, box_of_line(a, b, r))
+        )
 
     def is_within(self, inner: int, outer: int) -> bool:
         """Whether a piece has its first place inside an area."""

@@ -5,15 +5,21 @@ import os
 import signal
 import subprocess
 import sys
+import tempfile
 import time
 import unittest
 import zipfile
+from unittest import mock
 from xml.dom import minidom
 
+from boardnet_show.base import workers
 from boardnet_show.base.progress import Progress
 from boardnet_show.command import one_board
 from boardnet_show.command.run import SIGNALS
 from boardnet_show.formats import indented_json
+from boardnet_show.formats.manifest import of_text
+from boardnet_show.intake.package import Package
+from boardnet_show.judging import two_bounds
 from tests.fixtures import common, made
 from tests.fixtures.made import draw, flash, gerber, label, manifest, netlist, record
 from tests.fixtures.pages import unpacked
@@ -78,6 +84,23 @@ class Told(unittest.TestCase):
         first, second, last = "boardnet: checking, 0 s", "boardnet: checking, 75 s", "\r" + " " * 24 + "\r"
         self.assertEqual(self.told(True), f"\r{first}\r{second}{last}")
         self.assertEqual((self.told(True, quiet=True), self.told(False)), ("", ""))
+
+    def test_how_far(self):
+        """Each layer of which bounds are made is told with their count, also where processes make them."""
+        copper = gerber("%AMTurned*21,1,1,0.5,0,0,30*%", "%ADD13Turned*%", "D13*", "X0Y0D03*").encode()
+        names = ["a.gbr", "b.gbr", "c.gbr"]
+        for count in (1, 3):
+            with tempfile.TemporaryDirectory() as folder:
+                files = {"m.json": manifest(names), "n.ipc": netlist(record("A", "J1.1", 0, 0))}
+                for name, text in (*files.items(), *((name, copper) for name in names)):
+                    with open(os.path.join(folder, name), "wb") as file:
+                        file.write(text if isinstance(text, bytes) else text.encode())
+                package = Package(of_text(files["m.json"].encode()), folder)
+                out = self.Out(True)
+                with mock.patch.multiple(workers, processors=lambda: count, LARGE=1):
+                    two_bounds.of_package(package, told=Progress(out).step)
+            lines = [line.rpartition(",")[0] for line in out.getvalue().split("\r")[1:]]
+            self.assertEqual(lines, [f"boardnet: making bounds, layer {k} of 3" for k in (1, 2, 3)])
 
     def test_json_with_an_indent(self):
         """As the standard library writes it."""

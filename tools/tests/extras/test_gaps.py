@@ -6,8 +6,11 @@ from fractions import Fraction as Q
 from math import isqrt
 from xml.dom import minidom
 
+from boardnet_show.extras import spacing
 from boardnet_show.extras.spacing import asked_distance
+from boardnet_show.geometry.box_tree import Tree
 from boardnet_show.geometry.distances import from_line, of_lines
+from boardnet_show.geometry.segments import box_of_line
 from tests.fixtures import made
 from tests.fixtures.made import draw, flash, gerber, manifest, netlist, record, region
 
@@ -272,6 +275,27 @@ class Distances(unittest.TestCase):
             t = min(Q(1), max(Q(0), Q(d[0] * e[0] + d[1] * e[1], length))) if length else Q(0)
             squared = (a[0] + t * d[0] - c[0]) ** 2 + (a[1] + t * d[1] - c[1]) ** 2
             self.assertEqual(from_line(c, a, b), isqrt(squared.numerator // squared.denominator))
+
+    def test_nearest_of_many(self):
+        """By trees, against all pairs, also where it is said how far they are apart at most."""
+        draws, apart = random.Random(8), 0
+        spot = lambda wide: (draws.randrange(wide), draws.randrange(wide))
+        for count, others in ((1, 90), (3, 400), (16, 17), (70, 70), (300, 90)):
+            for by in (0, 150, 400):
+                rows = []
+                for number, shift in ((count, 0), (others, by)):
+                    ends = [((x + shift, y), spot(12)) for x, y in (spot(300) for _ in range(number))]
+                    lines = [((x, y), (x + dx, y + dy)) for (x, y), (dx, dy) in ends]
+                    rows.append([(line, draws.randrange(3), k) for k, line in enumerate(lines)])
+                trees = [Tree([box_of_line(*line, r) for line, r, _ in its]) for its in rows]
+                least = min(spacing.measured(a, b) for a in rows[0] for b in rows[1])
+                found = spacing.by_trees(*trees, *rows, None)
+                self.assertEqual(spacing.measured(*found[1:]), found[0])
+                self.assertEqual(max(found[0], 0), max(least, 0))
+                if least > 0:
+                    apart += 1
+                    self.assertEqual(spacing.by_trees(*trees, *rows, least)[0], least)
+        self.assertGreater(apart, 4)
 
     def test_lines(self):
         for first, second, wanted in [

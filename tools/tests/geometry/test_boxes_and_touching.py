@@ -6,7 +6,7 @@ import unittest
 
 from boardnet_show.base.wording import at_most, counted, millimetres, spoken
 from boardnet_show.findings import least_cuts
-from boardnet_show.geometry import box_grid, box_tree, nearest_places
+from boardnet_show.geometry import box_grid, box_tree, nearest_places, segments
 from boardnet_show.geometry.shapes import Shapes
 from boardnet_show.geometry.touching import Touching
 from tests.fixtures import made, stand_in
@@ -100,6 +100,28 @@ class Solids(unittest.TestCase):
         touching = Touching(shapes, [(1, 1)] * 2)
         place = touching.touching_place(0, 1)
         self.assertTrue(touching.touch(0, 1) and all(touching.holds(piece, place) for piece in (0, 1)), place)
+
+    def test_many_corners(self):
+        """Areas with more edges than are all looked at: what lies in them, and which touch, as of all their edges."""
+        rng, inside, met = random.Random(7), 0, 0
+        for _ in range(60):
+            shapes, wide = Shapes(), rng.choice([8, 60])
+            for far in (1, 2):
+                x, y = rng.randrange(wide * far), rng.randrange(wide * far)
+                shapes.add(
+                    -1, [(x + rng.randrange(wide), y + rng.randrange(wide)) for _ in range(rng.choice([25, 70, 90]))]
+                )
+            touching, odd = Touching(shapes, [(1, 1)] * 2), segments.odd_inside
+            for place in [(rng.randrange(-2, 2 * wide), rng.randrange(-2, 2 * wide)) for _ in range(40)]:
+                found = touching.is_inside(0, place)
+                self.assertEqual(found, odd(shapes.places(0), place), place)
+                inside += found
+            lines = touching.lines(0), touching.lines(1)
+            wanted = any(segments.segments_within(*a, *b, 0) for a, b in itertools.product(*lines))
+            box = (0, 0, 5 * wide, 5 * wide)
+            self.assertEqual([touching.lines_touch(*pair, box, 0) for pair in ((0, 1), (1, 0))], [wanted] * 2)
+            met += wanted
+        self.assertTrue(inside > 100 and 0 < met < 60, (inside, met))
 
     def test_middles(self):
         """Of a ring, a bent and a crossed area, and where the middle is no whole place."""
