@@ -75,8 +75,10 @@ def moved(text: str, form: Form, by: Sequence[int]) -> Optional[str]:
 
 
 def flashes(package, index):
-    """Centres of the flashes of a copper file, in u: found once for all changed copies that have the file, too."""
-    data = package.read(package.manifest.copper[index])
+    """Centres of the flashes of a copper file, in u, as it was before it was flattened: found once for all changed
+    copies that have the file, too."""
+    name = package.manifest.copper[index]
+    data = package.before.get(name) or package.read(name)
     key = pad_middles.of_file, hashlib.sha256(data).digest()
     if key not in package.made:
         package.made[key] = pad_middles.of_file(data)
