@@ -1,0 +1,7 @@
+mod Between
+mod Bounded
+mod Helds
+mod Inside
+mod Layering
+mod Lefts
+mod Lists
