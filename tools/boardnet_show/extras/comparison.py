@@ -4,13 +4,13 @@ The netlist is that of `tester`. Where this board is a moved, turned or mirrored
 hints, and what is told is what `check` says of the moved netlist.
 """
 import os
-from typing import NamedTuple
+from typing import NamedTuple, Optional, Sequence
 
 from boardnet_show.base.statuses import UNJUDGED, BadCopper, Stop
-from boardnet_show.base.wording import counted, millimetres
 from boardnet_show.findings import between_bounds, findings
 from boardnet_show.findings.besides import Requested, lacking, outcome
 from boardnet_show.findings.nearest_copper import gap_of_lines
+from boardnet_show.findings.notes import ApartThere, Difference, HasIt, Likened, NearThere, NotLikened, OtherPlaced
 from boardnet_show.fitting.hints import Trial, Trials, best_placement
 from boardnet_show.fitting.placement import FORMS
 from boardnet_show.formats import ipc356
@@ -20,7 +20,7 @@ from boardnet_show.geometry.segments import box_of_line
 from boardnet_show.intake import mending, package
 from boardnet_show.judging import board_copper, judged, two_bounds
 from boardnet_show.netlists import own_names, pad_names, tester
-from boardnet_show.output.sentences import changes, hints
+from boardnet_show.output.sentences import hints, testers
 
 from .spacing import STEP, Lines, least
 
@@ -28,33 +28,14 @@ KINDS = {"open": "parted", "short": "joined", "missing": "missing"}
 FEW = 3
 
 
-class Difference(NamedTuple):
-    """`words` are of this board, `there` of the other; places are (x, y, layer) on either, in u. It is `sure` but between bounds."""
-
-    id: str
-    kind: str
-    sure: bool
-    words: str
-    there: str
-    places: list
-    places_there: list
-
-    def name(self):
-        return self.id if self.sure else f"undecided {self.id}"
-
-    def sentence(self):
-        return self.words + (f" {self.there[0].upper()}{self.there[1:]}." if self.there else "")
-
-
 class Likeness(NamedTuple):
-    """`untouched` is what of the other board was not compared, or empty."""
+    """The comparison with another board, how that was placed where it was moved, and the differences."""
 
     path: str
     status: int
-    line: str
-    placed: str
-    differences: list
-    untouched: str
+    said: Likened
+    placed: Optional[OtherPlaced]
+    differences: Sequence[Difference]
 
 
 class Move:
@@ -108,29 +89,25 @@ class Other:
         net, place = self.row(record).place.net, self.move.back(gap.place)
         piece = self.nearest_piece(net, gap.layer, place)
         if piece is None:
-            return "", []
-        return f"there {self.board.source(piece)} is near that place, {self.board.copper_place(place, gap.layer)}", [
-            (*place, gap.layer)
-        ]
+            return None, []
+        return NearThere(self.board.source(piece), self.board.copper_at(place, gap.layer)), [(*place, gap.layer)]
 
     def parts(self, first, second, layer):
         """What is told of two nets that this board joins: how far apart they are there on that layer, and where."""
         nets = [self.row(record).place.net for record in (first, second)]
         if nets[0] == nets[1] or not all(self.lines.of(net, layer)[0] for net in nets):
-            return "", []
+            return None, []
         distance, a, b = least(self.lines, layer, *nets)
         place = gap_of_lines(a[:2], b[:2], layer).place
-        told = (
-            f"there they are {millimetres(distance // STEP * STEP)} mm apart on {self.board.copper_place(place, layer)}, between "
-            f"{self.board.source(a[2])} and {self.board.source(b[2])}"
-        )
+        sources = self.board.source(a[2]), self.board.source(b[2])
+        told = ApartThere(distance // STEP * STEP, self.board.copper_at(place, layer), sources)
         return told, [(*place, layer)]
 
 
 def difference(board, other, finding):
     """A finding of this board by the other one's netlist."""
     records = [board.report.points[point][0] for point in finding.points]
-    there, places = "", []
+    there, places = None, []
     here = [(*board.spot(point), board.layer(point)) for point in finding.points]
     if finding.kind == "open" and finding.gap:
         here.insert(0, (*finding.gap.place, finding.gap.layer))
@@ -141,13 +118,13 @@ def difference(board, other, finding):
         there, places = other.parts(records[0], records[1], layer)
     else:
         piece = other.row(records[0]).place.pieces[0]
-        there = f"there {other.board.source(piece)} has it"
+        there = HasIt(other.board.source(piece))
     kind = KINDS[finding.kind]
     return Difference(
         f"{kind}-{finding.number}",
         kind,
         finding.sure is not False,
-        f"{finding.name}: {finding.sentence()}",
+        finding,
         there,
         here,
         places + [other.point(record) for record in records[:FEW]],
@@ -166,7 +143,7 @@ def differences(program, shapes, answer, made, other_text):
 
 
 def checked(program, told, text, ties):
-    """(trial, words of the placement) of this board with the other one's netlist, moved where that makes it fit."""
+    """(trial, the placement) of this board with the other one's netlist, moved where that makes it fit."""
     trials = Trials(program, ties)
     base = Trial(told.package, ties.answer(told))
     trial = trials.of(base, None, {told.package.manifest.netlist: text})
@@ -175,8 +152,8 @@ def checked(program, told, text, ties):
     if trial.is_misplaced():
         best = best_placement(trials, trial)
         if best and best[1].rank() < trial.rank():
-            return best[1], f"the other board {changes.netlist_placed(best[0].change)}{best[0].setting}"
-    return trial, ""
+            return best[1], OtherPlaced(best[0].change, best[0].setting)
+    return trial, None
 
 
 def reference(program, path, asked, scratch, board):
@@ -191,19 +168,10 @@ def reference(program, path, asked, scratch, board):
     theirs = judged.judge(program, files)
     two_bounds.bounded(program, theirs)
     known = board_copper.Known(board) if board and board.shapes else None
-    made = tester.made(program, theirs, os.path.basename(os.path.normpath(path)), known=known, is_told=False)
+    made = tester.made(program, theirs, os.path.basename(os.path.normpath(path)), known=known)
     if made.text is None:
-        raise Stop(theirs.status, f"{path}: {'; '.join(made.lines)}")
+        raise Stop(theirs.status, f"{path}: {'; '.join(testers.lines(made))}")
     return made, made.netlist.netlist_text(is_plain=True).encode("latin-1")
-
-
-def counts_words(its):
-    """How many differences there are of each kind, those that there are."""
-    counts = [
-        (sum(it.kind == kind for it in its), word)
-        for kind, word in (("parted", "parted net"), ("joined", "joined net"), ("missing", "missing pad"))
-    ]
-    return ", ".join(counted(count, word) for count, word in counts if count)
 
 
 def requested(program, told, seen, asked, scratch):
@@ -215,17 +183,10 @@ def requested(program, told, seen, asked, scratch):
         if len(made.netlist.rows) < 2 and not its:
             raise Stop(UNJUDGED, "it has one pad alone that can be compared")
     except (Stop, BadCopper) as why:
-        return Requested([lacking(f"like {asked.like}", f"not compared with {asked.like}: {why}")])
+        return Requested([lacking(f"like {asked.like}", NotLikened(asked.like, str(why)))])
     sure = sum(it.sure for it in its)
     doubt = len(its) - sure + (not made.is_whole)
-    untouched = made.netlist.untouched()
-    line = counts_words(its) if its else f"joins what {'it' if made.is_whole else 'its lower bound'} joins"
-    line += f"; not compared: {untouched}" if untouched else ""
-    beside = outcome(
-        f"like {asked.like}",
-        sure,
-        doubt,
-        f"like {asked.like}: {line}",
-        tuple((it.name(), it.sentence(), it.places) for it in its),
-    )
-    return Requested([beside], like=Likeness(asked.like, beside.status, line, placed, its, untouched))
+    counts = (sum(it.kind == kind for it in its) for kind in ("parted", "joined", "missing"))
+    said = Likened(asked.like, *counts, made.is_whole, testers.untouched(made.netlist))
+    beside = outcome(f"like {asked.like}", sure, doubt, said, tuple((it.name(), it, it.places) for it in its))
+    return Requested([beside], like=Likeness(asked.like, beside.status, said, placed, its))

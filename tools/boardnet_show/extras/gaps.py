@@ -2,20 +2,18 @@
 from bisect import bisect_left
 from collections import defaultdict
 
+from boardnet_show.base.facts import Apart, NetSide, TooClose
 from boardnet_show.base.statuses import BadCopper, Stop
-from boardnet_show.base.wording import counted, millimetres, spoken
 from boardnet_show.findings.besides import GAPS, Requested, found, lacking
 from boardnet_show.findings.finding import GAP, Finding
 from boardnet_show.findings.nearest_copper import Gap
+from boardnet_show.findings.notes import GapRule, GapsCounted, NotKnown
 from boardnet_show.formats.ipc356 import NO_NET
 from boardnet_show.judging import board_copper
 from boardnet_show.netlists.tester import copper_of, with_copper
 
 from . import gaps_between_bounds
 from .spacing import STEP, spacings
-
-FEW_NAMES = 2
-LEFT_OUT = "copper that the lower bound leaves out"
 
 
 class Nets:
@@ -35,9 +33,10 @@ class Nets:
     def numbers(self, net):
         return [name for name in self.names[net] if self.board.name(name) != NO_NET]
 
-    def word(self, net):
-        names = [self.board.name(name) for name in self.numbers(net)]
-        return spoken(names, FEW_NAMES) if names else f"net {net} (without a name)"
+    def side(self, net):
+        """A net by its names, or the copper that the lower bound leaves out."""
+        names = [] if net is None else [self.board.name(name) for name in self.numbers(net)]
+        return NetSide(tuple(names), net)
 
     def near(self, net, place):
         """The test point of a net that is nearest to a place, or None."""
@@ -53,41 +52,30 @@ class Nets:
         return best and best[1]
 
 
-def finding(nets, number, spacing, distance="", sure=None, others=()):
-    """Two nets on a layer that are too close, and the pins near the place. Between bounds `distance` is in words, and a net and a piece
-    that the lower board lacks are None, with the piece's source among the `others`."""
+def finding(nets, number, spacing, apart=None, sure=None, others=()):
+    """Two nets on a layer that are too close, and the pins near the place. Between bounds a net and a piece that the lower board lacks are
+    None, with the piece's source among the `others`."""
     board, known = nets.board, [net for net in spacing.nets if net is not None]
-    whats = (
-        spoken(LEFT_OUT if net is None else nets.word(net) for net in spacing.nets)
-        if known
-        else "two parts of " + LEFT_OUT
-    )
     sources = [others[k] if piece is None else board.source(piece) for k, piece in enumerate(spacing.pieces)]
     pins = [point for point in (nets.near(net, spacing.place) for net in known) if point is not None]
-    near = f"; near {spoken(map(board.pin, pins))}" if pins else ""
-    told = f"{whats} {distance or f'are {spacing.at_least()} mm apart'} on {board.copper_place(spacing.place, spacing.layer)}: {spoken(sources)}{near}."
+    told = TooClose(
+        tuple(map(nets.side, spacing.nets)),
+        apart or Apart(spacing.at_least(), is_exact=True),
+        board.copper_at(spacing.place, spacing.layer),
+        tuple(sources),
+        tuple(map(board.pin, pins)),
+    )
     names = [name for net in known for name in nets.numbers(net)]
     gap = Gap(spacing.distance // STEP * STEP, spacing.place, spacing.layer)
     pieces = [piece for piece in spacing.pieces if piece is not None]
-    return Finding(GAP, number, whats, told, pins, nets=known, names=names, gap=gap, pieces=pieces, sure=sure)
-
-
-def rule(u):
-    """A sentence on what is counted."""
-    return f"gaps: two nets on a layer whose copper is closer than {millimetres(u)} mm; exactly that is no gap here"
-
-
-def listed_by(u, listed, found):
-    """What the program says beside it."""
-    even = f", of which {listed - found} that are exactly so far" if listed > found and u % 10 == 0 else ""
-    return f"The program's `gaps` lists what is at most that far apart: {counted(listed, 'pair')}{even}"
+    return Finding(GAP, number, "", told, pins, nets=known, names=names, gap=gap, pieces=pieces, sure=sure)
 
 
 def of_board(program, board, u):
-    """The gaps of a board, and the sentence on what is counted."""
+    """The gaps of a board, and what is counted."""
     its, listed = spacings(program, board, u)
     nets = Nets(board)
-    return [finding(nets, number, it) for number, it in enumerate(its)], f"{rule(u)}. {listed_by(u, listed, len(its))}"
+    return [finding(nets, number, it) for number, it in enumerate(its)], GapRule(u, listed, len(its))
 
 
 def of_bounds(program, told, board, u):
@@ -96,20 +84,17 @@ def of_bounds(program, told, board, u):
     high, nets = with_copper(program, told.package.between[2], told.package.sides.sources[1], known), Nets(board)
     its = gaps_between_bounds.gaps(program, board, high, u)
     return [
-        finding(nets, number, it, words, sure, others) for number, (sure, it, words, others) in enumerate(its)
-    ], rule(u)
+        finding(nets, number, it, apart, sure, others) for number, (sure, it, apart, others) in enumerate(its)
+    ], GapRule(u)
 
 
 def requested(program, judged, board, u):
     """The gaps of a judged board, whose copper may be known already."""
     try:
         board = copper_of(program, judged, board)
-        its, words = of_bounds(program, judged, board, u) if judged.package.between else of_board(program, board, u)
+        its, rule = of_bounds(program, judged, board, u) if judged.package.between else of_board(program, board, u)
     except (Stop, BadCopper) as why:
-        return Requested([lacking(GAPS, f"gaps are not known: {why}")])
+        return Requested([lacking(GAPS, NotKnown("gaps", str(why)))])
     possible = sum(it.sure is False for it in its)
     count = len(its) - possible
-    told = f"{counted(count, 'gap') if count else 'no gap'} under {millimetres(u)} mm" + (
-        f" and {counted(possible, 'possible one')}" if possible else ""
-    )
-    return Requested([found(GAPS, its, told)], its, [words], [GAP], count)
+    return Requested([found(GAPS, its, GapsCounted(count, possible, u))], its, [rule], [GAP], count)

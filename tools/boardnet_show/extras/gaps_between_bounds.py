@@ -7,6 +7,7 @@ above are told as possible gaps.
 """
 from collections import defaultdict
 
+from boardnet_show.base.facts import Apart
 from boardnet_show.findings import nearest_copper
 from boardnet_show.geometry import box_grid
 from boardnet_show.geometry.box_tree import Tree, apart
@@ -135,7 +136,7 @@ def joined(both, low_lines, u):
 
 
 def gaps(program, low, high, u):
-    """(sure, spacing, words on the distance, sources of both pieces) of each gap. Spacings are of the lower board, with None for the net
+    """(sure, spacing, how far apart, sources of both pieces) of each gap. Spacings are of the lower board, with None for the net
     and the piece of what it leaves out."""
     both, low_lines = Parts(low, high), Lines(low)
     upper = {(it.layer, it.nets): it for it in spacings(program, high, u)[0]}
@@ -155,15 +156,12 @@ def gaps(program, low, high, u):
         return above._replace(nets=nets, pieces=pieces), sources
 
     for at, it in certain.items():
-        least_above = f"at least {upper[at].at_least()} and " if at in upper else ""
-        yield True, it, f"are {least_above}at most {it.at_most()} mm apart", ()
+        yield True, it, Apart(upper[at].at_least() if at in upper else None, it.at_most()), ()
     for at, it in upper.items():
         if at not in certain:
-            yield (False, *below(it)[:1], f"are at least {it.at_least()} mm apart", below(it)[1])
+            yield (False, *below(it)[:1], Apart(it.at_least()), below(it)[1])
     for it, is_below in joined(both, low_lines, u):
-        yield (False, it, f"are joined, or at most {it.at_most()} mm apart,", ()) if is_below else (
-            False,
-            below(it)[0],
-            "are joined, or apart, perhaps by nothing,",
-            below(it)[1],
-        )
+        if is_below:
+            yield False, it, Apart(most=it.at_most(), may_be_joined=True), ()
+        else:
+            yield False, below(it)[0], Apart(may_be_joined=True), below(it)[1]

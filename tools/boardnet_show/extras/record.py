@@ -16,6 +16,7 @@ from boardnet_show.findings.besides import Requested, lacking, outcome
 from boardnet_show.formats import indented_json
 from boardnet_show.judging.program import TOOLS
 from boardnet_show.output.sentences import answers, declarations, hints
+from boardnet_show.output.sentences import notes as sentences
 
 
 FORM = 1
@@ -137,13 +138,13 @@ def of(program, told, seen, its):
         "program": of_program(program),
         "status": seen.answer.status,
         "line": answers.line(seen.answer),
-        "beside": answers.whole_line(seen.answer, [it.words for it in its.besides]),
+        "beside": answers.whole_line(seen.answer, [sentences.words(it.said) for it in its.besides]),
         "files": list(files_of(told)),
         "mends": [it.words for it in told.package.mends],
         "ties": seen.ties.file_text().splitlines(),
         "declared": declarations.notes(seen),
         "hints": [hints.words(hint) for hint in seen.hints],
-        "notes": [*seen.notes, *its.notes],
+        "notes": list(map(sentences.words, [*seen.notes, *its.notes])),
         "reports": reports,
         "between": between_of(seen),
     }

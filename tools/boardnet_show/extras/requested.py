@@ -8,6 +8,7 @@ from boardnet_show.base.statuses import UNDECIDED
 from boardnet_show.findings.besides import Requested, lacking
 from boardnet_show.findings.explained import Explained
 from boardnet_show.findings.finding import GAP, with_short_names
+from boardnet_show.findings.notes import NoTester
 
 
 def wants_copper(asked) -> Any:
@@ -63,7 +64,5 @@ def netlist(program, judged, seen: Explained, before: Requested) -> Requested:
     gaps = [*before.findings, *(it.finding for it in seen.waived)]
     close = [tuple(it.nets) for it in gaps if it.kind == GAP and len(it.nets) == 2]
     its = tester.made(program, judged, seen.title, seen.board, adjacent=None if before.gap_count is None else close)
-    lacks = lacking(
-        "netlist for a tester", "no netlist for a tester", tuple(("netlist", words, ()) for words in its.lines)
-    )
-    return Requested([lacks] if its.text is None else [], tester=its)
+    lacks = [lacking("netlist for a tester", NoTester(), (("netlist", NoTester(its), ()),))] if its.text is None else []
+    return Requested(lacks, tester=its)

@@ -8,7 +8,6 @@ from math import inf
 from typing import NamedTuple
 
 from boardnet_show.base.statuses import Stop
-from boardnet_show.base.wording import millimetres
 from boardnet_show.findings import nearest_copper
 from boardnet_show.formats.units import INCH, MM
 from boardnet_show.geometry.box_tree import FAN, Tree, apart
@@ -32,11 +31,11 @@ class Spacing(NamedTuple):
     pieces: tuple
 
     def at_least(self):
-        """The distance in millimetres, rounded down to a tenth of a micrometre."""
-        return millimetres(self.distance // STEP * STEP)
+        """The distance in u, rounded down to a tenth of a micrometre."""
+        return self.distance // STEP * STEP
 
     def at_most(self):
-        return millimetres((self.distance // STEP + 1) * STEP)
+        return (self.distance // STEP + 1) * STEP
 
 
 def asked_width(text):

@@ -3,28 +3,29 @@ from typing import Any, NamedTuple, Optional, Sequence, Tuple
 
 from boardnet_show.base.statuses import UNDECIDED, UNJUDGED
 
-from .finding import CUT, GAP, NECK, OUTSIDE, Finding, doubt
+from .finding import CUT, GAP, NECK, OUTSIDE, Finding
+from .notes import SomeWaived
 
 GAPS, AS_MADE, NECKS, BOARD_AUDIT = "gaps between nets", "the board as it is made", "necks", "holes by the netlist"
 KINDS = {GAPS: (GAP,), AS_MADE: (CUT, OUTSIDE), NECKS: (NECK,)}
-# What was found in its course: its name, words and places.
-Detail = Tuple[str, str, Any]
+# What was found in its course: its name, what it is, and places.
+Detail = Tuple[str, Any, Any]
 
 
 class Beside(NamedTuple):
-    """What was asked for beside the netlist: its name in lists of cases, its own status, what became of it, and (name, words, places) of
-    each thing that was found."""
+    """What was asked for beside the netlist: its name in lists of cases, its own status, what became of it, and (name, what, places) of
+    each thing that was found. What became of it and each thing are notes."""
 
     what: str
     status: int
-    words: str
+    said: Any
     details: Tuple[Detail, ...] = ()
-    # Whether these are findings, which all forms have by themselves.
-    are_findings: bool = False
+    # What was found where these are findings, which all forms have by themselves.
+    findings: Sequence[Finding] = ()
 
     def causes(self) -> Sequence[Detail]:
         """Why its status is not 0, or nothing."""
-        return ([*self.details] or [(self.what, self.words, ())]) if self.status else []
+        return ([*self.details] or [(self.what, self.said, ())]) if self.status else []
 
 
 class Requested(NamedTuple):
@@ -33,7 +34,7 @@ class Requested(NamedTuple):
 
     besides: Sequence[Beside] = ()
     findings: Sequence[Finding] = ()
-    notes: Sequence[str] = ()
+    notes: Sequence[Any] = ()
     kinds: Sequence[str] = ()
     gap_count: Optional[int] = None
     like: Any = None
@@ -57,29 +58,27 @@ class Requested(NamedTuple):
 
 def less(beside: Beside, left: Sequence[Finding], waived: Sequence[Finding]) -> Beside:
     """What was looked for, by the findings that are left of it."""
-    kinds = KINDS.get(beside.what, ()) if beside.are_findings else ()
+    kinds = KINDS.get(beside.what, ()) if beside.findings else ()
     gone, its = sum(it.kind in kinds for it in waived), [it for it in left if it.kind in kinds]
     if not gone:
         return beside
-    told = f"{gone} of them waived" if its else "all waived" if gone > 1 else "waived"
-    return found(beside.what, its, f"{beside.words}, {told}")
+    return found(beside.what, its, SomeWaived(beside.said, gone, len(its)))
 
 
-def lacking(what: str, why: str, details: Tuple[Detail, ...] = ()) -> Beside:
+def lacking(what: str, why: Any, details: Tuple[Detail, ...] = ()) -> Beside:
     """Something that was asked for is not known."""
     return Beside(what, UNJUDGED, why, details)
 
 
-def outcome(what: str, certain: int, possible: int, words: str, details: Tuple[Detail, ...] = ()) -> Beside:
+def outcome(what: str, certain: int, possible: int, said: Any, details: Tuple[Detail, ...] = ()) -> Beside:
     """Something that was looked for beside the netlist, and how much of it there is."""
-    return Beside(what, 1 if certain else UNDECIDED if possible else 0, words, details)
+    return Beside(what, 1 if certain else UNDECIDED if possible else 0, said, details)
 
 
-def found(what: str, findings: Sequence[Finding], words: str) -> Beside:
+def found(what: str, findings: Sequence[Finding], said: Any) -> Beside:
     """Findings of a kind that was looked for."""
     certain = sum(it.sure is not False for it in findings)
-    details = tuple((doubt(it) + it.id, it.sentence(), ()) for it in findings)
-    return outcome(what, certain, len(findings) - certain, words, details)._replace(are_findings=True)
+    return outcome(what, certain, len(findings) - certain, said)._replace(findings=findings)
 
 
 def status_with(status: int, besides: Sequence[Beside]) -> int:

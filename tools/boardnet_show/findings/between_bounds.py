@@ -10,14 +10,10 @@ from boardnet_show.judging.two_bounds import own_commands
 from .board import Board
 from .finding import MISSING, OPEN, SHORT, Finding
 from .findings import Opens, open_clues
-from .shorts import JOINED, findings as shorts_of
+from .shorts import findings as shorts_of
 
 MICROMETRE = 10_000
 MOST = 400  # pieces of a command that are looked at one by one
-NOTE = (
-    "The board lies between two bounds, since some of its copper is outside the profile. The lower one is shown; where the upper one is "
-    "over a micrometre wider, it is outlined by dashes. What is not certain is called undecided."
-)
 
 
 def board_of(low, sources, shapes, labels=None, ties=None):
@@ -38,10 +34,11 @@ class Findings:
 
     def of(self, answer):
         """The findings of the joint answer."""
-        return [self.finding(*it, points) for it, points in zip(answer.findings, answer.points)]
+        return list(map(self.finding, answer.findings))
 
-    def finding(self, kind, sure, words, _, points):
+    def finding(self, joint):
         """One of them; its places are told by its points."""
+        kind, sure, points = joint.kind, joint.is_sure, joint.points
         number, board = self.counts[kind], self.board
         self.counts[kind] += 1
         points = [*points[1::-1], *points[2:]] if kind == OPEN else points  # the part that stands apart first
@@ -51,7 +48,7 @@ class Findings:
             kind,
             number,
             " and ".join(map(board.name, names[:3])),
-            words + ".",
+            joint.what,
             list(points),
             nets=nets,
             names=names,
@@ -60,12 +57,11 @@ class Findings:
         known = self.shorts.get(nets[0]) if kind == SHORT and sure else None
         if known:
             return found._replace(
-                words=found.words.replace(JOINED, JOINED + known.where, 1),
+                what=joint.what._replace(where=known.what.where),
                 clues=known.clues,
                 meets=known.meets,
                 sides=known.sides,
                 is_labelled=known.is_labelled,
-                where=known.where,
             )
         return self.with_gap(found)
 

@@ -2,10 +2,9 @@
 it is known."""
 from collections import defaultdict
 from functools import cached_property
-from typing import TYPE_CHECKING, Any, Dict, List, Optional, Sequence, Tuple
+from typing import TYPE_CHECKING, Any, Dict, Iterable, List, Optional, Sequence, Tuple
 
-from boardnet_show.base.wording import millimetres
-from boardnet_show.formats.ipc356 import NO_NET
+from boardnet_show.base.facts import CopperAt, NamedPoint, Pin, PointAt, Source
 from boardnet_show.formats.report import Report
 from boardnet_show.intake.package import Package
 from boardnet_show.judging.net_ties import Ties
@@ -64,9 +63,6 @@ class Board:
     def name(self, number: int) -> str:
         return self.report.names[number]
 
-    def spoken_name(self, number: int) -> str:
-        return "a pin without net (N/C)" if self.name(number) == NO_NET else self.name(number)
-
     def name_of(self, point: int) -> int:
         return self.report.points[point][2]
 
@@ -80,14 +76,14 @@ class Board:
         number = self.report.points[point][0]
         return self.records[number - 1] if number <= len(self.records) else None
 
-    def pin(self, point: int) -> str:
+    def pin(self, point: int) -> Pin:
         """A point by component and pin, or by its record."""
-        record = self.record(point)
+        record, number = self.record(point), self.report.points[point][0]
         if not record or not record.component:
-            return f"test record {self.report.points[point][0]}"
+            return Pin(record=number)
         if record.component == "VIA":
-            return f"the via of test record {self.report.points[point][0]}"
-        return f"{record.component} pin {record.pin}" if record.pin else record.component
+            return Pin(record=number, is_via=True)
+        return Pin(record.component, record.pin)
 
     def spot(self, point: int) -> Spot:
         """Where a point lies, in u."""
@@ -106,22 +102,22 @@ class Board:
         lines = self.package.lines.get(name)
         return line if lines is None else lines[line - 1] if line <= len(lines) else 0
 
-    def point_words(self, point: int) -> str:
+    def point_at(self, point: int) -> PointAt:
         """A point with its layer and place."""
-        return (
-            f"{self.pin(point)} ({self.manifest.layer_word(self.layer(point))}, {self.place_words(self.spot(point))})"
-        )
+        return PointAt(self.pin(point), self.manifest.layer_word(self.layer(point)), self.spot(point))
+
+    def points_at(self, points: Iterable[int]) -> Tuple[PointAt, ...]:
+        return tuple(map(self.point_at, points))
+
+    def named_point(self, point: int) -> NamedPoint:
+        return NamedPoint(self.name(self.name_of(point)), self.point_at(point))
 
     # ---- places and pieces
 
-    @staticmethod
-    def place_words(spot: Spot) -> str:
-        return f"{millimetres(spot[0])}, {millimetres(spot[1])} mm"
-
-    def copper_place(self, spot: Sequence[float], layer: int) -> str:
+    def copper_at(self, spot: Sequence[float], layer: int) -> CopperAt:
         """A place of the copper, rounded to a micrometre: it is where to look."""
         x, y = (round(v, -4) for v in spot)
-        return f"{self.manifest.layer_word(layer)} ({self.manifest.copper[layer - 1]}) at {self.place_words((x, y))}"
+        return CopperAt(self.manifest.layer_word(layer), self.manifest.copper[layer - 1], (x, y))
 
     @cached_property
     def came_places(self) -> Any:
@@ -137,14 +133,11 @@ class Board:
         )
         return source
 
-    def source(self, piece: int) -> str:
+    def source(self, piece: int) -> Source:
         """Which command or line of which file made a piece; the file alone where no more is known."""
         file = self.report.sources[piece][0]
-        name, came = self.manifest.files[file], self.came(piece)
-        if came is None:
-            return f"{name} as it was rewritten"
-        word = "line" if self.manifest.is_drilled(file) else "command"
-        return f"{name} {word} {came[0]}" + (f" copy {came[1]}" if came[1] else "")
+        number, copy = self.came(piece) or (0, 0)
+        return Source(self.manifest.files[file], number, self.manifest.is_drilled(file), copy)
 
     def common_layer(self, p: int, q: int) -> int:
         """The first layer that two pieces share."""

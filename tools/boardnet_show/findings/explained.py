@@ -8,6 +8,7 @@ from boardnet_show.judging import net_ties
 from boardnet_show.judging.answers import Answer, Counts
 
 from .board import Board
+from boardnet_show.base.facts import Flood
 from .finding import GAP, Finding
 from .waivers import Waived, Waiver
 
@@ -16,7 +17,7 @@ if TYPE_CHECKING:  # most boards have no bounds, and loading takes longer than a
 
 
 class Explained(NamedTuple):
-    """`board` is None where nothing was judged. `notes` are sentences on what was taken and what is not known, `hints`
+    """`board` is None where nothing was judged. `notes` are on what was taken and what is not known, `hints`
     answers of `check` on changed copies, `bounds` the answer on a board that lies between two, `reports` the report
     twice, or those of a lower and an upper board, `report` its text, `taken` what its files were taken as, `declared`
     what is declared of them, `stale` the waivers of no finding, `wider` what an upper board has beyond a lower one, as
@@ -33,8 +34,8 @@ class Explained(NamedTuple):
     reports: Sequence[Report] = ()
     report: bytes = b""
     mends: Sequence[Any] = ()
-    notes: Sequence[str] = ()
-    flood: str = ""
+    notes: Sequence[Any] = ()
+    flood: Optional[Flood] = None
     taken: Sequence[Taken] = ()
     declared: Sequence[Any] = ()
     waived: Sequence[Waived] = ()
@@ -42,7 +43,7 @@ class Explained(NamedTuple):
     unlooked: Sequence[Waiver] = ()
     wider: Sequence[Tuple[int, Any]] = ()
 
-    def noted(self, *notes: str) -> "Explained":
+    def noted(self, *notes: Any) -> "Explained":
         return self._replace(notes=[*self.notes, *notes])
 
     def counts(self) -> Counts:

@@ -1,6 +1,5 @@
-"""The findings of a report, each with its words: opens, shorts, and test points without copper."""
-from boardnet_show.base import wording
-from boardnet_show.formats.ipc356 import NO_NET
+"""The findings of a report: opens, shorts, and test points without copper."""
+from boardnet_show.base import facts
 
 from . import shorts
 from .finding import MISSING, OPEN, SUGGESTED, Clue, Finding
@@ -24,13 +23,19 @@ class Opens:
         return self.stacked.gap(other, home, self.board.spot(here)) or self.copper.gap(other, home)
 
     def finding(self, number, name, home, other, point):
-        board, here, there, away = self.board, point, self.points.members[name, home][0], ""
+        board, here, there, away = self.board, point, self.points.members[name, home][0], None
         if board.spot(here) and board.spot(there):
             squared, there, here = self.points.pair(name, home, other)
-            away = f", {wording.at_most(squared ** 0.5)} mm away" if squared else ", at the same place"
+            away = squared**0.5
         parts = [self.points.members[name, net] for net in (other, home)]
-        told = f"{board.point_words(here)} is not joined to {board.point_words(there)}{away}; {board.spoken_name(name)} is in {self.parts[name]} parts, "
-        told += f"here {extent(board, parts[0])}, there {extent(board, parts[1])}."
+        told = facts.NotJoined(
+            board.point_at(here),
+            board.point_at(there),
+            away,
+            board.name(name),
+            self.parts[name],
+            (pins(board, parts[0]), pins(board, parts[1])),
+        )
         gap = self.gap(home, other, here)
         return Finding(
             OPEN,
@@ -66,7 +71,7 @@ class Opens:
             _, there, here = self.points.pair(tie, other, one)
         nets = [board.report.points[point][3] for point in (here, there)]
         gap = self.gap(nets[1], nets[0], here) if min(nets) >= 0 else None
-        told = f"{one} and {other} are declared to be tied ({tie.source}) and no copper joins them: {board.point_words(here)} and {board.point_words(there)} are nearest."
+        told = facts.TieNotMade(tie.names, tie.source, (board.point_at(here), board.point_at(there)))
         its = Finding(
             OPEN,
             number,
@@ -82,37 +87,25 @@ class Opens:
         return its._replace(nets=nets, clues=open_clues(board, gap), parts=on_nets)
 
 
-def extent(board, members):
-    """Which pins of the name are on a part, those of components before vias."""
-    pins = dict.fromkeys(board.pin(point) for point in members)
-    return wording.spoken(sorted(pins, key=lambda pin: pin.startswith(("the via", "test record"))), 4)
+def pins(board, members):
+    """Which pins of the name are on a part."""
+    return tuple(dict.fromkeys(board.pin(point) for point in members))
 
 
 def open_clues(board, gap):
     if gap is None:
-        return (
-            [Clue(SUGGESTED, "the two parts have no copper on one layer; look for a hole that should join them.")]
-            if board.shapes
-            else []
-        )
-    where = board.copper_place(gap.place, gap.layer)
+        return [Clue(SUGGESTED, facts.NoCommonLayer())] if board.shapes else []
+    where = board.copper_at(gap.place, gap.layer)
     if gap.below:
-        return [
-            Clue(
-                SUGGESTED,
-                f"a hole is missing where both parts have copper, on {where} and on {board.manifest.layer_word(gap.below)}.",
-            )
-        ]
-    return [Clue(SUGGESTED, f"their copper comes nearest, {wording.at_most(max(gap.distance, 0))} mm, on {where}.")]
+        return [Clue(SUGGESTED, facts.HoleMissing(where, board.manifest.layer_word(gap.below)))]
+    return [Clue(SUGGESTED, facts.ComesNearest(max(gap.distance, 0), where))]
 
 
 def missing(board):
     """Each test point without copper."""
     for number, point in enumerate(board.report.bare):
         name = board.name_of(point)
-        of = "of no net" if board.name(name) == NO_NET else f"of {board.name(name)}"
-        layer = board.manifest.copper[board.layer(point) - 1]
-        told = f"no copper of {layer} lies under {board.point_words(point)}, {of}."
+        told = facts.NoCopper(board.manifest.copper[board.layer(point) - 1], board.named_point(point))
         yield Finding(MISSING, number, board.name(name), told, [point], names=[name])
 
 
@@ -122,11 +115,6 @@ def all_findings(board):
 
 
 def flood(report):
-    """A sentence where most points have no copper, so that what follows has one cause, else nothing."""
+    """Where most points have no copper, so that what follows has one cause; else None."""
     bare, points = len(report.bare), len(report.points)
-    if bare < 4 or 2 * bare <= points:
-        return ""
-    return (
-        f"{bare} of {points} test points lie beside the copper. Such a flood has one cause: the netlist and the copper count from other "
-        "origins or in other units, layers are in another order, or the netlist is of another board. See to that first."
-    )
+    return None if bare < 4 or 2 * bare <= points else facts.Flood(bare, points)

@@ -1,12 +1,21 @@
 """What the reports on a lower and an upper board say together: what is certain, and what is undecided."""
 from collections import defaultdict
+from typing import Any, NamedTuple, Sequence
 
-from boardnet_show.base.wording import counted, millimetres, spoken
+from boardnet_show.base import facts
 from boardnet_show.formats.ipc356 import NO_NET
 
 from .net_ties import nets_of
 
-FEW = 4  # parts that are told by a point
+
+class BothFind(NamedTuple):
+    """A finding of both boards, or of one alone: `what` is so, where, and the points or names in doubt."""
+
+    kind: str
+    is_sure: bool
+    what: Any
+    places: Sequence[facts.Place]
+    points: Sequence[int]
 
 
 class Joint:
@@ -26,21 +35,29 @@ class Joint:
         )
 
     def findings(self):
-        """(kind, sure, words, places, what) with `what` the points or names in doubt."""
         return [*self.opens(), *self.parted(), *self.shorts(), *self.missing()]
 
-    # ---- words
+    def found(self, kind, what, points):
+        return BothFind(kind, what.is_sure, what, self.places(points), list(points))
+
+    # ---- points
 
     def spot(self, point):
         """x, y and layer."""
         return (*self.high.spots[point], self.high.points[point][1])
 
-    def pin(self, point):
+    def point_at(self, point):
         record, layer, *_ = self.high.points[point]
         told = self.records[record - 1] if record <= len(self.records) else None
-        pin = f"{told.component} pin {told.pin}" if told and told.component and told.pin else f"test record {record}"
-        x, y, _ = self.spot(point)
-        return f"{pin} ({self.manifest.layer_word(layer)}, {millimetres(x)}, {millimetres(y)} mm)"
+        is_named = told and told.component and told.pin
+        pin = facts.Pin(told.component, told.pin) if is_named else facts.Pin(record=record)
+        return facts.PointAt(pin, self.manifest.layer_word(layer), self.high.spots[point])
+
+    def points_at(self, points):
+        return tuple(map(self.point_at, points))
+
+    def named_points(self, points):
+        return tuple(facts.NamedPoint(self.name(point), self.point_at(point)) for point in points)
 
     def places(self, points):
         return [*map(self.spot, points)]
@@ -65,8 +82,7 @@ class Joint:
             parts = sorted(nets.values())
             if len(parts) > 1:
                 firsts = [part[0] for part in parts]
-                told = f"{self.high.names[name]} is in {counted(len(parts), 'part')}: {spoken(map(self.pin, firsts), FEW)} are not joined"
-                yield "open", True, told, self.places(firsts), firsts
+                yield self.found("open", facts.InParts(self.high.names[name], self.points_at(firsts), True), firsts)
             for part in parts:
                 yield from self.perhaps_open(self.high.names[name], part)
 
@@ -78,8 +94,7 @@ class Joint:
                 first.setdefault(self.low.points[point][3], point)
         firsts = list(first.values())
         if len(firsts) > 1:
-            told = f"{name} may be in {counted(len(firsts), 'part')}: {spoken(map(self.pin, firsts), FEW)} are joined on the upper board alone"
-            yield "open", False, told, self.places(firsts), firsts
+            yield self.found("open", facts.InParts(name, self.points_at(firsts), False), firsts)
 
     def parted(self):
         """Declared ties that the copper does not have, or perhaps not; those of a name without a point have no
@@ -93,12 +108,8 @@ class Joint:
                 continue
             net = min(set.intersection(*(above.get(name, set()) for name in it.names)), default=None)
             points = [firsts[name].get(net, next(iter(firsts[name].values()))) for name in it.names]
-            sure = it in certain
-            how = "no copper joins them" if sure else "are joined on the upper board alone"
-            told = (
-                f"{spoken(it.names)} are declared to be tied ({it.source}) and {how}: {spoken(map(self.pin, points))}"
-            )
-            yield "open", sure, told, self.places(points), points
+            told = facts.TieParted(it.names, it.source, self.points_at(points), it in certain)
+            yield self.found("open", told, points)
 
     # ---- shorts: names on one net; a point without a net is a name of its own
 
@@ -116,39 +127,20 @@ class Joint:
     def shorts(self):
         certain = self.short_nets(self.low)
         for names in certain:
-            yield "short", True, f"{self.these(names.values())} are joined", self.places(names.values()), list(
-                names.values()
-            )
+            yield self.found("short", facts.NamesJoined(self.named_points(names.values()), True), names.values())
         for names in self.short_nets(self.high):
             groups = classes(names, certain)
             if len(groups) > 1 and any(isinstance(key, tuple) for key in names):
                 firsts = [names[group[0]] for group in groups]
-                yield "short", False, f"{self.these(firsts)} are joined on the upper board alone", self.places(
-                    firsts
-                ), firsts
-
-    def these(self, points):
-        return spoken(
-            [
-                f"{'a pin without net (N/C)' if self.name(p) == NO_NET else self.name(p)} at {self.pin(p)}"
-                for p in points
-            ],
-            FEW,
-        )
+                yield self.found("short", facts.NamesJoined(self.named_points(firsts), False), firsts)
 
     # ---- test points without copper
 
     def missing(self):
         for point in self.high.bare:
-            yield "missing", True, f"no copper lies under {self.pin(point)}, of {self.name(point)}", self.places(
-                [point]
-            ), [point]
+            yield self.found("missing", facts.BareBelow(*self.named_points([point]), True), [point])
         for point in sorted(set(self.low.bare) - set(self.high.bare)):
-            yield "missing", False, f"copper lies under {self.pin(point)}, of {self.name(point)}, on the upper board alone", self.places(
-                [point]
-            ), [
-                point
-            ]
+            yield self.found("missing", facts.BareBelow(*self.named_points([point]), False), [point])
 
 
 def classes(keys, joined):

@@ -1,7 +1,8 @@
 """What a yes says nothing about: boards on which no two test points could contradict one another, and pins without
 net that are joined."""
-from boardnet_show.base.wording import counted, spoken
 from boardnet_show.formats.ipc356 import NO_NET
+
+from boardnet_show.base.facts import UnnamedJoined
 
 FEW = 4
 NOTHING = "NOTHING WAS JUDGED: "
@@ -41,10 +42,4 @@ def joined_pins(board):
 def unnamed_notes(board):
     """A note on records without net that are on one net, with their places."""
     found = list(joined_pins(board))
-    if not found:
-        return []
-    told = [spoken(map(board.point_words, points), FEW) for points in found]
-    more = f"; so are those of {counted(len(found) - FEW, 'more net')}" if len(found) > FEW else ""
-    return [
-        f"records without net (N/C) are joined: {'; '.join(told[:FEW])}{more}. Each such pin should stand alone; a pad and its via may be two records"
-    ]
+    return [UnnamedJoined(tuple(map(board.points_at, found[:FEW])), max(0, len(found) - FEW))] if found else []

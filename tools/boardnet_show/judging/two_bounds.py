@@ -39,13 +39,12 @@ class SideRefused(Refused):
 
 
 class Bounded(NamedTuple):
-    """The answer on a board between two; `findings` are (kind, sure, words, places), places (x, y, layer) with x and y
-    in u. `points` are those of each finding, `sides` what both boards are made of, `notes` what else is to be told."""
+    """The answer on a board between two, and what both say; `sides` are what both boards are made of, `notes` what
+    else is to be told."""
 
     answer: Answer
     findings: list
     left_out: list
-    points: tuple = ()
     sides: tuple = ()
     notes: tuple = ()
 
@@ -232,14 +231,14 @@ def answered(program, package, sides, low, high, ties):
     records = ipc356.records(package.read(package.manifest.netlist))
     joint = Joint(low.report, high.report, records, package.manifest, ties)
     findings = joint.findings()
-    if any(not sure for _, sure, *_ in findings):
+    if not all(it.is_sure for it in findings):
         findings = [*map(Differing(program, low, high, sides.sources).placed, findings)]
-    certain, doubt = (sum(it[1] is sure for it in findings) for sure in (True, False))
+    certain, doubt = (sum(it.is_sure is sure for it in findings) for sure in (True, False))
     certain += len(lost(ties, high.report))
     status = 0 if joint.agrees() else 1 if certain else UNDECIDED
     made = len(ties.ties) - len(ties.parted(low.report)) if ties.ties else None
     answer = Answer(status, answers.BETWEEN, "", ties=made, both=answers.Both(low.line, high.line, certain, doubt))
-    return Bounded(answer, [it[:4] for it in findings], sides.left_out, tuple(it[4] for it in findings), sides.sources)
+    return Bounded(answer, findings, sides.left_out, sides.sources)
 
 
 def judged_by(program, package, sides, ties, before=()):

@@ -4,8 +4,8 @@ A second look at both packages that says only where: pieces by `flatten`'s norma
 """
 from collections import defaultdict, deque
 
+from boardnet_show.base import facts
 from boardnet_show.base.statuses import BadCopper
-from boardnet_show.base.wording import millimetres, spoken
 from boardnet_show.geometry.touching import Touching
 
 from . import board_copper
@@ -93,25 +93,21 @@ class Differing:
             return (*self.touching.middle(p), layer)
         return (*self.touching.touching_place(p, q), layer)
 
-    def command(self, piece):
+    def source(self, piece):
         file, command, _ = self.keys[1][piece]
-        return f"{self.manifest.files[file]} {'line' if self.manifest.is_drilled(file) else 'command'} {command}"
+        return facts.Source(self.manifest.files[file], command, self.manifest.is_drilled(file))
 
-    def touch_words(self, pair):
+    def touch(self, pair):
         x, y, layer = self.touch_place(*pair)
-        commands = " and ".join(dict.fromkeys(map(self.command, pair)))
-        return f"{commands} at {self.manifest.layer_word(layer)}, {millimetres(x)}, {millimetres(y)} mm"
+        return facts.Touch(tuple(map(self.source, pair)), self.manifest.layer_word(layer), (x, y))
 
     def placed(self, finding):
         """A finding of the upper board alone, with the places that make it."""
-        kind, sure, words, places, points = finding
-        pairs = [] if sure or kind == "missing" or not self.shapes else self.touches(points)
+        is_placed = finding.is_sure or finding.kind == "missing" or not self.shapes
+        pairs = [] if is_placed else self.touches(finding.points)
         if not pairs:
             return finding
-        return (
-            kind,
-            sure,
-            f"{words}, by {spoken(map(self.touch_words, pairs))}",
-            [self.touch_place(*pair) for pair in pairs] + places,
-            points,
+        return finding._replace(
+            what=finding.what._replace(touches=tuple(map(self.touch, pairs))),
+            places=[self.touch_place(*pair) for pair in pairs] + finding.places,
         )

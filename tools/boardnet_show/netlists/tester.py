@@ -1,5 +1,5 @@
 """The netlist for a tester: of a judged board, or of the lower one of two bounds, given out where `check` confirms it."""
-from typing import Any, Iterable, List, NamedTuple, Optional, Sequence, Tuple
+from typing import Any, Iterable, NamedTuple, Optional, Sequence, Tuple
 
 from boardnet_show.base.statuses import BadCopper, Stop
 from boardnet_show.findings import between_bounds
@@ -14,17 +14,28 @@ from . import pad_list
 from .tester_records import Netlist
 from .tooling_holes import tooling
 
-LOWER = "it is of the lower of two bounds: what that leaves out has no record"
+
+class Confirmed(NamedTuple):
+    """Whether `check` agrees with a netlist and `audit` with that report, and what they say; `audit` is empty where the
+    board was not judged, `is_asked` false where `check` could not be asked."""
+
+    is_right: bool
+    check: str
+    audit: str = ""
+    is_asked: bool = True
 
 
 class Tester(NamedTuple):
-    """`text` is None where nothing was confirmed; `lines` are told of it, and `netlist` has the records. `is_whole` but
-    where the upper of two bounds joins what it has apart."""
+    """`text` is None where nothing was confirmed, and `netlist` has the records, None where there are none, which `why`
+    says. `is_whole` but where the upper of two bounds joins what it has apart; `below` and `above` are what is said of
+    the netlist on the board, or on its lower bound, and on its upper one."""
 
     text: Optional[str]
-    lines: List[str]
     netlist: Optional[Netlist]
     is_whole: bool = True
+    why: str = ""
+    below: Optional[Confirmed] = None
+    above: Optional[Confirmed] = None
 
 
 def with_copper(program: Program, told: Judged, sources: Iterable[Any] = (), known: Any = None) -> Board:
@@ -46,26 +57,23 @@ def copper_of(program: Program, told: Judged, board: Optional[Board], known: Any
     return with_copper(program, between[1], sides.sources[0], known)
 
 
-def confirmed(program: Program, package: Package, text: str) -> Tuple[bool, str]:
-    """Whether `check` agrees with the netlist, mended where it has forms of its own, and `audit` confirms that report,
-    and the sentence on it."""
+def confirmed(program: Program, package: Package, text: str) -> Confirmed:
+    """Whether `check` agrees with the netlist, mended where it has forms of its own, and `audit` confirms that report."""
     data, _ = netlist_mends.mended(text.encode("latin-1"), package.manifest.layers)
     copy = package.changed(beside(package, "tester"), {package.manifest.netlist: data})
     answer = program.check(copy)
     if answer.status not in (0, 1):
-        return False, f"`check` with it says: {answer.line}"
+        return Confirmed(False, answer.line)
     audit = program.audit(copy, answer.out)
     is_right: bool = (answer.status, audit.status) == (0, 0) and b"\npoints 0\n" not in answer.out
     audited = audit.out.decode("ascii", "replace").strip() or audit.line
-    return is_right, f"`check` with it says: {answer.line} ({audited})"
+    return Confirmed(is_right, answer.line, audited)
 
 
-def above(program: Program, base: Package, text: str) -> Tuple[bool, str]:
+def above(program: Program, base: Package, text: str) -> Confirmed:
     """What the upper of two bounds says of the netlist: where both agree, so does the board between them."""
     high: Judged = base.between[2]  # type: ignore[index]
-    is_right, said = confirmed(program, high.package, text)
-    meaning = "so the board itself agrees" if is_right else "so some of its nets may be one on the board"
-    return is_right, f"on the upper bound {said}, {meaning}"
+    return confirmed(program, high.package, text)
 
 
 def made(
@@ -74,25 +82,19 @@ def made(
     title: str,
     board: Optional[Board] = None,
     known: Any = None,
-    is_told: bool = True,
     adjacent: Optional[Sequence[Tuple[int, int]]] = None,
 ) -> Tester:
-    """The netlist of a judged package; where it is not told of, there are lines only on why there is none. `adjacent`
-    are pairs of nets that are close to each other, or None."""
+    """The netlist of a judged package. `adjacent` are pairs of nets that are close to each other, or None."""
     try:
         board, base = copper_of(program, told, board, known), told.package if told.package.between else None
         its = Netlist(pad_list.Padlist(board, pad_list.origins(board, base)), title, tooling(told.package), adjacent)
     except (Stop, BadCopper) as why:
-        return Tester(None, [f"no netlist for a tester: {why}"], None)
+        return Tester(None, None, why=str(why))
     text = its.netlist_text()
     try:
-        is_right, said = confirmed(program, board.package, text)
-        is_whole, upper = above(program, base, text) if base and is_right else (True, "")
+        below = confirmed(program, board.package, text)
+        upper = above(program, base, text) if base and below.is_right else None
     except Stop as stop:
-        is_right, said = False, str(stop)
-    if not is_right:
-        return Tester(None, [f"no netlist for a tester is written: {said}"], its)
-    if not is_told:
-        return Tester(text, [], its, is_whole)
-    first, *rest = its.lines()
-    return Tester(text, [f"{first}; {said}", *rest, *([LOWER, upper] if upper else [])], its, is_whole)
+        below, upper = Confirmed(False, str(stop), is_asked=False), None
+    is_whole = upper is None or upper.is_right
+    return Tester(text if below.is_right else None, its, is_whole, below=below, above=upper)

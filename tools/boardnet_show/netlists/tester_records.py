@@ -8,7 +8,7 @@ from collections import defaultdict
 from functools import lru_cache
 from typing import Any, Dict, Iterator, List, Optional, Sequence, Set, Tuple
 
-from boardnet_show.base.wording import at_most, counted, millimetres, spoken, with_ends
+from boardnet_show.base.wording import at_most, with_ends
 from boardnet_show.formats import ipc356
 from boardnet_show.formats.ipc356 import NO_NET
 from boardnet_show.formats.units import UNIT_WORDS
@@ -21,7 +21,6 @@ from .pad_list import Place as Touched
 from .tester_names import Names, in_ascii
 from .tooling_holes import Hole, Tooling
 
-FEW = 6  # nets and pads that are named in a line
 Key = Tuple[Any, ...]
 
 
@@ -116,20 +115,6 @@ class Row:
         most: int = max(*self.place.size, drill)
         return most > ipc356.MOST_SIZE * unit
 
-    def pad_words(self) -> str:
-        return words_of(self.place)
-
-
-def words_of(place: Touched) -> str:
-    """A pad by its pin, or by what it is and where."""
-    if place.part:
-        return f"{place.part} pin {place.pin}" if place.pin else str(place.part)
-    return f"a {'hole' if place.hole is not None else 'pad'} at {at_words(place)}"
-
-
-def at_words(place: Touched) -> str:
-    return f"{millimetres(place.middle[0])}, {millimetres(place.middle[1])} mm"
-
 
 def is_middle(place: Touched, shapes: Shapes) -> bool:
     """Whether a place is a round piece that is touched at its middle: there it has copper."""
@@ -205,8 +190,16 @@ class Netlist:
             ipc356.units_line(self.unit),
         ]
         aliases = [ipc356.alias_line(alias, with_ends(in_ascii(name))) for name, alias in self.names.alias.items()]
-        none = [f"C net without a record: {self.net_word(net)}" for net in self.without()]
+        none = [f"C net without a record: {self.names.of[net]} ({self.source_of(net)})" for net in self.without()]
         return ipc356.file_text([*head, *aliases, *lines, *none])
+
+    def source_of(self, net: int) -> str:
+        """Where the first piece of a net is from."""
+        its = self.board.source(self.board.pieces_of[net][0])
+        if not its.number:
+            return f"{its.file} as it was rewritten"
+        copy = f" copy {its.copy}" if its.copy else ""
+        return f"{its.file} {'line' if its.is_line else 'command'} {its.number}{copy}"
 
     def comments(self, row: Row) -> Iterator[str]:
         """What stands before a record: a pin that its columns do not hold, and how far it is from the middle."""
@@ -251,77 +244,3 @@ class Netlist:
             it is not None and file in outer and net in nets and it.kind == ("draw" if it.part else "contour")
             for it, (file, *_), net in its
         )
-
-    def untouched(self) -> str:
-        """What has no record, in few words."""
-        none, areas, pads = self.without(), self.areas(), len(self.unplaced)
-        told = [f"{counted(len(none), 'net')} without a record, first {self.net_word(none[0])}"] if none else []
-        told += [f"{counted(areas, 'area')} that no file calls a pad"] if areas else []
-        told += [f"{counted(pads, 'pad')} without a place on the grid"] if pads else []
-        return ", ".join(told)
-
-    def lines(self) -> Iterator[str]:
-        holes = sum(row.place.hole is not None for row in self.rows)
-        records = f"{counted(len(self.rows), 'record')} ({holes} of plated holes) of {counted(len(self.nets()), 'net')}"
-        yield f"{records}, in units of {UNIT_WORDS[self.unit]}"
-        yield from self.besides()
-        near = [row.away(self.unit) for row in self.rows if row.off(self.unit) and not row.is_moved(self.unit)]
-        if near:
-            most = millimetres(-(-max(near) // 100) * 100)
-            yield f"{counted(len(near), 'place')} rounded to that grid within their pads, by at most {most} mm"
-        moved = [row for row in self.rows if row.is_moved(self.unit)]
-        if moved:
-            pads = spoken((f"{row.pad_words()} by {at_most(row.away(self.unit))} mm" for row in moved), FEW)
-            yield f"{counted(len(moved), 'place')} farther from the middle of the pad, so that copper is there: {pads}"
-        over = [row for row in self.rows if row.is_over(self.unit, self.drill(row.place))]
-        if over:
-            size = f"a size of {ipc356.MOST_SIZE}, the most that its columns hold"
-            yield f"{counted(len(over), 'record')} with {size}: {spoken((row.pad_words() for row in over), FEW)}"
-        yield from self.wanting()
-
-    def besides(self) -> Iterator[str]:
-        """What the netlist has besides."""
-        tooling = self.tooling
-        if tooling.holes or tooling.slots:
-            slots = f"; {counted(tooling.slots, 'unplated slot')} without one" if tooling.slots else ""
-            yield f"{counted(len(tooling.holes), 'record')} (367) of unplated holes{slots}"
-        if tooling.unread:
-            yield f"{counted(len(tooling.unread), 'file')} of unplated holes not read: {spoken(tooling.unread)}"
-        if self.adjacent is not None:
-            yield f"{counted(len(set(self.adjacent)), 'pair')} of nets that are close to each other (379)"
-        doubt = [row for row in self.rows if len(row.place.masks) > 1]
-        if doubt:
-            pads = spoken((row.pad_words() for row in doubt), FEW)
-            yield f"{counted(len(doubt), 'record')} without a mask code, since the netlist has several: {pads}"
-
-    def wanting(self) -> Iterator[str]:
-        """Nets that a tester cannot touch, or not at a pad."""
-        outer = (0, 1, self.board.manifest.layers)
-        buried = [row for row in self.rows if row.access not in outer]
-        if buried:
-            places = spoken(map(self.place_word, buried), FEW)
-            yield f"{counted(len(buried), 'record')} of buried holes, which no prober reaches: {places}"
-        pads = {row.place.net for row in self.rows if not row.place.is_via or row.place.part}
-        middles = sorted(self.nets() - pads)
-        if middles:
-            nets = spoken(map(self.net_word, middles), FEW)
-            yield f"{counted(len(middles), 'net')} with mid-points (vias) alone, and no pad: {nets}"
-        none = self.without()
-        if none:
-            yield f"{counted(len(none), 'net')} without a record: {spoken(map(self.net_word, none), FEW)}"
-        if self.unplaced:
-            unplaced = spoken(map(words_of, self.unplaced), FEW)
-            yield f"{counted(len(self.unplaced), 'pad')} without a place on the grid: {unplaced}"
-        several, joined = self.names.several, self.names.joined
-        if several:
-            yield f"{counted(len(several), 'name')} of several nets, which are called NET<n>: {spoken(several, FEW)}"
-        if joined:
-            names = spoken((spoken(its, 3) for its in joined), FEW)
-            yield f"{counted(len(joined), 'net')} of several names, called NET<n>: {names}"
-
-    def place_word(self, row: Row) -> str:
-        return f"{self.names.of[row.place.net]} at {at_words(row.place)}"
-
-    def net_word(self, net: int) -> str:
-        """A net by its name and where its first piece is from."""
-        return f"{self.names.of[net]} ({self.board.source(self.board.pieces_of[net][0])})"

@@ -13,7 +13,7 @@ from boardnet_show.formats.ipc356 import NO_NET
 from boardnet_show.intake.package import Drilled, Taken
 from boardnet_show.judging import net_ties
 
-from .sentences import answers, declarations, hints
+from .sentences import answers, declarations, findings, hints, notes, testers
 from .shown import Shown
 
 Place = Tuple[int, int]
@@ -80,8 +80,8 @@ def finding(board: Board, one: Finding) -> Dict[str, Any]:
         "id": one.id,
         "kind": one.kind,
         "names": [board.name(name) for name in one.names],
-        "words": one.words,
-        "hints": one.hints,
+        "words": findings.words(one),
+        "hints": findings.hints(one),
         "points": [point(board, number) for number in one.points],
         "nets": one.nets,
     }
@@ -127,15 +127,23 @@ def like_of(likeness: Any) -> Dict[str, Any]:
         return [place_object((x, y), layer) for x, y, layer in its]
 
     differences = [
-        {**each._asdict(), "places": places(each.places), "places_there": places(each.places_there)}
+        {
+            "id": each.id,
+            "kind": each.kind,
+            "sure": each.sure,
+            "words": notes.here_words(each),
+            "there": notes.there_words(each.there),
+            "places": places(each.places),
+            "places_there": places(each.places_there),
+        }
         for each in likeness.differences
     ]
     return {
         "path": likeness.path,
         "status": likeness.status,
-        "line": likeness.line,
-        "placed": likeness.placed,
-        "not_compared": likeness.untouched,
+        "line": notes.likened_line(likeness.said),
+        "placed": notes.other_placed(likeness.placed) if likeness.placed else "",
+        "not_compared": likeness.said.untouched,
         "differences": differences,
     }
 
@@ -177,13 +185,18 @@ def bounds_of(shown: Shown) -> Dict[str, Any]:
     """What a board between two has beside the lower one's findings."""
     if not shown.bounds:
         return {}
-    findings = [
-        {"kind": kind, "sure": sure, "words": words, "places": [place_object((x, y), layer) for x, y, layer in places]}
-        for kind, sure, words, places in shown.bounds.findings
+    both_find = [
+        {
+            "kind": it.kind,
+            "sure": it.is_sure,
+            "words": findings.statement(it.what),
+            "places": [place_object((x, y), layer) for x, y, layer in it.places],
+        }
+        for it in shown.bounds.findings
     ]
     both = shown.answer.both
     lines = {"lower": both.lower, "upper": both.upper} if both else {}
-    return {"bounds": {"findings": findings, "left_out": list(shown.bounds.left_out), **lines}}
+    return {"bounds": {"findings": both_find, "left_out": list(shown.bounds.left_out), **lines}}
 
 
 def files_of(shown: Shown) -> Dict[str, Any]:
@@ -204,7 +217,7 @@ def besides_of(shown: Shown) -> Dict[str, Any]:
     if its.like:
         told["like"] = like_of(its.like)
     if its.tester:
-        told["tester"] = {"written": its.tester.text is not None, "lines": its.tester.lines}
+        told["tester"] = {"written": its.tester.text is not None, "lines": testers.lines(its.tester)}
     return told
 
 
@@ -224,7 +237,7 @@ def judged_of(shown: Shown) -> Dict[str, Any]:
         "unnamed_points": unnamed,
         **seen.counts()._asdict(),
         **shown.found_counts(),
-        "flood": seen.flood,
+        "flood": findings.flood_words(seen.flood) if seen.flood else "",
         "waived": [signed(board, it) for it in seen.waived],
         "findings": [*(finding(board, it) for it in shown.findings), *absent_ties(shown)],
     }

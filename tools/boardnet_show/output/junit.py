@@ -5,8 +5,10 @@ from boardnet_show.base.wording import printable
 from boardnet_show.findings import besides
 from boardnet_show.findings.finding import doubt
 
+from .causes import of_beside
 from .markup import escaped, for_xml
 from .sentences import declarations
+from .sentences.findings import sentence
 from .shown import Shown
 
 
@@ -49,7 +51,7 @@ def of_names(shown: Shown) -> List[Case]:
     waived: Dict[int, List[str]] = {}
     for it in shown.seen.findings:
         for name in it.names:
-            failures.setdefault(name, []).append((doubt(it) + it.id, it.sentence()))
+            failures.setdefault(name, []).append((doubt(it) + it.id, sentence(it)))
     nowhere = [("tie", words) for words in shown.seen.lost_ties()]
     for each in shown.seen.waived:
         for name in each.finding.names:
@@ -72,12 +74,7 @@ def cases_of(shown: Shown) -> List[Case]:
     status = shown.answer.status
     cases = of_names(shown) if shown.board and status in (0, 1) else [whole(shown, status, shown.netlist_line)]
     cases += [
-        Case(
-            it.what,
-            [cause[:2] for cause in it.causes()],
-            "failure" if it.status == 1 else "error",
-            waived_of(shown, it.what),
-        )
+        Case(it.what, list(of_beside(it)), "failure" if it.status == 1 else "error", waived_of(shown, it.what))
         for it in shown.besides
     ]
     return (

@@ -23,9 +23,16 @@ from boardnet_show.findings.waivers import OF_NETLIST
 from . import record_page, text_lines
 from .markup import in_html
 from .sentences import answers, declarations
+from .sentences.findings import flood_words
+from .sentences.findings import hints as hints_of
+from .sentences.findings import words as words_of
 from .shown import Shown
 from .text_lines import cut
 
+BETWEEN_BOUNDS = (
+    "The board lies between two bounds, since some of its copper is outside the profile. The lower one is shown; where the upper one is "
+    "over a micrometre wider, it is outlined by dashes. What is not certain is called undecided."
+)
 Place = Tuple[float, float]
 HERE = os.path.join(os.path.dirname(os.path.abspath(__file__)), "page_assets")
 TITLES = {
@@ -165,7 +172,7 @@ def meet_data(meet: Meet, sides: Sequence[str]) -> Dict[str, Any]:
 
 
 def finding_data(finding: Finding, sides: Dict[str, List[str]]) -> Dict[str, Any]:
-    told = {"id": finding.id, "points": finding.points, "nets": finding.nets, "hints": finding.hints}
+    told = {"id": finding.id, "points": finding.points, "nets": finding.nets, "hints": hints_of(finding)}
     if finding.gap:
         gap = finding.gap
         told["gap"] = [*in_whole_nanometres(gap.place), gap.layer, nanometres(round(max(gap.distance, 0))), gap.below]
@@ -226,10 +233,10 @@ def block(board: Board, findings: Sequence[Finding], wider: Sequence[Any] = ()) 
 
 
 def row(finding: Finding, is_hinted: bool) -> str:
-    hints = "".join(f'<p class="hint">{in_html(hint)}</p>' for hint in finding.hints) if is_hinted else ""
+    hints = "".join(f'<p class="hint">{in_html(hint)}</p>' for hint in hints_of(finding)) if is_hinted else ""
     return (
         f'<li id="{finding.id}"><a href="#{finding.id}"><b>{doubt(finding)}{finding.kind} {finding.number}</b> '
-        f"{in_html(finding.words)}</a>{hints}</li>"
+        f"{in_html(words_of(finding))}</a>{hints}</li>"
     )
 
 
@@ -279,9 +286,7 @@ def audited(shown: Shown) -> str:
 def facts(shown: Shown) -> str:
     board, sure = shown.board, audited(shown)
     if shown.bounds:
-        from boardnet_show.findings import between_bounds  # most boards lie between no bounds
-
-        sure = between_bounds.NOTE
+        sure = BETWEEN_BOUNDS
     return (
         f"{counted(board.report.pieces, 'piece')} of copper in {counted(board.report.nets, 'net')}; "
         f"{counted(len(board.report.points), 'test point')} with {counted(len(board.report.names), 'name')}; "
@@ -303,7 +308,7 @@ def advice(shown: Shown) -> str:
     told = [
         *(f"hint: {words}" for words in text_lines.hint_words(shown)),
         *declarations.notes(shown.seen),
-        *([shown.seen.flood] if shown.seen.flood else []),
+        *([flood_words(shown.seen.flood)] if shown.seen.flood else []),
     ]
     return paragraphs([*told, *cut(list(text_lines.extra_lines(shown)), False)])
 

@@ -6,7 +6,8 @@ from boardnet_show.findings.finding import Finding, doubt
 
 from .markup import escaped, for_xml
 from .sentences import declarations
-from .shown import Shown
+from .sentences.findings import sentence
+from .shown import Shown, in_words
 
 KINDS = {
     "open": "Parts of a name that no copper joins",
@@ -52,7 +53,7 @@ def values(board: Board, finding: Finding) -> Iterator[str]:
         yield box(meet.place)
     if finding.kind in ("missing", "outside") or finding.kind == "short" and not finding.meets:
         yield from map(box, spots)
-    yield quoted(finding.sentence())
+    yield quoted(sentence(finding))
 
 
 def quoted(words: str) -> str:
@@ -71,10 +72,10 @@ def items_of(shown: Shown) -> List[str]:
     """Every cause of a status that is not 0, and where a board that lies between two bounds is wider above."""
     its, wider = items_of_board(shown) if shown.board else ([], [])
     its += [
-        item("beside", name, [*(box(place[:2]) for place in places), quoted(words)])
+        item("beside", name, [*(box(place[:2]) for place in places), *map(quoted, in_words([what]))])
         for beside in shown.besides
-        if not beside.are_findings
-        for name, words, places in beside.causes()
+        if not beside.findings
+        for name, what, places in beside.causes()
     ]
     return (its if its or not shown.status else [item("board", f"status {shown.status}", [quoted(shown.line)])]) + wider
 

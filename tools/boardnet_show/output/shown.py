@@ -5,11 +5,21 @@ from boardnet_show.findings.besides import Beside, Requested, status_with
 from boardnet_show.findings.explained import Explained
 from boardnet_show.findings.finding import Finding
 from boardnet_show.judging.answers import Answer
+from boardnet_show.judging.both_reports import BothFind
 
 from .sentences import answers
 
 if TYPE_CHECKING:  # most boards have no bounds, and loading takes longer than a small board
     from boardnet_show.judging.two_bounds import Bounded
+
+
+def in_words(notes: Sequence[Any]) -> List[str]:
+    """Notes as they are told; those that are texts already want no module for it."""
+    if all(isinstance(it, str) for it in notes):
+        return list(notes)
+    from .sentences import notes as sentences  # most boards have none, and loading takes longer than a small board
+
+    return list(map(sentences.words, notes))
 
 
 class Shown(NamedTuple):
@@ -39,7 +49,7 @@ class Shown(NamedTuple):
     @property
     def line(self) -> str:
         """The answer with what was asked for besides."""
-        return answers.whole_line(self.answer, [it.words for it in self.besides])
+        return answers.whole_line(self.answer, in_words([it.said for it in self.besides]))
 
     @property
     def board(self) -> Any:
@@ -56,7 +66,7 @@ class Shown(NamedTuple):
 
     @property
     def notes(self) -> List[str]:
-        return [*self.seen.notes, *self.requested.notes]
+        return in_words([*self.seen.notes, *self.requested.notes])
 
     @property
     def bounds(self) -> "Optional[Bounded]":
@@ -64,7 +74,10 @@ class Shown(NamedTuple):
         bounds = self.seen.bounds
         if not bounds or not self.requested.findings:
             return bounds
-        more = [(it.kind, it.sure is not False, it.words[:-1], self.places(it)) for it in self.requested.findings]
+        more = [
+            BothFind(it.kind, it.sure is not False, it.what, self.places(it), it.points)
+            for it in self.requested.findings
+        ]
         return bounds._replace(findings=[*bounds.findings, *more])
 
     def places(self, finding: Finding) -> List[Tuple[int, int, int]]:

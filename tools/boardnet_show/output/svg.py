@@ -10,6 +10,7 @@ from boardnet_show.geometry.shapes import Shapes
 
 from .markup import escaped, for_xml
 from .rdb import micrometres
+from .sentences import findings
 from .shown import Shown
 
 Place = Tuple[int, int]
@@ -167,13 +168,13 @@ class Picture:
     def labels(self) -> Iterator[str]:
         """The pins of the finding's points, and what the picture is of."""
         size, (left, low, _, _) = 16 * self.pixel, self.box
-        head = f"{self.finding.id}: {self.finding.name}" if self.finding else self.shown.line
+        head = f"{self.finding.id}: {findings.heading(self.finding)}" if self.finding else self.shown.line
         rows = [(head, (left + size // 2, low + size // 2))]
         for number in self.finding.points[:12] if self.finding else []:
             x, y = self.board.spot(number)
             rows.append(
                 (
-                    f"{self.board.pin(number)} ({self.board.name(self.board.name_of(number))})",
+                    f"{findings.pin_words(self.board.pin(number))} ({self.board.name(self.board.name_of(number))})",
                     (x + size // 2, y + size // 2),
                 )
             )
@@ -186,7 +187,7 @@ class Picture:
     def rows(self) -> Iterator[str]:
         left, low, right, high = self.box
         height = max(1, WIDTH * (high - low) // max(1, right - left))
-        told = self.finding.sentence() if self.finding else f"{self.shown.title}: {self.shown.line}"
+        told = findings.sentence(self.finding) if self.finding else f"{self.shown.title}: {self.shown.line}"
         yield (
             f'<svg xmlns="http://www.w3.org/2000/svg" width="{WIDTH}" height="{height}" role="img" '
             f'viewBox="{point((left, high))} {micrometres(right - left)} {micrometres(high - low)}">'

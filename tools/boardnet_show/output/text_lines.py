@@ -1,5 +1,5 @@
 """Findings as lines: grouped by name for a reader, one a line for `grep`."""
-from typing import Dict, Iterator, List, Sequence
+from typing import Any, Dict, Iterator, List, Sequence
 
 from boardnet_show.base.statuses import REFUSED, UNDECIDED, UNJUDGED
 from boardnet_show.base.wording import counted
@@ -62,7 +62,11 @@ def total(all_shown: Sequence[Shown]) -> str:
 
 def notes(shown: Shown) -> List[str]:
     """What is told before the findings."""
-    told = [*shown.notes, *([shown.seen.flood] if shown.seen.flood else [])]
+    told = list(shown.notes)
+    if shown.seen.flood:
+        from .sentences import findings  # most boards have none, and loading takes longer than a small board
+
+        told.append(findings.flood_words(shown.seen.flood))
     return told + [f"hint: {words}" for words in hint_words(shown)]
 
 
@@ -73,19 +77,23 @@ def bounded(shown: Shown) -> List[str]:
 
 def grouped(findings: Sequence[Finding]) -> Dict[str, List[Finding]]:
     """The findings by their names, in order of first appearance."""
+    from .sentences.findings import heading  # as above
+
     groups: Dict[str, List[Finding]] = {}
     for finding in findings:
-        groups.setdefault(finding.name, []).append(finding)
+        groups.setdefault(heading(finding), []).append(finding)
     return groups
 
 
 def blocks(shown: Shown) -> Iterator[List[str]]:
     """The lines of each finding, the first of a name with the name."""
+    from .sentences import findings  # as above
+
     for name, members in grouped(shown.findings).items():
         for at, finding in enumerate(members):
             head = [name] if at == 0 else []
-            yield head + [f"  {doubt(finding)}{finding.id}: {finding.words}"] + [
-                f"      {hint}" for hint in finding.hints
+            yield head + [f"  {doubt(finding)}{finding.id}: {findings.words(finding)}"] + [
+                f"      {hint}" for hint in findings.hints(finding)
             ]
 
 
@@ -119,26 +127,36 @@ def quiet(shown: Shown) -> Iterator[str]:
     yield heading(shown)
     yield from (f"{shown.path}: hint: {words}" for words in hint_words(shown))
     if shown.board:
+        from .sentences.findings import sentence  # as above
+
         netlist = shown.board.package.told_path(shown.board.manifest.netlist)
         yield from (f"{shown.path}: {words}" for words in shown.seen.lost_ties())
         for finding in shown.findings:
             place = f"{netlist}:{shown.board.line(finding.points[0])}" if finding.points else shown.path
-            yield f"{place}: {doubt(finding)}{finding.id}: {finding.sentence()}"
+            yield f"{place}: {doubt(finding)}{finding.id}: {sentence(finding)}"
     for row in bounded(shown):
         yield f"{shown.path}: {row.strip()}"
     for row in extra_lines(shown):
         yield f"{shown.path}: {row.strip()}"
 
 
+def like_lines(likeness: Any) -> Iterator[str]:
+    """The comparison with another board."""
+    from .sentences import notes  # few boards have one
+
+    placed = f" ({notes.words(likeness.placed)})" if likeness.placed else ""
+    yield notes.words(likeness.said) + placed
+    for it in likeness.differences:
+        yield f"  {it.name()}: {notes.words(it)}"
+
+
 def extra_lines(shown: Shown) -> Iterator[str]:
     """What is told of it in lines."""
     if shown.requested.like:
-        yield f"like {shown.requested.like.path}: {shown.requested.like.line}" + (
-            f" ({shown.requested.like.placed})" if shown.requested.like.placed else ""
-        )
-        for it in shown.requested.like.differences:
-            yield f"  {it.name()}: {it.sentence()}"
+        yield from like_lines(shown.requested.like)
     if shown.requested.tester:
-        first, *rest = shown.requested.tester.lines
+        from .sentences import testers  # few boards have one
+
+        first, *rest = testers.lines(shown.requested.tester)
         yield f"netlist for a tester: {first}"
         yield from (f"  {words}" for words in rest)

@@ -21,6 +21,7 @@ from boardnet_show.judging.nothing_judged import NO_POINTS
 from boardnet_show.judging.program import Program
 from boardnet_show.judging.upper_joins import Differing
 from boardnet_show.output.sentences import answers as sentences
+from boardnet_show.output.sentences.findings import statement
 from tests.fixtures import made
 from tests.fixtures.made import STAND_IN, flash, manifest, netlist, record
 from tests.fixtures.real_shapes import Real, fine, has, pieces_of
@@ -414,7 +415,7 @@ class Packages(made.Case):
             told = self.bounded(program, [*self.ARC, *flash(11, (5, 0), (7, 0))], records)
             self.assertEqual(told.status, 1)
             self.assertEqual(
-                [(kind, sure, words) for kind, sure, words, _ in told.findings],
+                [(it.kind, it.is_sure, statement(it.what)) for it in told.findings],
                 [
                     (
                         "open",
@@ -429,7 +430,7 @@ class Packages(made.Case):
                     ("missing", True, "no copper lies under J1 pin 3 (the one layer, 0.000, 0.000 mm), of C"),
                 ],
             )
-            self.assertEqual(told.findings[2][3], [(0, 0, 1)])
+            self.assertEqual(told.findings[2].places, [(0, 0, 1)])
 
     # Another arc over the first, half a micrometre from it, and a pad as near as one bound alone reaches.
     FACING = [*ARC, "X1000000Y2200500D02*", "G02X-1000000Y2200500I-1000000J0D01*"]
@@ -452,8 +453,9 @@ class Packages(made.Case):
                         [record("A", "J1.1", 1, 0), record("A", "J1.2", -1, 0), record(name, "J2.1", *spot)],
                     )
                     self.assertEqual((told.status, len(told.findings)), (11, 1), told)
-                    found, sure, said, places = told.findings[0]
-                    self.assertEqual((found, sure, said.startswith(words)), (kind, False, True), said)
+                    its, places = told.findings[0], told.findings[0].places
+                    said = statement(its.what)
+                    self.assertEqual((its.kind, its.is_sure, said.startswith(words)), (kind, False, True), said)
                     self.assertIn(f"on the upper board alone, by top.gbr {commands} at the one layer, 0.0", said)
                     self.assertTrue(abs(places[0][0]) < 10**6 and abs(places[0][1] - 11_000_000) < 10**6, places)
             told = self.bounded(program, self.ARC, [record("A", "J1.1", 0, 1.1), record("A", "J1.2", 1, 0)])

@@ -14,6 +14,7 @@ from boardnet_show.intake.mends import netlist_mends, table
 from boardnet_show.judging import judged
 from boardnet_show.judging.program import Program
 from boardnet_show.netlists import tester, tester_records
+from boardnet_show.output.sentences import testers
 from tests.fixtures import common, made
 from tests.fixtures.made import draw, drill, flash, gerber, label, manifest, netlist, record, region
 
@@ -421,7 +422,7 @@ class Netlists(made.Case):
         self.assertIsNone(found.text)
         self.assertIn(
             "no netlist for a tester is written: `check` with it says: differs, opens 1, shorts 0, missing 0",
-            found.lines[0],
+            testers.lines(found)[0],
         )
         status, out, none = self.made({**PADS, "top.gbr": "M02*\n%LPC*%\n"})
         self.assertEqual((status, none), (3, None))

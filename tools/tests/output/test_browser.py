@@ -1,7 +1,10 @@
 """The page in a real browser, where there is one: what it does, by what it tells of itself and by what it draws."""
 import unittest
+from unittest import mock
 
+from boardnet_show.base.facts import Flood
 from boardnet_show.output import page, svg
+from boardnet_show.output.sentences import findings
 from tests.fixtures import browser, common, pages
 from tests.fixtures.made import netlist, record
 from tests.fixtures.pages import BOARD, IDS
@@ -326,9 +329,10 @@ class InABrowser(common.Case):
             f"file {k}.gbr has macros and was flattened, which --keep keeps; commands are those of the file that came"
             for k in range(count)
         ]
-        return shown._replace(
-            seen=shown.seen._replace(notes=notes, flood="397 of 400 test points lie beside the copper. " * 20)
-        )
+        long = mock.patch.object(page, "flood_words", return_value="397 of 400 test points lie beside the copper. " * 20)
+        long.start()
+        self.addCleanup(long.stop)
+        return shown._replace(seen=shown.seen._replace(notes=notes, flood=Flood(397, 400)))
 
     def test_first_look(self):
         """Verdict, what is to be seen to first and the first finding stand on a small screen, however many notes there are; these are folded."""
@@ -477,7 +481,7 @@ class InABrowser(common.Case):
             self.assertTrue(names and all(names), (role, names))
         links = [name for role, name in nodes if role == "link"]
         for finding in self.shown.findings:
-            self.assertIn(f"{finding.kind} {finding.number} {finding.words}", links)
+            self.assertIn(f"{finding.kind} {finding.number} {findings.words(finding)}", links)
         self.assertIn("Opens 1", [name.strip() for role, name in nodes if role == "heading"])
         self.assertIn("Suggestion: their copper comes nearest", self.text_of("#spoken"))
         self.assertEqual(self.ask("document.getElementById('spoken').getAttribute('role')"), "status")
@@ -511,7 +515,7 @@ class InABrowser(common.Case):
                 self.browser.key("n")
                 self.assertEqual(
                     self.text_of("#spoken").replace(f"{finding.kind} {finding.number} ", "", 1).split(" Suggestion")[0],
-                    finding.words,
+                    findings.words(finding),
                 )
             if shown.board.report.pieces:
                 self.go("piece-0")

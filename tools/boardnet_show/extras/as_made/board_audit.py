@@ -4,12 +4,22 @@ A record 317 asks for no hole: where its net is joined elsewhere, a hole that is
 is compared with the holes at its place, and each plated hole with the records. Floating copper has no test point and no hole.
 """
 from collections import defaultdict
-from typing import Any, Dict, Iterator, List, NamedTuple, Optional, Set, Tuple
+from typing import Any, Dict, Iterator, List, NamedTuple, Optional, Set, Tuple, Union
 
+from boardnet_show.base.facts import Pin, Source
 from boardnet_show.base.statuses import BadCopper
-from boardnet_show.base.wording import counted, millimetres
 from boardnet_show.findings.besides import BOARD_AUDIT, Detail, Requested, lacking, outcome
 from boardnet_show.findings.board import Board
+from boardnet_show.findings.notes import (
+    FloatingCopper,
+    HolesCompared,
+    HolesNotCompared,
+    LargerHoles,
+    PlatedAs,
+    UnnamedHoles,
+    WideAs,
+    WrongHole,
+)
 from boardnet_show.formats import ipc356
 from boardnet_show.formats.ipc356 import HoleColumns
 from boardnet_show.intake import unplated_holes
@@ -29,7 +39,7 @@ class Hole(NamedTuple):
     end: Spot
     diameter: int
     plated: bool
-    source: str
+    source: Source
 
     def has(self, spot: Spot, by: int) -> bool:
         """Whether a place is at most so far from its middle or one of its ends."""
@@ -63,43 +73,40 @@ def plated(board: Board) -> Iterator[Hole]:
     for piece, (file, line, *_) in enumerate(board.report.sources):
         if board.manifest.is_drilled(file) and board.shapes:
             _, a, b, radius = board.shapes.solid(piece)
-            yield Hole(a, b, 2 * radius, True, f"{board.manifest.files[file]} line {line}")
+            yield Hole(a, b, 2 * radius, True, Source(board.manifest.files[file], line, is_line=True))
 
 
 def unplated(judged: Judged) -> Iterator[Hole]:
     for its in unplated_holes.of_package(judged.package):
         for piece, line in enumerate(its.lines):
             _, a, b, radius = its.shapes.solid(piece)
-            yield Hole(a, b, 2 * radius, False, f"{its.file} line {line}")
+            yield Hole(a, b, 2 * radius, False, Source(its.file, line, is_line=True))
 
 
 # ---- records
 
 
-def wrong_of(columns: HoleColumns, holes: List[Hole], unit: int) -> str:
-    """What is wrong with the holes at a record's place, or nothing."""
-    if not holes:
-        return "no drill file has a hole there"
+def wrong_of(columns: HoleColumns, holes: List[Hole], unit: int) -> Optional[Union[PlatedAs, WideAs]]:
+    """What is wrong with the holes at a record's place, or None."""
     if columns.plated is not None and all(hole.plated != columns.plated for hole in holes):
-        word = "plated" if columns.plated else "not plated"
-        return (
-            f"it is to be {word}, and {holes[0].source} has one that is {'plated' if holes[0].plated else 'not plated'}"
-        )
+        return PlatedAs(holes[0].plated, holes[0].source)
     wanted = columns.diameter and columns.diameter * unit
     if wanted and all(abs(hole.diameter - wanted) > unit for hole in holes):
-        return f"it is to be {millimetres(wanted)} mm wide, and that of {holes[0].source} is {millimetres(holes[0].diameter)} mm"
-    return ""
+        return WideAs(wanted, holes[0].source, holes[0].diameter)
+    return None
 
 
-def wrong_records(board: Board, holes: Holes, data: bytes, unit: int) -> Iterator[Tuple[int, str]]:
+def wrong_records(board: Board, holes: Holes, data: bytes, unit: int) -> Iterator[Tuple[int, WrongHole]]:
     """Each record of a hole that no drill file has so, with what is wrong."""
     lines = data.split(b"\n")
     for number, record in enumerate(board.records):
         if record.through and record.x is not None and record.y is not None:
             found = [holes.holes[its] for its in holes.at((record.x, record.y), 2 * unit)]
-            why = wrong_of(ipc356.hole_of(lines[record.line - 1]), found, unit)
-            if why:
-                yield number, why
+            why = wrong_of(ipc356.hole_of(lines[record.line - 1]), found, unit) if found else None
+            if why or not found:
+                is_named = record.component and record.pin
+                pin = Pin(record.component, record.pin) if is_named else Pin(record=number + 1)
+                yield number, WrongHole(pin, record.name, record.line, why)
 
 
 def unnamed(board: Board, holes: Holes, unit: int) -> List[Hole]:
@@ -138,36 +145,34 @@ def floating(board: Board) -> List[Floating]:
     return sorted(found, key=lambda its: (-its.size(), its.box))
 
 
-def places_of(board: Board, its: List[Floating]) -> str:
-    firsts = (
-        f"{board.manifest.layer_word(it.layer)} at {board.place_words(((it.box[0] + it.box[2]) // 2, (it.box[1] + it.box[3]) // 2))}"
-        for it in its[:FEW]
-    )
-    return ", ".join(firsts)
+def floating_notes(board: Board) -> List[FloatingCopper]:
+    its = floating(board)
+    middles = (((it.box[0] + it.box[2]) // 2, (it.box[1] + it.box[3]) // 2) for it in its)
+    largest = tuple((board.manifest.layer_word(it.layer), middle) for it, middle in zip(its[:FEW], middles))
+    return [FloatingCopper(len(its), largest)] if its else []
 
 
 # ---- all
 
 
-def details_of(board: Board, wrong: List[Tuple[int, str]]) -> Tuple[Detail, ...]:
+def details_of(board: Board, wrong: List[Tuple[int, WrongHole]]) -> Tuple[Detail, ...]:
     told = []
-    for number, why in wrong:
+    for number, what in wrong:
         record = board.records[number]
-        who = f"{record.component} pin {record.pin}" if record.component and record.pin else f"test record {number + 1}"
-        words = f"the hole of {who}, of {record.name}, line {record.line} of the netlist: {why}"
-        told.append((f"hole-{number + 1}", words, ((record.x or 0, record.y or 0, 1),)))
+        told.append((f"hole-{number + 1}", what, ((record.x or 0, record.y or 0, 1),)))
     return tuple(told)
 
 
-def larger_notes(board: Board) -> List[str]:
-    """A sentence on plated holes that are larger than their pads."""
+def unnamed_notes(board: Board, holes: Holes, unit: int) -> List[UnnamedHoles]:
+    its = unnamed(board, holes, unit)
+    return [UnnamedHoles(len(its), tuple(hole.source for hole in its[:FEW]))] if its else []
+
+
+def larger_notes(board: Board) -> List[LargerHoles]:
+    """A note on plated holes that are larger than their pads."""
     its = list(larger_than_pads(board))
-    if not its:
-        return []
-    firsts = ", ".join(f"{board.source(it.piece)} on {board.manifest.layer_word(it.layer)}" for it in its[:FEW])
-    return [
-        f"{counted(len(its), 'plated hole')} larger than the copper that it stands in, which the barrel joins and nothing cuts: {firsts}"
-    ]
+    firsts = tuple((board.source(it.piece), board.manifest.layer_word(it.layer)) for it in its[:FEW])
+    return [LargerHoles(len(its), firsts)] if its else []
 
 
 def with_copper(program: Any, judged: Judged, board: Board) -> Optional[Board]:
@@ -188,33 +193,9 @@ def requested(program: Any, judged: Judged, seen: Board) -> Requested:
     board, data = with_copper(program, low, seen), low.package.read(low.package.manifest.netlist)
     unit = ipc356.unit_of(data)
     if board is None or unit is None:
-        return Requested(
-            [lacking(BOARD_AUDIT, "holes and copper are not compared with the netlist, since they are not known")]
-        )
+        return Requested([lacking(BOARD_AUDIT, HolesNotCompared())])
     holes = Holes([*plated(board), *unplated(judged)], 8 * unit)
-    wrong, more, copper = list(wrong_records(board, holes, data, unit)), unnamed(board, holes, unit), floating(board)
-    words = (
-        f"{counted(len(wrong), 'record')} of holes that no drill file has so"
-        if wrong
-        else "each record of a hole has it"
-    )
-    notes = (
-        [
-            f"{counted(len(more), 'plated hole')} that no record names: {', '.join(hole.source for hole in more[:FEW])}"
-            + (", .." if len(more) > FEW else "")
-        ]
-        if more
-        else []
-    )
-    notes += (
-        [
-            f"{counted(len(copper), 'part')} of copper without a test point and a hole, the largest on {places_of(board, copper)}"
-        ]
-        if copper
-        else []
-    )
-    notes += larger_notes(board)
-    details = details_of(board, wrong)
-    return Requested(
-        [outcome(BOARD_AUDIT, len(wrong), 0, words, details)], notes=[*(text for _, text, _ in details), *notes]
-    )
+    wrong = list(wrong_records(board, holes, data, unit))
+    notes = [*unnamed_notes(board, holes, unit), *floating_notes(board), *larger_notes(board)]
+    said, details = HolesCompared(len(wrong)), details_of(board, wrong)
+    return Requested([outcome(BOARD_AUDIT, len(wrong), 0, said, details)], notes=[*(what for _, what in wrong), *notes])

@@ -5,21 +5,21 @@ that are certain are looked at alone: what is undecided there is told already.
 """
 from typing import Dict, FrozenSet, Iterator, List, NamedTuple, Optional, Sequence, Set, Tuple
 
-from boardnet_show.base.wording import counted, spoken
+from boardnet_show.base.facts import PartedWhenMade
 from boardnet_show.findings.board import Board
 from boardnet_show.findings.finding import CUT, OUTSIDE, Finding
 from boardnet_show.findings.nearest_copper import Gap
+from boardnet_show.findings.notes import HarmlessHoles
 from boardnet_show.formats.ipc356 import NO_NET
 from boardnet_show.formats.report import Report
 from boardnet_show.judging.judged import Judged
 
 from .made_boards import LOWER, UPPER, Copper, made
 from .point_parts import joined, parts_of
-from .removals import EDGE, Removal
+from .removals import Removal
 
 # So many things are tried alone, to say which one parts a net.
 MOST_TRIED = 24
-FEW = 4
 
 
 class Group(NamedTuple):
@@ -101,34 +101,16 @@ class MadeBoard:
         return told
 
 
-# ---- words
-
-
-def who(cutters: Sequence[Removal]) -> str:
-    return spoken([it.words for it in cutters], FEW)
-
-
-def parted(board: Board, group: Group) -> str:
-    """What is so on the made board."""
-    firsts = [part[0] for part in group.parts]
-    return f"{spoken(map(board.point_words, firsts), FEW)} are not joined"
+# ---- findings
 
 
 def finding(board: Board, number: int, group: Group, cutters: Sequence[Removal], sure: Optional[bool]) -> Finding:
     """A net that is parted, or a point that loses its copper."""
-    kind = OUTSIDE if all(it.words == EDGE for it in cutters) else CUT
-    firsts, name = [part[0] for part in group.parts], board.spoken_name(group.name)
-    may = "" if group.is_certain else "may "
-    what = who(cutters) or "what is taken away"
-    is_one = len(cutters) == 1
-    if len(firsts) > 1:
-        verb = f"{may}part" if may or not is_one else "parts"
-        told = f"{what} {verb} {name}: {parted(board, group)} on the board as it is made."
-    else:
-        verb = f"{may}take" if may or not is_one else "takes"
-        told = f"{what} {verb} the copper from under {board.point_words(firsts[0])}, of {name}, when the board is made."
+    kind = CUT if any(it.hole for it in cutters) else OUTSIDE
+    firsts, holes = [part[0] for part in group.parts], tuple(it.hole for it in cutters)
+    told = PartedWhenMade(holes, board.name(group.name), board.points_at(firsts), group.is_certain)
     layer = board.layer(firsts[0])
-    places = [(*it.place, layer) for it in cutters if it.place] or [(*board.spot(firsts[0]), layer)]
+    places = [(*hole.place, layer) for hole in holes if hole] or [(*board.spot(firsts[0]), layer)]
     return Finding(
         kind,
         number,
@@ -163,14 +145,9 @@ def findings_of(board: MadeBoard, found: Sequence[Group], is_bounded: bool) -> L
     return told
 
 
-def harmless(board: MadeBoard, found: Sequence[Group]) -> List[str]:
-    """A sentence on holes that take copper away and part nothing."""
+def harmless(board: MadeBoard, found: Sequence[Group]) -> List[HarmlessHoles]:
+    """A note on holes that take copper away and part nothing."""
     guilty = {number for it in found for number in board.cutters(it.net)}
-    holes = sorted(number for number in board.numbers() - guilty if board.removals[number].place)
-    if not holes:
-        return []
-    first = board.removals[holes[0]]
-    return [
-        f"{counted(len(holes), 'unplated hole')} {'cuts' if len(holes) == 1 else 'cut'} copper and {'parts' if len(holes) == 1 else 'part'} nothing: "
-        f"{first.words}" + (f" and {len(holes) - 1} more" if len(holes) > 1 else "")
-    ]
+    holes = [board.removals[number].hole for number in sorted(board.numbers() - guilty)]
+    its = [hole for hole in holes if hole]
+    return [HarmlessHoles(len(its), its[0])] if its else []

@@ -1,12 +1,13 @@
 """What unplated holes and the board's edge take away from a judged board, as findings and notes."""
 from typing import Any, List, NamedTuple, Optional, Sequence, Tuple
 
+from boardnet_show.base.facts import OutsideEdge
 from boardnet_show.base.statuses import BadCopper, Stop
-from boardnet_show.base.wording import counted, spoken
 from boardnet_show.bounds.files import profiles
 from boardnet_show.findings.besides import AS_MADE, Requested, found
 from boardnet_show.findings.board import Board
 from boardnet_show.findings.finding import CUT, OUTSIDE, Finding
+from boardnet_show.findings.notes import EdgeNotKnown, HarmlessHoles, HolesNotRead, LossNotKnown, MadeCounted
 from boardnet_show.geometry.exact import Refused
 from boardnet_show.geometry.segments import odd_inside
 from boardnet_show.intake.unplated_holes import UnplatedHoles
@@ -56,8 +57,8 @@ def outside_findings(board: Board, edge: Removal, first: int) -> List[Finding]:
     told = []
     for number, point in enumerate(points_outside(board, edge), first):
         name = board.name_of(point)
-        words = f"{board.point_words(point)}, of {board.spoken_name(name)}, lies outside the board's edge."
-        told.append(Finding(OUTSIDE, number, board.name(name), words, [point], names=[name]))
+        what = OutsideEdge(board.named_point(point))
+        told.append(Finding(OUTSIDE, number, board.name(name), what, [point], names=[name]))
     return told
 
 
@@ -68,7 +69,7 @@ def bounds_of(told: Judged) -> Tuple[Judged, Judged]:
 
 def look(
     program: Any, told: Judged, board: Board, removals: Sequence[Removal], edge: Edge
-) -> Tuple[List[Finding], List[str]]:
+) -> Tuple[List[Finding], List[HarmlessHoles]]:
     """The findings of the made board, and notes; Refused, BadCopper or Stop where they are not known."""
     made = MadeBoard(program, board, *bounds_of(told), removals)
     numbers = made.numbers()
@@ -83,13 +84,10 @@ def look(
     return findings, harmless(made, groups)
 
 
-def words_of(findings: Sequence[Finding]) -> str:
+def counts_of(findings: Sequence[Finding]) -> MadeCounted:
     """What the answer says of them."""
-    kinds = ((CUT, "cut", None), (OUTSIDE, "point or net outside the edge", "points or nets outside the edge"))
-    counts = [(sum(it.kind == kind and it.sure is not False for it in findings), *words) for kind, *words in kinds]
-    told = [counted(*it) for it in counts if it[0]]
-    possible = sum(it.sure is False for it in findings)
-    return f"as it is made, {spoken(told + ([counted(possible, 'possible cut')] if possible else []))}"
+    cuts, outside = (sum(it.kind == kind and it.sure is not False for it in findings) for kind in (CUT, OUTSIDE))
+    return MadeCounted(cuts, outside, sum(it.sure is False for it in findings))
 
 
 def requested(
@@ -98,12 +96,8 @@ def requested(
     """What the made board has less than the designed one."""
     program.progress.begin("looking at the board as it is made")
     edge = edge_of(texts, board)
-    notes = [
-        f"{its.file}: its unplated holes are not read, so nothing is said of what they cut"
-        for its in holes
-        if not its.is_read
-    ]
-    notes += [f"the board's edge is not known, so nothing is said of copper outside it: {edge.why}"] if edge.why else []
+    notes: List[Any] = [HolesNotRead(its.file) for its in holes if not its.is_read]
+    notes += [EdgeNotKnown(edge.why)] if edge.why else []
     removals = [removal for its in holes for removal in of_holes(its)] + ([edge.removal] if edge.removal else [])
     known = [*([CUT] if all(its.is_read for its in holes) else []), *([] if edge.why else [OUTSIDE])]
     if not removals:
@@ -111,6 +105,6 @@ def requested(
     try:
         findings, more = look(program, told, board, removals, edge)
     except (Refused, BadCopper, Stop) as why:
-        return Requested(notes=[*notes, f"what unplated holes and the board's edge take away is not known: {why}"])
-    besides = [found(AS_MADE, findings, words_of(findings))] if findings else []
+        return Requested(notes=[*notes, LossNotKnown(str(why))])
+    besides = [found(AS_MADE, findings, counts_of(findings))] if findings else []
     return Requested(besides, findings, [*notes, *more], known)

@@ -3,11 +3,11 @@ longer than a small board.
 """
 from typing import Any
 
-from boardnet_show.base.wording import counted
 from boardnet_show.bounds.files import profile_files
 from boardnet_show.findings.besides import Requested
 from boardnet_show.findings.explained import Explained
 from boardnet_show.findings.finding import CUT, OUTSIDE
+from boardnet_show.findings.notes import CutsNotAsked
 from boardnet_show.intake import unplated_holes
 
 from . import thin_joins
@@ -18,9 +18,8 @@ def requested(program: Any, judged: Any, seen: Explained, asked: Any) -> Request
     package, told = judged.package, Requested(kinds=[CUT, OUTSIDE])
     holes, profiles = list(unplated_holes.of_package(package)), profile_files.texts(package.around)
     if asked.no_cuts and (holes or profiles):
-        words = [counted(sum(len(it.lines) for it in holes), "unplated hole")] if holes else []
-        what = " and ".join(words + (["the board's edge"] if profiles else []))
-        told = Requested(notes=[f"not looked at, as --no-cuts asks: the copper that {what} would take away"])
+        count = sum(len(it.lines) for it in holes) if holes else None
+        told = Requested(notes=[CutsNotAsked(count, bool(profiles))])
     elif holes or profiles:
         from . import looking
 

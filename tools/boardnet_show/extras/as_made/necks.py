@@ -5,12 +5,14 @@ barrels: the lower board with its shapes drawn in still joins them. It is certai
 """
 from typing import Any, Dict, Iterator, List, NamedTuple, Sequence, Set
 
+from boardnet_show.base.facts import Neck
 from boardnet_show.base.statuses import BadCopper, Stop
 from boardnet_show.base.wording import counted, millimetres, spoken
 from boardnet_show.findings.besides import NECKS, Requested, found, lacking
 from boardnet_show.findings.board import Board
 from boardnet_show.findings.finding import NECK, Finding
 from boardnet_show.findings.nearest_copper import Gap, NearestCopper
+from boardnet_show.findings.notes import NecksCounted, NotKnown
 from boardnet_show.formats.ipc356 import NO_NET
 from boardnet_show.geometry.exact import Refused
 from boardnet_show.judging import board_copper
@@ -111,16 +113,10 @@ class Places:
         return gap or Gap(0, self.board.spot(point), self.board.layer(point))
 
 
-def words_of(board: Board, group: Group, width: int, place: Gap) -> str:
+def fact_of(board: Board, group: Group, width: int, place: Gap) -> Neck:
     """What is told of a neck."""
-    than = f"less than {millimetres(width)} mm wide" if width else "joined by copper that only touches"
-    where = board.copper_place(place.place, place.layer)
-    firsts = [part[0] for part in group.parts]
-    name = board.spoken_name(group.name)
-    if len(firsts) == 1:
-        return f"{name} is {than} at {board.point_words(firsts[0])}."
-    word = "is" if group.is_certain else "may be"
-    return f"{name} {word} {than} between {spoken(map(board.point_words, firsts), FEW)}, near {where}."
+    points = board.points_at(part[0] for part in group.parts)
+    return Neck(board.name(group.name), points, width, board.copper_at(place.place, place.layer), group.is_certain)
 
 
 def findings_of(board: Board, its: Sequence[Group], width: int, places: Places) -> List[Finding]:
@@ -132,7 +128,7 @@ def findings_of(board: Board, its: Sequence[Group], width: int, places: Places) 
                 NECK,
                 number,
                 board.name(group.name),
-                words_of(board, group, width, place),
+                fact_of(board, group, width, place),
                 [part[0] for part in group.parts],
                 nets=[group.net],
                 names=[group.name],
@@ -177,11 +173,7 @@ def requested(program: Any, told: Judged, board: Board, width: int) -> Requested
     try:
         its = look(program, told, board, width)
     except (Refused, BadCopper, Stop) as why:
-        return Requested([lacking(NECKS, f"necks are not known: {why}")])
+        return Requested([lacking(NECKS, NotKnown(NECKS, str(why)))])
     possible = sum(it.sure is False for it in its)
-    count = len(its) - possible
-    than = f"under {millimetres(width)} mm" if width else "of no width"
-    words = f"{counted(count, 'neck') if count else 'no neck'} {than}" + (
-        f" and {counted(possible, 'possible one')}" if possible else ""
-    )
-    return Requested([found(NECKS, its, words)], its, kinds=[NECK])
+    said = NecksCounted(len(its) - possible, possible, width)
+    return Requested([found(NECKS, its, said)], its, kinds=[NECK])

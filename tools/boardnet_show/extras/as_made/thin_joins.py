@@ -9,8 +9,8 @@ from decimal import Decimal
 from typing import Any, Dict, List
 
 from boardnet_show.base.statuses import BadCopper, Stop
-from boardnet_show.base.wording import counted, spoken
 from boardnet_show.findings.board import Board
+from boardnet_show.findings.notes import ThinJoin
 from boardnet_show.formats.report import BadReport, Report
 from boardnet_show.geometry.exact import Refused
 from boardnet_show.intake.package import Package, beside
@@ -22,7 +22,6 @@ APERTURE = re.compile(rb"(ADD[0-9]+[CRO],)([0-9.]+)(?:X([0-9.]+))?(?=\*)")
 INCHES = re.compile(rb"MOIN\*|^G70\*", re.M)
 # How much smaller an aperture is: a whole number of u in each unit.
 LESS = {False: Decimal("0.000001"), True: Decimal("0.000005")}
-FEW = 4
 
 
 def smaller(data: bytes) -> bytes:
@@ -52,17 +51,8 @@ def parted(designed: Report, drawn: Report) -> List[List[int]]:
     return [[part[0] for part in its] for its in parts if len(its) > 1]
 
 
-def words_of(board: Board, its: List[List[int]]) -> str:
-    first, more = its[0], len(its) - 1
-    also = f", and of {counted(more, 'more net')}" if more else ""
-    return (
-        f"a join of no width: {spoken(map(board.point_words, first), FEW)}, of {board.spoken_name(board.name_of(first[0]))}{also}, are joined "
-        "by copper that only touches in single places or along lines; --necks 0 tells where"
-    )
-
-
-def notes(program: Any, told: Judged, board: Board) -> List[str]:
-    """A sentence where test points have such a join alone."""
+def notes(program: Any, told: Judged, board: Board) -> List[ThinJoin]:
+    """A note where test points have such a join alone."""
     package = told.package.between[1].package if told.package.between else told.package
     report = told.package.between[1].report if told.package.between else told.report
     try:
@@ -73,4 +63,6 @@ def notes(program: Any, told: Judged, board: Board) -> List[str]:
         return []
     # A report of another count of points is of other files.
     its = parted(report, drawn) if drawn and len(drawn.points) == len(report.points) else []
-    return [words_of(board, its)] if its else []
+    if not its:
+        return []
+    return [ThinJoin(board.points_at(its[0]), board.name(board.name_of(its[0][0])), len(its) - 1)]
