@@ -1,7 +1,7 @@
 """The unplated holes of a board: of tools and of files that say that they are unplated, as they came."""
 import os
 import re
-from typing import Iterator, List, NamedTuple, Set
+from typing import Iterator, List, NamedTuple, Optional, Set
 
 from boardnet_show.base.statuses import BadCopper
 from boardnet_show.formats import gerber_attributes
@@ -18,11 +18,12 @@ from boardnet_show.formats.drills.drill_lines import (
     Unit,
     places_of,
 )
-from boardnet_show.formats.drills.drill_plating import Plating
+from boardnet_show.formats.drills.drill_plating import PlatedBy, Plating
 from boardnet_show.formats.drills.drilled_holes import add_drilled
 from boardnet_show.geometry.shapes import Shapes
 
 from . import drill_files, file_kinds
+from .evidence import drill_numbers
 from .file_names import MOST_BYTES, Refused
 from .package import Package
 
@@ -41,11 +42,12 @@ class UnplatedHoles(NamedTuple):
 
 
 class Source(NamedTuple):
-    """A drill file, and whether all its holes are unplated."""
+    """A drill file, whether all its holes are unplated, and which a file beside it calls so."""
 
     name: str
     data: bytes
     is_all: bool
+    by: Optional[PlatedBy] = None
 
 
 def read_plain(path: str) -> bytes:
@@ -117,7 +119,8 @@ def is_unplated(name: str, data: bytes) -> bool:
 def sources(package: Package) -> Iterator[Source]:
     """The drill files that may have unplated holes: those of the manifest as they came, and those that it leaves out."""
     for name in dict.fromkeys(name for name, _, _ in package.manifest.drills):
-        yield Source(name, read_plain(package.came.get(name, package.path(name))), False)
+        data = read_plain(package.came.get(name, package.path(name)))
+        yield Source(name, data, False, drill_numbers.plated_beside(name, data, package.around))
     named: Set[str] = {os.path.realpath(os.path.join(package.around, name)) for name in package.manifest.names()}
     for name in sorted(os.listdir(package.around)):
         path = os.path.join(package.around, name)
@@ -130,7 +133,7 @@ def holes_of(source: Source) -> UnplatedHoles:
     """The unplated holes of a drill file."""
     if source.is_all and is_gerber(source.data):
         return UnplatedHoles(source.name, [], Shapes(), False)
-    plating, shapes = Plating(source.data), Shapes()
+    plating, shapes = Plating(source.data, source.by), Shapes()
     lines = unplated_lines(plating, source.is_all)
     is_known = is_walked(plating) or not (source.is_all or plating.unplated())
     try:

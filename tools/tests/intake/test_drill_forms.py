@@ -178,6 +178,19 @@ def altium(layout, unit_line, unit, number):
     ).replace("\n", "\r\n")
 
 
+def report(file, *rows, pair="Top Layer to Bottom Layer"):
+    """Altium's drill report on a file."""
+    rule = "-" * 75
+    head = ("NCDrill File Report For: m.PcbDoc", rule, "", f"Layer Pair : {pair}", f"ASCII File : {file}", "")
+    columns = "Tool         Hole Size          Hole Tolerance     Hole Type     Hole Count Plated       Tool Travel"
+    return text(rule, *head, columns, rule, *rows, rule, "Totals     299").replace("\n", "\r\n")
+
+
+REPORTED = [
+    f"T{t}        {round(SIZES[t] / 25.4, 2):g}mil ({SIZES[t] / 1000:g}mm)          Round         {len(HOLES[t])}      "
+    f"{'NPTH' if t == 3 else 'PTH'}      12.34 Inch (313.50 mm)"
+    for t in SIZES
+]
 ALLEGRO_FRONT = (
     ";LEADER: 12 ",
     ";HEADER: ",
@@ -198,6 +211,16 @@ SAID = {
     "altium mm": ("m.TXT", altium("4:4", "METRIC,TZ", MM, no_leading(MM, 4)), {}),
     "altium mm trailing": ("m.TXT", altium("4:4", "METRIC,LZ", MM, no_trailing(MM, 4, 4)), {}),
     "altium no word on zeros": ("m.TXT", altium("2:5", "INCH", INCH, full(INCH, 2, 5)), {}),
+    "altium with a report": (
+        "m.TXT",
+        re.sub(r";TYPE=\w+\r\n", "", altium("2:5", "INCH,LZ", INCH, no_trailing(INCH, 2, 5))),
+        {"m.DRR": report("via.TXT", "T1 8mil (0.203mm) Round 7 PTH", pair="Top to Mid") + report("m.TXT", *REPORTED)},
+    ),
+    "altium whose unit a report says": (
+        "m.TXT",
+        altium("4:4", "", MM, full(MM, 4, 4)).replace("\r\n\r\n", "\r\n", 1),
+        {"m.DRR": report("m.TXT", *REPORTED)},
+    ),
     "allegro": (
         "m-1-2.drl",
         text(*ALLEGRO_FRONT, *allegro_comments(), "%", "G90", *hits(full(INCH, 2, 5)), "M30"),
@@ -580,6 +603,28 @@ class NearMisses(Case):
             drilled,
             {"mini.dri": beside["mini.dri"].replace("10000 Inch", "1000 mm")},
             "it says a unit of inches, and mini.dri beside it millimetres",
+        )
+        # A drill report names the file, its tools, their holes, and whether they are plated.
+        altium_name, its_drills, _ = SAID["altium"]
+        for old, new, words in (
+            ("round 150", "round 149", "says that T1 makes 149 holes, and it makes 150"),
+            ("20mil (0.508mm)", "21mil (0.533mm)", "says that T1 has a size of 21mil, and it 0.02000"),
+            ("T2 ", "T7 ", "does not name its tool T2"),
+            ("NPTH", "PTH", "says that T3 is plated, and it says not plated"),
+            ("PTH", "NPTH", "says that T1 is not plated, and it says plated"),
+            ("ASCII File : m.TXT", "ASCII File : other.TXT", ""),
+            ("Totals", "T9   40mil (1.016mm)   Round   2   PTH\r\nTotals", "has T9, plated, and it no hole of that"),
+        ):
+            its = re.sub("Round +", "round ", report("m.TXT", *REPORTED))
+            self.assertIn(old, its)
+            reported = {"m.DRR": its.replace(old, new, 1)}
+            if words:
+                self.refused(altium_name, its_drills, reported, f"m.DRR beside it {words}")
+            else:
+                self.assertEqual(set(read(self.mended(altium_name, its_drills, reported)[0])), PLATED)
+        silent = SAID["altium whose unit a report says"][1].replace(";FILE", "INCH\r\n;FILE")
+        self.refused(
+            altium_name, silent, {"m.DRR": report("m.TXT", *REPORTED)}, "it says a unit of inches, and m.DRR beside it"
         )
         # Two companions say the same, or are refused.
         head = (*allegro_comments(), "M48", "INCH", *(f"T{t:02d}C{size(t, INCH, 4)}" for t in SIZES), "%")

@@ -1,10 +1,11 @@
 """Files that tools write beside a drill file, which say its unit, digits and zeros: Allegro's nc_param.txt, Eagle's
-.dri."""
+.dri, Altium's .DRR."""
 import re
 from typing import Callable, Dict, Iterable, NamedTuple, Optional, Tuple
 
 from boardnet_show.formats.units import INCH, MM
 
+from . import drill_reports
 from .drill_lines import Hit, Pick, Tool, lines
 from .number_forms import LEADING, NO_ZEROS, TRAILING, UNIT_NAMES, Contradiction, Said
 
@@ -76,6 +77,13 @@ def drill_station(name: str, data: bytes, drilled: bytes) -> Optional[Companion]
     return Companion(name, said, " ".join(shown(found[0]).split()))
 
 
+def drill_report(name: str, drilled: bytes, other: str, read: Callable[[str], bytes]) -> Optional[Companion]:
+    """The unit by a .DRR on this drill file, whose sizes are in both; nothing where it has none."""
+    report = drill_reports.beside(name, [other], read)
+    unit = drill_reports.unit_of(report, drilled) if report else None
+    return Companion(other, Said(unit), f"T{report.rows[0].tool} {report.rows[0].size}") if report and unit else None
+
+
 def tools_of(drilled: bytes) -> Tuple[Dict[int, bytes], Dict[int, int]]:
     """The size of each tool of a drill file as it is written, and how many holes it makes."""
     sizes: Dict[int, bytes] = {}
@@ -105,6 +113,8 @@ def companion_of(name: str, drilled: bytes, others: Iterable[str], read: Callabl
             found = parameters(other, read(other))
         elif other.lower() == stem + ".dri":
             found = drill_station(other, read(other), drilled)
+        elif other.lower().endswith(drill_reports.ENDING):
+            found = drill_report(name, drilled, other, read)
         else:
             continue
         if found and first:

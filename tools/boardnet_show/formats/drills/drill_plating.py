@@ -44,13 +44,20 @@ def is_plated(kind: bytes) -> bool:
     return kind.upper() in (b"PLATED", b"PTH")
 
 
+class PlatedBy(NamedTuple):
+    """What a file beside a drill file says of tools: whether they are plated."""
+
+    name: str
+    tools: Dict[int, bool]
+
+
 class Plating:
     """`called` has for each tool's number what is said of it, plated or not, `tools` the one answer, None where there
     is none or both. An attribute is that of the next tool, and one that says unplated of all tools up to the next
     attribute, as in copper files; a TYPE is that of all tools after it, or behind the last tool that of the holes.
     `functions` are the fields of each file function, with its line and whether `check` reads it."""
 
-    def __init__(self, data: bytes) -> None:
+    def __init__(self, data: bytes, beside: Optional[PlatedBy] = None) -> None:
         self.head = headed(data)
         self.lines = list(lines(self.head.data))
         self.called: Dict[int, Set[bool]] = {}
@@ -68,6 +75,10 @@ class Plating:
         self.read_header()
         for tool, called in self.called.items():
             called.update(self.numbered.get(tool, ()), self.started(tool))
+        # A file beside it says it of tools of which nothing is said here.
+        self.beside = beside if beside and not self.functions and not any(self.called.values()) else None
+        for tool in self.called if self.beside else ():
+            self.called[tool] = set_of(self.beside.tools.get(tool) if self.beside else None)
         self.tools: Dict[int, Kind] = {tool: only(called) for tool, called in self.called.items()}
 
     def read_header(self) -> None:
@@ -124,7 +135,15 @@ class Plating:
 
     def plating_line(self) -> int:
         """The line that says that the file mixes them, or the first that says that a tool is unplated."""
-        return self.functions[0][0] if self.functions else self.unplated_line
+        return self.functions[0][0] if self.functions else self.unplated_line or self.first_unplated()
+
+    def first_unplated(self) -> int:
+        """The line that defines the first unplated tool, or 0."""
+        its = ((line, line.record()) for line in self.lines)
+        tools = (
+            line.number for line, record in its if isinstance(record, Tool) and self.tools.get(record.number) is False
+        )
+        return next(tools, 0)
 
     def holes(self) -> Iterator[Tuple[int, Set[bool]]]:
         """The line of each hole, and what is said of it: of its tool, and by the last TYPE before it behind the

@@ -4,11 +4,14 @@ A number without a point means nothing without these. What is said twice has to 
 as the words allow; else it is said where they contradict each other, and nothing is read.
 """
 import re
-from typing import Iterator, List, NamedTuple, Optional, Tuple
+from typing import TYPE_CHECKING, Iterator, List, NamedTuple, Optional, Tuple
 
 from boardnet_show.formats.units import INCH, MM
 
 from .drill_lines import BEHIND, Comment, Hit, Mode, Move, Rout, Unit, lines, numbers
+
+if TYPE_CHECKING:
+    from .drill_plating import PlatedBy
 
 # Which zeros are left out, where it is said.
 LEADING, TRAILING, NO_ZEROS = "leading", "trailing", "no"
@@ -91,12 +94,13 @@ class Said(NamedTuple):
 
 class Settled(NamedTuple):
     """How a drill file is read: its unit, how numbers without a point are read, the line that says it, 0 where none
-    does, and what else says it, in words."""
+    does, what else says it, in words, and which tools a file beside it calls plated."""
 
     unit: Optional[int]
     form: Optional[NumberForm]
     line: int = 0
     why: str = ""
+    plated: Optional["PlatedBy"] = None
 
 
 def bare_numbers(data: bytes) -> List[Tuple[int, bytes]]:

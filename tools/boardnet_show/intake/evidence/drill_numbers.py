@@ -9,6 +9,8 @@ from boardnet_show.formats.drills.drill_lines import BODY, FRONT, Mode, Tool, Un
 from boardnet_show.formats.drills.number_forms import Contradiction, Said, Settled, bare_numbers, said_of
 
 if TYPE_CHECKING:
+    from boardnet_show.formats.drills.drill_plating import PlatedBy
+
     from .drill_readings import Evidence
 
 MOST_BYTES = 1_000_000  # of a file that says how another is read
@@ -63,7 +65,8 @@ def said(name: str, data: bytes, home: str) -> Tuple[Said, str]:
     inside = os.path.dirname(name)
     beside = companion_of(base, data, folder.names(name), lambda other: folder.read(os.path.join(inside, other)))
     its = said_of(data)
-    return (agreed(its, beside), f"{beside.name} beside it says {beside.words}") if beside else (its, "")
+    both = agreed(its, beside) if beside else its
+    return (both, f"{beside.name} beside it says {beside.words}") if beside and both[:3] != its[:3] else (both, "")
 
 
 def read_by(data: bytes, its: Said, why: str) -> Optional[Settled]:
@@ -91,6 +94,23 @@ def refusal(name: str, why: str) -> Stop:
     )
 
 
+def plated_beside(name: str, data: bytes, home: str) -> Optional["PlatedBy"]:
+    """What a drill report beside a drill file says of its tools, where there is one; refused where they contradict each
+    other."""
+    folder, inside = Folder(home), os.path.dirname(name)
+    others = [other for other in folder.names(name) if other.lower().endswith(".drr")]
+    if not others:
+        return None
+    from boardnet_show.formats.drills import drill_reports  # few boards have one
+
+    read = lambda other: folder.read(os.path.join(inside, other))
+    report = drill_reports.beside(os.path.basename(name), others, read)
+    why = drill_reports.against(report, data) if report else ""
+    if why:
+        raise Stop(REFUSED, f"{name}: {why}; to export: the drill file and its report anew, at once")
+    return report.plated_by() if report else None
+
+
 class Settling:
     """Settles how the drill files of a board are read, one after the other. `doubts` are those that only evidence
     settles: the name, how it is read, and why."""
@@ -108,6 +128,12 @@ class Settling:
         return self.made
 
     def __call__(self, name: str, data: bytes) -> Optional[Settled]:
+        found = self.numbers(name, data)
+        by = plated_beside(name, data, self.home)
+        return (found or Settled(None, None))._replace(plated=by) if by else found
+
+    def numbers(self, name: str, data: bytes) -> Optional[Settled]:
+        """How the numbers of one are read."""
         found = settled(name, data, self.home)
         if found and found.form:
             why = self.evidence().against(data, found)

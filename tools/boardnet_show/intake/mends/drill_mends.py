@@ -68,7 +68,7 @@ class Drill:
         self.has_points = not (NO_POINT_SIZE if self.form else NO_POINT).search(data)
         self.unit: Optional[int] = None
         self.is_down, self.has_tools, self.said = False, False, first_unit(data)
-        plating, self.its = Plating(data), list(lines(data))
+        plating, self.its = Plating(data, settled.plated if settled else None), list(lines(data))
         self.has_start = any(line.text == START for line in self.its)
         taken = Holes(self, plating, self.its).gone if plating.is_told() else set()
         for line in self.its:
@@ -254,8 +254,11 @@ class Holes:
     def say(self, plating: Plating) -> None:
         """Notes the mend, and writes the function of what is left."""
         tools = ", ".join(f"T{number}" for number in plating.unplated()) or "none"
+        who = "and each tool says whether it is plated"
+        if plating.beside:
+            who = f"and {plating.beside.name} beside it says of each tool whether it is plated"
         what = (
-            f"and each tool says whether it is plated: the holes of the unplated ones ({tools}) are left out, "
+            f"{who}: the holes of the unplated ones ({tools}) are left out, "
             f"{len(self.gone)} {'line' if len(self.gone) == 1 else 'lines'}"
         )
         at = plating.plating_line() - 1

@@ -51,7 +51,7 @@ ROWS = (
     Row(
         PLATING,
         "a drill file with unplated holes (`MixedPlating`, or no file function) where each tool says which it is: by "
-        "`; #@! TA.AperFunction,..` or `;TYPE=..` before it, or in comments of Allegro or Fritzing",
+        "`; #@! TA.AperFunction,..` or `;TYPE=..` before it, in comments of Allegro or Fritzing, or in the .DRR beside it",
         "the holes of plated tools alone; `Plated` for `MixedPlating`; a place that went on from a hole that goes gets both coordinates",
         "an unplated hole joins nothing",
         "each tool says whether it is plated",
