@@ -47,18 +47,19 @@ def words(given):
 
 
 def folder_of(place):
+    """The folder of a board's files, and of an archive the folder of each file in it."""
     if os.path.isdir(place):
-        return place
+        return place, {}
     if not os.path.isfile(place):
         raise Refused(f"{shown(place)} is no folder and no zip archive")
-    folder = archives.unpack(place)
+    folder, homes = archives.unpack(place)
     say(f"unpacked to {shown(folder)}")
-    return folder
+    return folder, homes
 
 
 def write(asked):
-    folder = folder_of(asked.place)
-    found = gathering.gather(folder)
+    folder, homes = folder_of(asked.place)
+    found = gathering.gather(folder, homes)
     try:
         plan = gathering.Plan(found, asked.netlist, asked.no_drills)
     finally:

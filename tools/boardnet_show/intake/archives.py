@@ -1,7 +1,7 @@
 """Zip archives: their files, written flat to a folder beside the archive."""
 import errno
 import os
-from typing import Dict
+from typing import Dict, List
 
 from .file_names import MOST_BYTES, Refused, shown
 
@@ -27,8 +27,20 @@ def files_of(archive):
     return found
 
 
-def link_files(path: str, folder: str) -> None:
-    """Has the files of a folder's folders in a new one by links, as those of an archive."""
+def inner_files(path: str) -> List[str]:
+    """The names of the files in a folder's folders, at any depth, from there."""
+    found: List[str] = []
+    for home, folders, names in os.walk(path):
+        folders[:] = sorted(name for name in folders if not name.startswith((".", "__MACOSX")))
+        inside = os.path.relpath(home, path).replace(os.sep, "/")
+        found += [f"{inside}/{name}" for name in sorted(names) if home != path and not name.startswith(".")]
+        if len(found) > MOST_FILES:
+            raise Refused(f"the folders in it have over {MOST_FILES} files: give the folder of one board")
+    return found
+
+
+def link_files(path: str, folder: str) -> Dict[str, str]:
+    """Has the files of a folder's folders in a new one by links, as those of an archive; answers the folder of each."""
     found: Dict[str, str] = {}
     for home, folders, names in os.walk(path):
         folders[:] = sorted(name for name in folders if not name.startswith((".", "__MACOSX")))
@@ -43,6 +55,7 @@ def link_files(path: str, folder: str) -> None:
     os.makedirs(folder)
     for name, source in found.items():
         os.symlink(source, os.path.join(folder, name))
+    return {name: os.path.dirname(source) for name, source in found.items()}
 
 
 def is_damage(error):
@@ -56,7 +69,7 @@ def is_damage(error):
 
 
 def extract(path, folder):
-    """Writes the archive's files to a new folder; where that fails, there is no folder."""
+    """Writes the archive's files to a new folder, and answers the folder of each in it; where that fails, there is none."""
     import zipfile  # most boards come in no archive, and loading takes long
 
     try:
@@ -70,6 +83,7 @@ def extract(path, folder):
 
                 shutil.rmtree(folder, ignore_errors=True)
                 raise
+            return {name: os.path.dirname(entry.filename.replace("\\", "/")) for name, entry in found.items()}
     except Exception as error:
         if not is_damage(error):
             raise
@@ -84,9 +98,8 @@ def write(archive, found, folder):
 
 
 def unpack(path):
-    """Writes the archive's files to the folder of the archive's name without its ending, and returns that folder."""
+    """Writes the archive's files to the folder of the archive's name without its ending; that folder, and those of the files."""
     folder = os.path.splitext(path)[0]
     if folder == path or os.path.exists(folder):
         raise Refused(f"{shown(folder)} is there already: move it away, or give the folder itself")
-    extract(path, folder)
-    return folder
+    return folder, extract(path, folder)

@@ -7,7 +7,7 @@ from boardnet_show.formats.layer_names import is_named_otherwise
 from boardnet_show.formats.manifest import is_name
 from boardnet_show.intake.mends import mended_files as mends
 
-from . import copper_layers, drill_files, file_kinds, netlist_files
+from . import archives, copper_layers, drill_files, file_kinds, netlist_files
 from .file_names import MOST_BYTES, Refused, shown
 from .package import DECLARATIONS, TIES
 
@@ -18,7 +18,9 @@ OTHERWISE = "it is a Gerber file without the attribute TF.FileFunction, and its 
 
 
 class Package:
-    def __init__(self):
+    def __init__(self, homes):
+        # The folder of each file, where they do not lie as they came.
+        self.homes = homes
         self.layers, self.guesses, self.drills, self.netlists = [], [], [], []
         self.left_out, self.origins, self.board_layers = [], {}, None
         # What is left out, although it may be copper by what it says.
@@ -27,6 +29,10 @@ class Package:
         self.amiss = {}
         # Whether a Gerber file says of which nets or pins its objects are.
         self.has_names = False
+
+    def home_of(self, name):
+        """The folder in which a file came."""
+        return self.homes.get(name, os.path.dirname(name))
 
     def leave_out(self, name, why):
         self.left_out.append((name, why))
@@ -179,6 +185,12 @@ class Plan:
             (it.name, f"plated holes from layer {it.span[0]} to {it.span[1]}", it.why) for it in plated if it.why
         ]
         self.guessed += [(it.name, "unplated holes, left out", it.why) for it in unplated]
+        self.guessed += [
+            (it.name, what, "such files lie in several folders, which may be of several boards")
+            for what, files in (("copper", layers), ("plated holes", plated))
+            for it in files
+            if not it.why and len({package.home_of(each.name) for each in files}) > 1
+        ]
         if not package.is_whole(layers):
             # A name may say that a file is no copper where names say what is; where attributes do, and may lack one, it does not.
             whys = (NO_COPPER,) if layers[0].why else (NO_COPPER, OTHERWISE)
@@ -196,10 +208,21 @@ class Plan:
         return json.dumps(self.manifest, separators=(",", ":")) + "\n"
 
 
-def gather(folder):
-    """The package of a folder's files; folders in it are not entered."""
-    package = Package()
+def gather(folder, homes=None):
+    """The package of a folder's files; where none of them may be copper, with those of the folders in it. `homes` are
+    the folders in which they came, where they have been laid together."""
     names = sorted(os.listdir(folder))
+    package = gathered(folder, names, homes or {})
+    if package.layers or package.guesses:
+        return package
+    inner = archives.inner_files(folder)
+    entered = {name.split("/")[0] for name in inner}
+    return gathered(folder, [*(name for name in names if name not in entered), *inner], {}) if inner else package
+
+
+def gathered(folder, names, homes):
+    """The package of these files of a folder."""
+    package = Package(homes)
     for name in names:
         path = os.path.join(folder, name)
         if name in OURS:

@@ -230,12 +230,13 @@ def of_manifest(path, scratch, inside=None):
     return package
 
 
-def of_folder(home, asked, scratch, declared):
-    """The package of a folder without a manifest, by what the files say of themselves and what is declared of them."""
+def of_folder(home, asked, scratch, declared, homes):
+    """The package of a folder without a manifest, by what the files say of themselves and what is declared of them;
+    `homes` are the folders in which they came."""
     from . import gathering as gathered  # most boards have a manifest
 
     need_plain(home, [TIES, DECLARATIONS])
-    found, said = gathered.gather(home), declared(home)
+    found, said = gathered.gather(home, homes), declared(home)
     try:
         plan = gathered.Plan(
             found, asked.netlist or said.netlist or None, asked.no_drills or said.has_no_drills, True, said.drilled
@@ -279,12 +280,11 @@ def is_archive(path):
 
 
 def unpacked(path, scratch):
-    """The folder of a zip archive's files, in the scratch folder."""
+    """The folder of a zip archive's files, in the scratch folder, and the folders in it."""
     from . import archives
 
     folder = os.path.join(scratch, "unpacked")
-    archives.extract(path, folder)
-    return folder
+    return folder, archives.extract(path, folder)
 
 
 def beside_archive(path: str, name: str) -> Optional[str]:
@@ -299,8 +299,8 @@ def beside_archive(path: str, name: str) -> Optional[str]:
 
 def of_archive(path, asked, scratch, declared):
     """The package of what is in a zip archive, with the ties that stand beside it."""
-    folder = unpacked(path, scratch)
-    package = opened(folder, asked, scratch, folder, declared)
+    folder, homes = unpacked(path, scratch)
+    package = opened(folder, asked, scratch, folder, declared, homes)
     package.home = path
     ties = beside_archive(path, TIES)
     if ties and os.path.lexists(package.path(TIES)):
@@ -316,15 +316,15 @@ def of_sorted_files(path, asked, scratch, declared):
     from . import archives  # few boards are sorted so
 
     folder = os.path.join(scratch, "unpacked")
-    archives.link_files(path, folder)
-    package = opened(folder, asked, scratch, None, declared)
+    homes = archives.link_files(path, folder)
+    package = opened(folder, asked, scratch, None, declared, homes)
     package.home = path
     return package
 
 
-def opened(path, asked, scratch, inside=None, declared: Callable[[str], Sorted] = nothing_declared):
+def opened(path, asked, scratch, inside=None, declared: Callable[[str], Sorted] = nothing_declared, homes=None):
     """The package of a folder, a zip archive or a manifest; with a folder the files are to lie there. `declared` says what is declared of the
-    files of a folder."""
+    files of a folder, and `homes` in which folders they came, where they were laid together."""
     if not path:
         raise Stop(NOT_UNDERSTOOD, "PATH is empty: it is a folder, a zip archive or a manifest")
     try:
@@ -336,7 +336,7 @@ def opened(path, asked, scratch, inside=None, declared: Callable[[str], Sorted] 
             return of_manifest(os.path.join(path, "m.json"), scratch, inside)
         if not inside and holds_folders_alone(path):
             return of_sorted_files(path, asked, scratch, declared)
-        return of_folder(path, asked, scratch, declared)
+        return of_folder(path, asked, scratch, declared, homes)
     except Refused as why:
         raise Stop(UNCLEAR, str(why)) from None
     except OSError as error:

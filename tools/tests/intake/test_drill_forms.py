@@ -3,6 +3,7 @@ import os
 import random
 import re
 import unittest
+import zipfile
 from fractions import Fraction
 
 from boardnet_show.base.statuses import Stop
@@ -956,6 +957,13 @@ class Shown(made.Case):
             status, out, _ = self.show(board, "--yes")
             self.assertEqual((status, "nc_param.txt beside it says FORMAT 2.5" in out), (wanted, True), out)
 
+    def zipped(self, name, files):
+        """An archive of files."""
+        with zipfile.ZipFile(self.path(name + ".zip"), "w") as archive:
+            for file, data in files.items():
+                archive.writestr(file, data)
+        return name + ".zip"
+
     def test_sorted_into_folders(self):
         """A folder of folders alone is one board, unless two files have one name."""
         files = self.files("eagle 9", SAID)
@@ -967,6 +975,22 @@ class Shown(made.Case):
         ]
         self.assertEqual([status for status, _ in told], [0, 0, 0])
         self.assertEqual(told[0][1].replace("flat:", "folders:"), told[1][1])
+        # Drill files that lie apart may be of two boards: they are asked for, in an archive, too.
+        name = SAID["eagle 9"][0]
+        plated = files[name].replace("METRIC", "; #@! TF.FileFunction,Plated,1,2,PTH\nMETRIC", 1)
+        both = {f"CAM/Gerber/{it}": data for it, data in files.items() if it != name}
+        for row, where in (("one", "CAM/Drill/"), ("two", "CAM/Drill/old/")):
+            its = {**both, "CAM/Drill/a.xln": plated, f"{where}b.xln": plated}
+            archive = self.zipped(row, its)
+            for words in (
+                (self.board(its, row),),
+                (self.board({**its, "readme": "no file of a board"}, row + "s"),),
+                (archive,),
+            ):
+                status, out, _ = self.show(*words)
+                self.assertEqual(
+                    (status, "such files lie in several folders" in out), (10 if row == "two" else 0, row == "two"), out
+                )
         self.board({"CAM/Other/top.gbr": files["top.gbr"]}, "nest")
         status, out, _ = self.show("nest", "--yes")
         self.assertEqual((status, "two files of the name top.gbr" in out), (10, True))

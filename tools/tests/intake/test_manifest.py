@@ -197,7 +197,7 @@ class Manifest(common.Case):
 
     def test_mends(self):
         """A file of both kinds of holes whose tools say which they are is taken; copies are written where they are asked for."""
-        own = "; #@! TA.AperFunction,{},PTH,ViaDrill\n"
+        own = "; #@! TA.AperFunction,{},ViaDrill\n"
         mixed = drill("MixedPlating,1,2", own.format("NonPlated") + "T2C1.0\n" + own.format("Plated"))
         told = "to be mended: p.drl: line 2, `; #@! TF.FileFunction,MixedPlating,1,2`"
         self.assertIn("`boardnet show` makes these mends", self.taken(two(p_drl=mixed), WRITTEN, told))

@@ -193,7 +193,7 @@ def drill(*lines, header=("METRIC",), tools=("T1C0.4",), front=("M48",), end=("M
 
 
 HOLES = drill()
-OWN = "; #@! TA.AperFunction,{},PTH,ViaDrill"
+OWN = "; #@! TA.AperFunction,{},ViaDrill"
 TOOLS = (OWN.format("Plated"), "T1C0.4", OWN.format("NonPlated"), "T2C1.0")
 MIXED = ("T1", "X0.0Y0.0", "T2", "X3.0Y0.0", "X4.0", "T1", "X5.0")
 SLOT = ("T1", "X0.0Y0.0", "T2", "G00X3.0Y3.0", "M15", "G01X4.0Y4.0", "M16", "G05", "X3.0Y1.0G85X3.0Y0.0", "T1", "X5.0")

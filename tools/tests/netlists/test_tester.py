@@ -162,7 +162,7 @@ class Netlists(made.Case):
     def test_unplated_holes(self):
         """Of tools that say so, and of a file that was left out because it does; slots are counted."""
         top, through = "%TF.FileFunction,Copper,L1,Top*%", "; #@! TF.FileFunction,{},1,1,{}"
-        own = "; #@! TA.AperFunction,{},PTH,ComponentDrill"
+        own = "; #@! TA.AperFunction,{},ComponentDrill"
         mixed = "\n".join(
             [
                 "M48",
