@@ -2,12 +2,12 @@
 from typing import Callable, Dict, Iterator, List, Optional, Set, Tuple
 
 from boardnet_show.formats import ipc356
-from boardnet_show.formats.drills.drill_places import places
 from boardnet_show.formats.ipc356 import Place
 from boardnet_show.intake.package import Package
 
 from .changes import CodesRead
 from .layer_order import is_near, near_cells
+from .placement import holes
 
 # The layer that is meant by a record, or None where its code stands.
 LayerOf = Callable[[Place], Optional[int]]
@@ -18,7 +18,7 @@ class Spans:
 
     def __init__(self, package: Package) -> None:
         self.holes: List[Tuple[int, int, Set[Tuple[int, int]]]] = [
-            (first, last, near_cells(places(package.read(name)))) for name, first, last in package.manifest.drills
+            (first, last, near_cells(holes(package, name))) for name, first, last in package.manifest.drills
         ]
 
     def at(self, x: int, y: int) -> List[int]:

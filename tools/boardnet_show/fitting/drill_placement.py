@@ -7,10 +7,10 @@ from typing import Callable, List, Optional, Tuple
 
 from boardnet_show.formats.drills.drill_lines import BODY, HEADER, Place, Tool, Unit, lines, places_of
 from boardnet_show.formats.drills.drill_lines import text_of as line_of
-from boardnet_show.formats.drills.drill_places import places
 from boardnet_show.formats.drills.drill_places import unit_of as drill_unit
 from boardnet_show.formats.units import decimal_millimetres
 
+from . import placement
 from .changes import CopperPlaced, DrillsPlaced
 from .layer_order import is_near, near_cells
 from .placement import FORMS, MANY, SAMPLE, all_flashes, moved, records, text_of, unit_of, vote
@@ -65,7 +65,7 @@ class Holes:
 
     def __init__(self, package):
         self.package, self.pads = package, all_flashes(package)
-        self.of = {name: sorted(set(places(package.read(name)))) for name, _, _ in package.manifest.drills}
+        self.of = {name: placement.holes(package, name) for name, _, _ in package.manifest.drills}
         cells = near_cells(self.pads)
         # Files of which at most half of the holes lie on the middle of a pad.
         self.off = [

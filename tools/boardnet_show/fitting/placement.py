@@ -74,33 +74,53 @@ def moved(text: str, form: Form, by: Sequence[int]) -> Optional[str]:
 # ---- centres
 
 
-def flashes(package, index):
-    """Centres of the flashes of a copper file, in u, as it was before it was flattened: found once for all changed
-    copies that have the file, too."""
-    name = package.manifest.copper[index]
-    data = package.before.get(name) or package.read(name)
-    key = pad_middles.of_file, hashlib.sha256(data).digest()
+def known(package, of, files, make=None):
+    """What a function finds in files: once for all changed copies that have the same, too. `make` is it with more
+    that follows from them."""
+    key = of, *(hashlib.sha256(data).digest() for data in files)
     if key not in package.made:
-        package.made[key] = pad_middles.of_file(data)
+        package.made[key] = make() if make else of(*files)
     return package.made[key]
+
+
+def unflattened(package, name):
+    """A copper file as it was before it was flattened."""
+    return package.before.get(name) or package.read(name)
+
+
+def flashes(package, index):
+    """Centres of the flashes of a copper file, in u."""
+    return known(package, pad_middles.of_file, [unflattened(package, package.manifest.copper[index])])
+
+
+def places_of_holes(data):
+    """The places of a drill file, each once."""
+    return sorted(set(places(data)))
+
+
+def holes(package, name):
+    return known(package, places_of_holes, [package.read(name)])
 
 
 def all_flashes(package):
     return set().union(*(flashes(package, index) for index in range(package.manifest.layers)))
 
 
+def with_vote(package, without):
+    """The drill files whose holes have a vote."""
+    return [name for name, _, _ in package.manifest.drills if name not in without]
+
+
 def voters(package, text, without):
     """Places of records with centres that they may lie on: through points and holes, else all points and all centres.
     The holes of some drill files have no vote."""
     told = records(text)
-    holes = sorted(
-        {spot for name, _, _ in package.manifest.drills if name not in without for spot in places(package.read(name))}
-    )
+    drilled = sorted({spot for name in with_vote(package, without) for spot in holes(package, name)})
     through = sorted({(r.x, r.y) for r in told if r.is_through})
-    enough = min(len(through), len(holes)) >= FEW
+    enough = min(len(through), len(drilled)) >= FEW
     if enough:
-        yield through, holes
-    pads = sorted(set(holes) | all_flashes(package))
+        yield through, drilled
+    pads = sorted(set(drilled) | all_flashes(package))
     if told and pads and not (enough and len(pads) > MANY):
         yield sorted({(r.x, r.y) for r in told}), pads
 
@@ -195,9 +215,15 @@ def settled(turned, near, cell, unit):
 
 def votes(package, text, declared, without=()):
     """((less the share of the votes, changes), (other unit, form, shift)), over both units and eight forms."""
+    copper = [unflattened(package, name) for name in package.manifest.copper]
+    files = [text.encode("latin-1"), *copper, *map(package.read, with_vote(package, without))]
+    return known(package, counted_votes, files, lambda: counted_votes(package, text, declared, without))
+
+
+def counted_votes(package, text, declared, without):
     found = []
-    for places, centres in voters(package, text, without):
-        sample = places[:: max(1, len(places) // SAMPLE)][:SAMPLE]
+    for sample_of, centres in voters(package, text, without):
+        sample = sample_of[:: max(1, len(sample_of) // SAMPLE)][:SAMPLE]
         for other, unit in enumerate((declared, sum(UNIT_WORDS) - declared)):
             for turn, (_, form) in enumerate(FORMS):
                 here = [(x * unit, y * unit) for x, y in sample]

@@ -1,7 +1,7 @@
 """Copper without width: which contours are noted, and where."""
 import unittest
 
-from boardnet_show.bounds.files.widthless_contours import told_of
+from boardnet_show.bounds.files.widthless_contours import MOST_CORNERS, may_have, told_of
 from tests.fixtures import made
 from tests.fixtures.made import flash, manifest, netlist, record
 
@@ -20,6 +20,16 @@ def told(*contours):
 
 class Contours(unittest.TestCase):
     SQUARE = [(0, 0), (10, 0), (10, 10), (0, 10)]
+
+    def test_long_ones(self):
+        """A file of long contours alone is not walked through."""
+        long = contour(*((k, k % 9) for k in range(MOST_CORNERS + 1)))
+        for regions, wanted in (([long], False), ([long] * 3, False), ([long, contour(*self.SQUARE)], True)):
+            lines = [line for its in regions for line in ("G36*", *its, "G37*")]
+            self.assertEqual(may_have("\n".join([*HEAD, *lines, "M02*", ""]).encode()), wanted)
+        both = [*HEAD, "G36*", *long, *contour(*self.SQUARE), "G37*", "M02*", ""]
+        self.assertTrue(may_have("\n".join(both).encode()))
+        self.assertFalse(may_have("\n".join([*HEAD, "M02*", ""]).encode()))
 
     def test_noted(self):
         """What encloses nothing, and what hangs by a line that is run along twice; the place is on it."""

@@ -38,6 +38,14 @@ class Within(unittest.TestCase):
         ):
             self.assertTrue(self.said(body), body[:80])
 
+    def test_emptied(self):
+        """A contour of which most words are empty is left out with these, wherever they stand."""
+        for at in (1, 3, 600, 1199):
+            words = [*RING[:at], *["*"] * 5_000, *RING[at:]]
+            short = within_profile.shortened(HEAD + region(words))
+            self.assertLess(len(short), 400)
+            self.assertTrue(self.said(region(words)))
+
     def test_others(self):
         arc = "G75*\nD10*\nX0Y0D02*\nG03X1000000Y1000000I0J1000000D01*\nG01*\n"
         rows = [

@@ -131,12 +131,24 @@ def wound(walk, data):
     )
 
 
+def may_have(data):
+    """Whether a file may have a contour that is looked at; no region has one with a single move and more draws."""
+    at = data.find(b"G36")
+    while at >= 0:
+        end = data.find(b"G37", at)
+        moves = data.count(b"D02*", at, end) + data.count(b"D2*", at, end)
+        if end < 0 or moves != 1 or data.count(b"D01*", at, end) <= MOST_CORNERS:
+            return True
+        at = data.find(b"G36", end)
+    return False
+
+
 def notes(package):
     """Notes on each copper file that has such contours; what cannot be read says nothing here."""
     for name in dict.fromkeys(package.manifest.copper):
         try:
             data = package.read(name)
-            walk = Contours(data) if b"G36" in data else None
+            walk = Contours(data) if may_have(data) else None
         except (OSError, Refused, ValueError):
             continue
         if walk and walk.scale and walk.decimals:

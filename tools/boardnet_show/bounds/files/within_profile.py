@@ -12,6 +12,7 @@ from .bounded_file import Copper
 MOVED = re.compile(r"\s*X[+-]?[0-9]{1,13}Y[+-]?[0-9]{1,13}D0?2\*")
 DRAWN = re.compile(r"[\s*]*X[+-]?[0-9]{1,13}Y[+-]?[0-9]{1,13}D0?1\*")
 PLAIN = re.compile(r"\s*(?:X[+-]?[0-9]{1,13}Y[+-]?[0-9]{1,13}D0?1)?\*")
+EMPTY = re.compile(r"(?:\*\s*){3,}")
 LONG = 10_000  # characters of a contour
 KEPT = 4  # edges at its beginning, so that it is one
 
@@ -45,7 +46,8 @@ def shortened(text: str) -> str:
         end = text.find("G37*", start)
         if end - start > LONG and text[:start].rstrip()[-1:] in ("*", "%"):
             first, last = kept(text, start + len("G36*"), end)
-            parts.append(text[done:first])
+            # What is cut leaves empty words behind, also between the first edges.
+            parts += [text[done:start], EMPTY.sub("*\n", text[start:first])]
             done = last
         start = text.find("G36*", start + 1 if end < 0 else end)
     return "".join([*parts, text[done:]])

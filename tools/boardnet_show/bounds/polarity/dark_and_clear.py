@@ -87,12 +87,15 @@ def chosen(objects: Sequence[Object], also: Collection[int]) -> Tuple[Set[int], 
     return tags, sorted(swept)
 
 
-def cut(objects, also=()):
+def cut(objects, also=(), sides=(0, 1)):
     """(tags, LOWER, UPPER): the tags of dark objects that are written otherwise, and what is written for them, as (piece, tag).
-    Objects of the tags `also` are written otherwise in any case."""
+    Objects of the tags `also` are written otherwise in any case; of another side than `sides` there is nothing."""
     tags, swept = chosen(objects, set(also))
     apart, out = set(swept), []
     for side in (0, 1):
+        if side not in sides:
+            out.append([])
+            continue
         written = [
             (piece, it.tag)
             for n, it in enumerate(objects)

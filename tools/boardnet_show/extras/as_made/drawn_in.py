@@ -10,40 +10,38 @@ from typing import Dict, Iterable, Iterator, List, Sequence, Set, Tuple
 from boardnet_show.bounds.polarity import dark_and_clear
 from boardnet_show.bounds.polarity.dark_and_clear import Object
 from boardnet_show.geometry.exact import Refused
-from boardnet_show.geometry.segments import edges
+from boardnet_show.geometry.segments import Bands, place_beside
 from boardnet_show.geometry.shapes import Shapes
 
-Spot = Tuple[int, int]
-Edge = Tuple[Spot, Spot]
+from .rims import Edge, Spot, bordering, key, own_edges, round_edges
+
 # Edges of a layer's areas that are drawn in: a sweep of more takes minutes.
 MOST_EDGES = 60_000
 
 
-def key(edge: Edge) -> Edge:
-    """An edge, whichever way it is run along."""
-    return min(edge), max(edge)
-
-
-def own_edges(corners: List[Spot]) -> List[Edge]:
-    return [(a, b) for a, b in edges(corners) if a != b]
-
-
 def abutting(areas: Dict[int, List[Spot]]) -> Tuple[List[List[int]], Set[Edge]]:
-    """Areas in groups of those that have whole edges in common, and these edges."""
-    first: Dict[Edge, int] = {}
-    group, shared = {number: [number] for number in areas}, set()
+    """Areas in groups of those that have whole edges in common, and those of these edges that have copper on both
+    sides: two areas may lie on the same one."""
+    owners: Dict[Edge, List[int]] = defaultdict(list)
+    group = {number: [number] for number in areas}
     for number, corners in areas.items():
-        for edge in map(key, own_edges(corners)):
-            other = first.setdefault(edge, number)
-            if other == number:
-                continue
-            shared.add(edge)
-            one, two = group[other], group[number]
+        for edge in {key(line) for line in bordering(corners, ()) if line}:
+            owners[edge].append(number)
+    common = {edge: its for edge, its in owners.items() if len(its) > 1}
+    for first, *others in common.values():
+        for other in others:
+            one, two = group[first], group[other]
             if one is not two:
                 one += two
-                for moved in two:
-                    group[moved] = one
+                group.update(dict.fromkeys(two, one))
+    insides = {number: Bands(areas[number]) for its in common.values() for number in its}
+    shared = {edge for edge, its in common.items() if is_covered(edge, [insides[number] for number in its])}
     return list({id(its): its for its in group.values()}.values()), shared
+
+
+def is_covered(edge: Edge, insides: Sequence[Bands]) -> bool:
+    """Whether some areas lie on both sides of an edge."""
+    return all(any(its.odd(*place_beside(list(edge), side)) for its in insides) for side in (False, True))
 
 
 def rims(lines: Iterable[Edge], half: int) -> List[tuple]:
@@ -58,10 +56,12 @@ def lower_areas(shapes: Shapes, pieces: Sequence[int], half: int) -> Iterator[tu
         raise Refused(f"a layer's areas have over {MOST_EDGES} edges")
     groups, shared = abutting(areas)
     for its in groups:
-        lines = [edge for piece in its for edge in own_edges(areas[piece]) if key(edge) not in shared]
+        borders = [bordering(areas[piece], shared) for piece in its]
+        near = rims([edge for lines in borders for edge in lines if edge], half)
+        around = [corners for lines in borders for corners in round_edges(lines, half)]
         dark = [("area", areas[piece]) for piece in its]
-        objects = [Object(True, (dark, dark), 0), Object(False, (rims(lines, half),) * 2, 0)]
-        yield from (piece for piece, _ in dark_and_clear.cut(objects)[1])
+        objects = [Object(True, (dark, dark), 0), Object(False, (near, near), 0, ([], around))]
+        yield from (piece for piece, _ in dark_and_clear.cut(objects, sides=(0,))[1])
 
 
 def lower_layer(shapes: Shapes, pieces: Sequence[int], half: int) -> Iterator[tuple]:
@@ -76,17 +76,13 @@ def lower_layer(shapes: Shapes, pieces: Sequence[int], half: int) -> Iterator[tu
 def upper_layer(shapes: Shapes, pieces: Sequence[int], half: int) -> Iterator[tuple]:
     """All that may be left of what some pieces of a layer make together."""
     darks = [Object(True, ([shapes.solid(piece)],) * 2, 0) for piece in pieces]
-    together = dark_and_clear.cut(darks, {0})[2]
+    together = dark_and_clear.cut(darks, {0}, (1,))[2]
     lines = [edge for (_, corners), _ in together for edge in own_edges(corners)]
     if len(lines) > MOST_EDGES:
         raise Refused(f"a net's copper on a layer has over {MOST_EDGES} edges")
     dark = [piece for piece, _ in together]
-    yield from (
-        piece
-        for piece, _ in dark_and_clear.cut([Object(True, (dark, dark), 0), Object(False, (rims(lines, half),) * 2, 0)])[
-            2
-        ]
-    )
+    objects = [Object(True, (dark, dark), 0), Object(False, (rims(lines, half),) * 2, 0)]
+    yield from (piece for piece, _ in dark_and_clear.cut(objects, sides=(1,))[2])
 
 
 def by_layers(layer_of: Sequence[int], pieces: Iterable[int]) -> Dict[int, List[int]]:

@@ -20,6 +20,12 @@ ABUT = [
 ]
 # An hourglass of one contour, 0.4 mm wide at its waist.
 WAIST = region((-1, -1), (5, -0.2), (11, -1), (11, 1), (5, 0.2), (-1, 1))
+# Both halves of it, which abut along an edge across its waist, and it with a hole that a line run along twice joins.
+HALVES = [*region((-1, -1), (5, -0.2), (5, 0.2), (-1, 1)), *region((5, -0.2), (11, -1), (11, 1), (5, 0.2))]
+SLIT = region(
+    *[(-1, -1), (5, -0.2), (11, -1), (11, 1), (5, 0.2), (-1, 1), (-1, 0.9), (1, 0.7), (1.2, 0.6)],
+    *[(1, 0.6), (1, 0.7), (-1, 0.9)],
+)
 
 
 class Necks(made.Case):
@@ -37,6 +43,10 @@ class Necks(made.Case):
         (TRACK, "0.9", 1, [("neck-0", True)]),
         (WAIST, "0.39", 0, []),
         (WAIST, "0.41", 1, [("neck-0", True)]),
+        ([*WAIST, *WAIST], "0.41", 1, [("neck-0", True)]),
+        (HALVES, "0.39", 0, []),
+        (HALVES, "0.41", 1, [("neck-0", True)]),
+        (SLIT, "0.39", 0, []),
         (STRIP, "0.29", 0, []),
         (STRIP, "0.31", 11, [("neck-0", False)]),
         (POINT, "0", 1, [("neck-0", True)]),
