@@ -8,10 +8,10 @@ use Rattle.real_copper.specs.declared.kind.RealKind.{RealKind}
 use Rattle.real_copper.specs.declared.kind.RealKind.TheVariants as kinds
 use Rattle.gerber_layer.specs.declared.macro_kind.FlattenKind.TheVariants as flatten
 use Rattle.board_shapes.specs.declared.placed.Room.{Room}
-use Rattle.ipc356_records.specs.NetlistFile as netlist_file
+use Rattle.net_forms.specs.NetFile as netlist_file
 use Rattle.ipc356_records.specs.declared.kind.RecordFault.{RecordFault}
 use Rattle.ipc356_records.specs.declared.kind.RecordFault.TheVariants as record_fault
-use Rattle.xnc.specs.DrillFile as drill_file
+use Rattle.drill_forms.specs.FormFile as drill_file
 use Rattle.xnc.specs.declared.kind.DrillFault.{DrillFault}
 use Rattle.xnc.specs.declared.kind.DrillFault.TheVariants as drill_fault
 use Rattle.board_package.specs.Causes.{HasRefusal}

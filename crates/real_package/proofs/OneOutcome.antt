@@ -6,9 +6,9 @@ use Rattle.real_copper.specs.Kinds.{gerber}
 use Rattle.board_io.specs.Package.{Files}
 use Rattle.board_shapes.specs.Pieces.{PlainPiece}
 use Rattle.gerber_reading.specs.declared.place.Place.{Place as LayerPlace}
-use Rattle.ipc356_records.specs.NetlistFile as netlist_file
 use Rattle.ipc356_records.specs.NetlistFile.{Netlist}
-use Rattle.xnc.specs.DrillFile as drill_file
+use Rattle.net_forms.specs.NetFile as netlist_file
+use Rattle.drill_forms.specs.FormFile as drill_file
 use Rattle.xnc.specs.Places.{Place as DrillPlace}
 use Rattle.board_package.specs.Contents.{drill_in, layer_in}
 use Rattle.board_package.specs.PackageBoard.{IsHeldWith, Stop, StopsAtManifest, StopsTaking, WalksBy, absent, longer, refused}

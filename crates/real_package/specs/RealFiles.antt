@@ -8,8 +8,8 @@ use Rattle.real_copper.specs.declared.kind.RealKind.TheVariants.{Copper}
 use Rattle.gerber_layer.specs.declared.macro_kind.FlattenKind.TheVariants.{Gerber}
 use Rattle.board_shapes.specs.Pieces.{PlainPiece}
 use Rattle.board_shapes.specs.declared.probe.Probe.{Probe}
-use Rattle.xnc.specs.DrillFile as drill_file
-use Rattle.ipc356_records.specs.NetlistFile as netlist_file
+use Rattle.drill_forms.specs.FormFile as drill_file
+use Rattle.net_forms.specs.NetFile as netlist_file
 use Rattle.board_package.specs.Contents.{drill_in, layer_in}
 use Rattle.board_package.specs.declared.entry.Role.{Role}
 use Rattle.board_package.specs.declared.entry.Role.TheVariants as role

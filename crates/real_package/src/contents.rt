@@ -13,12 +13,12 @@ use crate::fault::RealBuildFault;
 use board_package::{BuildFault, Entry, Refusal, Role, refused};
 use gerber_layer::FlattenKind;
 use gerber_reading::Place;
-use ipc356_records::{RecordFault, read_netlist};
+use ipc356_records::RecordFault;
 use lengths::text::Text;
 use real_copper::{RealFault, RealKind, read_real};
 use std::alloc::Global;
 use texts::MOST_BYTES;
-use xnc::{DrillFault, Span, read_drill};
+use xnc::{DrillFault, Span};
 
 /// The fault of a copper file that is not read.
 fn copper_fault(name: &Text, why: RealFault) -> RealBuildFault
@@ -109,14 +109,20 @@ pub fn read_file(
             Ok(pieces) => Ok(board.add(pieces)?),
             Err(why) => Err(copper_fault(&entry.name, why)),
         },
-        Role::Drill { from, to } => match read_drill(alloc, bytes, Span { from, to }, file, room) {
+        Role::Drill { from, to } => match drill_forms::read_forms(
+            alloc,
+            bytes,
+            Span { from, to },
+            file,
+            room,
+        ) {
             Ok(pieces) => match as_real_pieces(alloc, pieces) {
                 Ok(barrels) => Ok(board.add(barrels)?),
                 Err(_) => Err(RealBuildFault::Build(BuildFault::NoMemory)),
             },
             Err(why) => Err(drill_fault(&entry.name, why)),
         },
-        Role::Netlist => match read_netlist(alloc, bytes, board.layers) {
+        Role::Netlist => match net_forms::read_forms(alloc, bytes, board.layers) {
             Ok(netlist) => {
                 board.probes = netlist.probes;
                 board.names = netlist.names;

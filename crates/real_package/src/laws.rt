@@ -11,8 +11,8 @@ pub fn one_real_outcome()
     ensures { (files : Files) (manifest : List ℕ) → HasOneRealOutcome files manifest }
 {
     one_real_answer();
-    xnc::laws::one_answer();
-    ipc356_records::laws::one_answer();
+    drill_forms::laws::one_answer();
+    net_forms::laws::one_answer();
 }
 
 /// What is said of what was handed over holds of all files that agree with it.
