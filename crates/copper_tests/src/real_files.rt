@@ -280,7 +280,7 @@ static QUARTERS: [(&str, &str); 21] = [
 ];
 
 // Refusals; the last are of this crate's own.
-static REFUSALS: [(&str, &str); 20] = [
+static REFUSALS: [(&str, &str); 21] = [
     (
         "G74*G03X1000000Y1000003I0J1000000D01*M02*",
         "NoCentre at command 6",
@@ -295,8 +295,12 @@ static REFUSALS: [(&str, &str); 20] = [
     ("G75*G01X1000000I1J1D01*M02*", "OffsetsAmiss at command 6"),
     ("G75*G02X1000000I1J1D02*M02*", "OffsetsAmiss at command 6"),
     (
-        "G75*G36*G02X1000000I500000J0D01*G01*X0D01*G37*M02*",
-        "Copper(Gerber(ShortContour)) at command 10",
+        "G75*G36*X1000000D01*X0D01*G37*M02*",
+        "Copper(Gerber(ShortContour)) at command 9",
+    ),
+    (
+        "G36*G74*G03I1000000J0D01*G37*M02*",
+        "Copper(Gerber(ShortContour)) at command 8",
     ),
     (
         "G75*G02X1000000J500000I0D01*M02*",
@@ -660,7 +664,19 @@ static FINE_PENS: [(&str, &str); 8] = [
 ];
 
 // Contours with arcs, all of this crate's own; one without is an area.
-static REGIONS: [(&str, &str); 6] = [
+static REGIONS: [(&str, &str); 9] = [
+    (
+        "G75*G36*X0Y0D02*G03I500000D01*G37*M02*",
+        "from 0 0, (5000000 0) true 0 0 by 9.0",
+    ),
+    (
+        "G75*G36*X0Y0D02*G03X1000000I500000D01*X0I-500000D01*G37*M02*",
+        "from 0 0, (5000000 0) true 10000000 0, (5000000 0) true 0 0 by 10.0",
+    ),
+    (
+        "G75*G36*G02X1000000I500000J0D01*G01*X0D01*G37*M02*",
+        "from 0 0, (5000000 0) false 10000000 0, 0 0 by 10.0",
+    ),
     (
         "X0Y0D02*G36*G01X1000000D01*G75*G03X0Y1000000I-1000000J0D01*G01X0Y0D01*G37*M02*",
         "from 0 0, 10000000 0, (0 0) true 0 10000000, 0 0 by 11.0",

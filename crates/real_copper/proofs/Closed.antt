@@ -19,7 +19,7 @@ use Rattle.regions.specs.Contours.{Outline}
 use Rattle.step_repeat.specs.Copies.{pieces_by}
 use Rattle.step_repeat.specs.declared.repeat.Repeat.{Repeat}
 use Rattle.real_copper.specs.Arcs.{as_real, no_arc}
-use Rattle.real_copper.specs.Contours.{area_of, end_of}
+use Rattle.real_copper.specs.Contours.{area_of, end_of, is_too_short}
 use Rattle.real_copper.specs.Draws.{IsNearBend}
 use Rattle.real_copper.specs.Figures.{RealFigure, real_handling}
 use Rattle.real_copper.specs.RealReader.{Closes, HasObeyed, IsCounted, IsLawful, IsRight, Seen, halt_of, known, plain}
@@ -32,7 +32,7 @@ use Rattle.real_copper.proofs.Edges.{bends_longer}
 
 -- ---- Contours
 
-pub closing_is : (k : RealKnown) (o : Outline (Option Bend)) → k.contour ≡ Some o → same_spot (end_of o.first o.legs) o.first ≡ true → nat_lt (length o.legs) 3 ≡ false → is_full k ≡ false → closing k ≡ Ok (Some (area_of o))
+pub closing_is : (k : RealKnown) (o : Outline (Option Bend)) → k.contour ≡ Some o → same_spot (end_of o.first o.legs) o.first ≡ true → is_too_short o ≡ false → is_full k ≡ false → closing k ≡ Ok (Some (area_of o))
 unfolding closing
 closing_is k o h a b f = rw (h, a, b, f) refl
 

@@ -1,7 +1,8 @@
 -- The edges of a contour, as they are kept and as plain data: where they end, and that each is within 1 m.
-use Rattle.std.proofs.Common.{◌≡◌, ◌∙◌, ℕ, ◌<◌, ◌-◌, zero, suc, true, List, [], ◌∷◌, map, length, refl, ap, arith}
-use Rattle.std.specs.Prelude.{All, Option, Some, None, slice_get, slice_index_or}
+use Rattle.std.proofs.Common.{◌≡◌, ◌∙◌, ℕ, ◌<◌, ◌≤◌, ◌-◌, zero, suc, Bool, true, false, ◌&&◌, List, [], ◌∷◌, map, length, refl, ap, arith}
+use Rattle.std.specs.Prelude.{All, nat_lt, Option, Some, None, slice_get, slice_index_or}
 use Rattle.std.specs.List.{list_all}
+use Rattle.std.proofs.lemmas.Bool.Decides.{nat_tests}
 use Rattle.std.proofs.lemmas.List.{length-map}
 use Rattle.planar.specs.Plane.{IsPlaced, same_spot}
 use Rattle.planar.specs.declared.Spot.{Spot}
@@ -13,7 +14,7 @@ use Rattle.gerber_reading.specs.Settings.{lengthened}
 use Rattle.std.proofs.lemmas.List.Elements.{All-append, All-cons, All-nil}
 use Rattle.regions.specs.declared.contour.Leg.{Leg as Seen}
 use Rattle.arc_regions.specs.declared.Part.{Part}
-use Rattle.real_copper.specs.Contours.{Edge, end_of, end_of_edge, part_by, part_of}
+use Rattle.real_copper.specs.Contours.{Edge, end_of, end_of_edge, is_too_short, is_straight, part_by, part_of}
 use Rattle.real_copper.specs.Draws.{IsNearBend}
 use Rattle.real_copper.specs.Figures.{is_part_placed}
 use Rattle.real_copper.specs.declared.draw.Bend.{Bend}
@@ -48,6 +49,17 @@ all_first p ps h more (suc k) d below = more k d (omega arith)
 all_ends : (ls : List (Seen (Option Bend))) → All (λ (l : Seen (Option Bend)). IsPlaced l.to) ls → All IsPlaced (map end_of_edge (map leg_of ls))
 all_ends [] h = λ k d below. absurd (omega arith)
 all_ends (l ∷ ls) h = all_first l.to (map end_of_edge (map leg_of ls)) (h 0 l (omega arith)) (all_ends ls (λ i d below. h (suc i) d (omega arith)))
+
+-- straight edges that are not too few have four points or more
+not_both : (b : Bool) → (b && true) ≡ false → b ≡ false
+not_both true h = h
+not_both false h = refl
+
+pub enough_points : (o : Outline (Option Bend)) (points : List Spot) → points ≡ o.first ∷ map end_of_edge o.legs → is_straight o.legs ≡ true → is_too_short o ≡ false → 4 ≤ length points
+enough_points o points e straight h =
+    let few : nat_lt (length o.legs) 3 ≡ false = not_both (nat_lt (length o.legs) 3) (rw straight at h) in
+    let many : length (map end_of_edge o.legs) ≡ length o.legs = simp length-map in
+    rw e (grind (arith, nat_tests, few, many))
 
 pub placed_points : (first : Spot) (ls : List (Seen (Option Bend))) (points : List Spot) → points ≡ first ∷ map end_of_edge (map leg_of ls) → IsPlaced first → All (λ (l : Seen (Option Bend)). IsPlaced l.to) ls → All IsPlaced points
 placed_points first ls points e h k = rw e (all_first first (map end_of_edge (map leg_of ls)) h (all_ends ls k))

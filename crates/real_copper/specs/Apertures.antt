@@ -17,6 +17,8 @@ use Rattle.apertures.specs.declared.fault.ApertureFault.TheVariants as fault
 use Rattle.real_copper.specs.declared.aperture.OddForm.{OddForm}
 use Rattle.real_copper.specs.declared.aperture.OddForm.TheVariants as form
 use Rattle.real_copper.specs.declared.aperture.RealAperture.{RealAperture}
+use Rattle.real_copper.specs.declared.definitions.TwoSided.{TwoSided}
+use Rattle.real_copper.specs.declared.definitions.TwoSided.TheVariants as two
 use Rattle.real_copper.specs.declared.definitions.TwoSizes.{TwoSizes}
 use Rattle.real_copper.specs.declared.aperture.RealAperture.TheVariants.{Exact, Ring, Frame, Odd, Pierced}
 
@@ -60,15 +62,19 @@ is_named letter word = is_word (name_of (name_text word)) letter
 abbrev pub parameters : List ℕ → List ℕ
 parameters word = after_first is_comma (name_text word)
 
--- a rectangle or an obround by both sizes
-abbrev pub sided : Bool → ℕ → ℕ → OddForm
-sided square x y = if square then form.Rectangle x y else form.Obround x y
+-- what has two sizes is a rectangle (4.4.3) or an obround (4.4.4)
+abbrev pub sided_in : List ℕ → TwoSided
+sided_in word = if is_named (codes "R") word then two.Rectangle else two.Obround
+
+abbrev pub sided : TwoSided → ℕ → ℕ → OddForm
+sided two.Rectangle x y = form.Rectangle x y
+sided two.Obround x y = form.Obround x y
 
 -- a circle by its diameter, a rectangle or an obround by both sizes
 unfoldable pub odd_by : List ℕ → List ℕ → Measure → Result OddForm ApertureFault
 odd_by word text unit =
     if is_named (codes "C") word then (size_at text unit >>= λ d. narrow (form.Circle d))
-    else (sizes_at text unit >>= λ s. narrow (sided (is_named (codes "R") word) s.x s.y))
+    else (sizes_at text unit >>= λ s. narrow (sided (sided_in word) s.x s.y))
 
 -- ---- With a hole
 
@@ -93,19 +99,19 @@ with_hole f hole =
     else (if is_held f hole then Ok (pierced f hole) else Err fault.Hole))
 
 -- a circle by its diameter and that of the hole
-unfoldable pub ring_at : List ℕ → Measure → Result RealAperture ApertureFault
-ring_at text unit = last_behind is_x text >>= λ _. sizes_at text unit >>= λ s. with_hole (form.Circle s.x) s.y
+unfoldable pub holed_circle_at : List ℕ → Measure → Result RealAperture ApertureFault
+holed_circle_at text unit = last_behind is_x text >>= λ _. sizes_at text unit >>= λ s. with_hole (form.Circle s.x) s.y
 
 -- a rectangle or an obround by both sizes and the diameter of the hole
-unfoldable pub frame_behind : Bool → ℕ → List ℕ → Measure → Result RealAperture ApertureFault
-frame_behind square x text unit = sizes_at text unit >>= λ s. with_hole (sided square x s.x) s.y
+unfoldable pub holed_sided_behind : TwoSided → ℕ → List ℕ → Measure → Result RealAperture ApertureFault
+holed_sided_behind kind x text unit = sizes_at text unit >>= λ s. with_hole (sided kind x s.x) s.y
 
-unfoldable pub frame_at : Bool → List ℕ → Measure → Result RealAperture ApertureFault
-frame_at square text unit =
-    last_behind is_x (after_first is_x text) >>= λ _. size_at (before_first is_x text) unit >>= λ x. frame_behind square x (after_first is_x text) unit
+unfoldable pub holed_sided_at : TwoSided → List ℕ → Measure → Result RealAperture ApertureFault
+holed_sided_at kind text unit =
+    last_behind is_x (after_first is_x text) >>= λ _. size_at (before_first is_x text) unit >>= λ x. holed_sided_behind kind x (after_first is_x text) unit
 
 unfoldable pub holed_by : List ℕ → List ℕ → Measure → Result RealAperture ApertureFault
-holed_by word text unit = if is_named (codes "C") word then ring_at text unit else frame_at (is_named (codes "R") word) text unit
+holed_by word text unit = if is_named (codes "C") word then holed_circle_at text unit else holed_sided_at (sided_in word) text unit
 
 -- ---- Any
 

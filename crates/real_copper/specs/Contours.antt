@@ -1,5 +1,5 @@
 -- What a contour bounds (Gerber Layer Format Specification, 4.10).
-use Rattle.std.specs.Prelude.{◌≤◌, ◌≡◌, Bool, true, not, if◌then◌else◌, List, [], ◌∷◌, length, map, Option, Some, None, is_none}
+use Rattle.std.specs.Prelude.{◌≡◌, Bool, true, false, ◌&&◌, not, nat_lt, if◌then◌else◌, List, [], ◌∷◌, length, map, Option, Some, None, is_none}
 use Rattle.std.specs.List.{list_all}
 use Rattle.planar.specs.Plane.{same_spot}
 use Rattle.planar.specs.declared.Spot.{Spot}
@@ -42,7 +42,11 @@ abbrev pub end_of : Spot → List Edge → Spot
 end_of p [] = p
 end_of p (e ∷ edges) = end_of e.to edges
 
--- a contour of three edges or more that ends where it begins
+-- One or two straight edges bound nothing; an arc may, as one that is a whole turn, and as two from end to end (4.7, 4.10).
+abbrev pub is_too_short : Outline (Option Bend) → Bool
+is_too_short o = nat_lt (length o.legs) 3 && is_straight o.legs
+
+-- a contour of edges enough that ends where it begins
 pub record IsClosedOutline (o : Outline (Option Bend)) : Type 0 where
-  pub enough : 3 ≤ length o.legs
+  pub enough : is_too_short o ≡ false
   pub closed : same_spot (end_of o.first o.legs) o.first ≡ true

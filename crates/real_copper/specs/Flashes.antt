@@ -64,7 +64,7 @@ frame_at x y hole at = region (upper at hole 0) (cut_in at (upper at hole 0) (lo
 abbrev pub pierced_at : OddForm → ℕ → Spot → RealFigure
 pierced_at f hole at = holed (record { outline = odd_at f at; centre = at; hole = hole })
 
--- Each end, corner, middle and the spot right of a hole at its border is at most 1 m from 0 (own).
+-- Each end, corner and middle is at most 1 m from 0, of a ring also the spot at which it is begun (own).
 abbrev pub within : RealFigure → Result (Option RealFigure) NoFlash
 within f = if is_real_placed f then Ok (Some f) else Err leaves
 

@@ -52,7 +52,7 @@ quarters_of Half = 2
 quarters_of ThreeQuarters = 3
 
 -- A polygon by its middle, the diameter of its circle in parts of a u, and its corners: the first is in the direction of the turn. Its middle is
--- turned with it about the flash.
+-- turned with it about the flash; with nothing left to turn it stays, as one that is turned by 0 about itself.
 abbrev pub polygon_turned : Turn → Spot → Spot → ℕ → ℕ → RealFigure
 polygon_turned turn about p d n =
     let g : RegularPolygon = record { centre = p; corners = n; diameter = d; angle = quarters_of turn.quarters * RIGHT_ANGLE + turn.rest } in

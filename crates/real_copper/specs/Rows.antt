@@ -19,7 +19,7 @@ use Rattle.lengths.specs.Decimal.{Fraction}
 use Rattle.lengths.specs.declared.decimal.Unit.{Unit as Measure}
 use Rattle.real_copper.specs.Apertures.{pen_of}
 use Rattle.real_copper.specs.Arcs.{as_real, bend_of, no_arc}
-use Rattle.real_copper.specs.Contours.{area_of, end_of}
+use Rattle.real_copper.specs.Contours.{area_of, end_of, is_too_short}
 use Rattle.real_copper.specs.Draws.{draw_of}
 use Rattle.real_copper.specs.Figures.{RealFigure, real_handling}
 use Rattle.real_copper.specs.Flashes.{real_flash}
@@ -118,12 +118,12 @@ extend k b to =
     unless (nat_le MOST_CONTOUR_EDGES (edges_in k.contour) || exceed real_handling k (edges_in k.contour + 1)) (gerber kind.TooManyVertices)
     (bend_of k.settings b to >>= λ bend. Ok (extends to bend))
 
--- what the contour that ends bounds, if it has an edge: it is closed, of three edges or more, and there is room for one piece
+-- what the contour that ends bounds, if it has an edge: it is closed, of edges enough, and there is room for one piece
 abbrev pub closed : RealKnown → Option (Outline (Option Bend)) → Result (Option RealFigure) RealKind
 closed k None = Ok None
 closed k (Some o) =
     unless (not (same_spot (end_of o.first o.legs) o.first)) (gerber kind.OpenContour)
-    (unless (nat_lt (length o.legs) 3) (gerber kind.ShortContour)
+    (unless (is_too_short o) (gerber kind.ShortContour)
     (unless (is_full k) (gerber kind.TooManyPieces) (Ok (Some (area_of o)))))
 
 unfoldable pub closing : RealKnown → Result (Option RealFigure) RealKind

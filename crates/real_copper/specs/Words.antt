@@ -33,12 +33,25 @@ behind_code text =
     else (if begins text (codes "G2") || begins text (codes "G3") then behind_short text
     else behind_line_code text)
 
+-- the letters before numbers, by their codes in ASCII
+abbrev pub letter_i : ℕ
+letter_i = 73
+
+abbrev pub letter_j : ℕ
+letter_j = 74
+
+abbrev pub letter_x : ℕ
+letter_x = 88
+
+abbrev pub letter_y : ℕ
+letter_y = 89
+
 -- The numbers of I and J, from the offsets on; what begins a further offset behind them is one too many.
 abbrev pub begins_offset : List ℕ → Bool
 begins_offset text = begins text (codes "I") || begins text (codes "J")
 
 abbrev pub bending : Option Curve → List ℕ → Bending
-bending curve text = record { curve = curve; i = number_in 73 text; j = number_in 74 (behind 73 text); more = begins_offset (behind 74 (behind 73 text)) }
+bending curve text = record { curve = curve; i = number_in letter_i text; j = number_in letter_j (behind letter_i text); more = begins_offset (behind letter_j (behind letter_i text)) }
 
 -- an operation by its two numbers, and its text from the offsets on
 unfoldable pub past_numbers : Option Curve → Option (List ℕ) → Option (List ℕ) → List ℕ → Command
@@ -47,7 +60,7 @@ past_numbers curve x y text =
 
 -- by its text from X on, what it is where there are no arcs: refused for its offsets alone it is an operation with these
 abbrev pub with_offsets : Option Curve → List ℕ → Command → Command
-with_offsets curve text (refused kind.Arc) = past_numbers curve (number_in 88 text) (number_in 89 (behind 88 text)) (behind 89 (behind 88 text))
+with_offsets curve text (refused kind.Arc) = past_numbers curve (number_in letter_x text) (number_in letter_y (behind letter_x text)) (behind letter_y (behind letter_x text))
 with_offsets curve text (operates x y code b) = operates x y code (bending curve [])
 with_offsets curve text other = other
 

@@ -11,7 +11,7 @@ ghost use Rattle.regions.specs.Contours.{outline_of};
 ghost use Rattle.std.specs.Prelude.{IfErr, None, OnOk, Some, ◌≡◌, ◌+◌, ◌<◌, ◌^◌};
 
 use crate::bends::bend_of;
-use crate::contours::area_of;
+use crate::contours::{area_of, is_too_short};
 use crate::draw::Bend;
 use crate::drawing::{RealReader, halted, without_offsets};
 use crate::kind::{RealKind, gerber};
@@ -47,7 +47,7 @@ pub fn close(reader: &mut RealReader, alloc: Global) -> Result<(), Halt<RealKind
     if !is_same(end_of(&contour), contour.first) {
         return Err(Halt::Fault(gerber(GerberKind::OpenContour)));
     }
-    if contour.legs.len() < 3 {
+    if is_too_short(&contour) {
         return Err(Halt::Fault(gerber(GerberKind::ShortContour)));
     }
     if reader.is_full() {

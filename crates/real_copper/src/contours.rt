@@ -5,7 +5,7 @@ ghost use Rattle.real_copper.specs.Contours.{IsClosedOutline};
 ghost use Rattle.real_copper.specs.Draws.{IsNearBend};
 ghost use Rattle.real_copper.specs.Shapes.{real_figure};
 ghost use Rattle.std.specs.List.{list_all};
-ghost use Rattle.std.specs.Prelude.{All, IfOk, is_none, map, ◌∷◌, ◌≡◌};
+ghost use Rattle.std.specs.Prelude.{All, IfOk, is_none, map, true, ◌∷◌, ◌≡◌};
 
 use crate::anchored::Anchored;
 use crate::draw::Bend;
@@ -76,8 +76,16 @@ fn is_straight(edges: &[Edge]) -> bool
     are_straight(edges)
 }
 
+/// Whether a contour has one or two edges that are straight: these bound nothing.
+pub fn is_too_short(contour: &Contour<Option<Bend>>) -> bool
+    ensures { result ≡ spec.is_too_short (outline_of contour.now) }
+{
+    contour.legs.len() < 3 && is_straight(&contour.legs)
+}
+
 // What straight edges bound.
 fn straight_area(alloc: Global, contour: &Contour<Option<Bend>>) -> Result<Anchored, NoMemory>
+    requires straight { spec.is_straight (outline_of contour.now).legs ≡ true }
     requires closed { IsClosedOutline (outline_of contour.now) }
     ensures { IfOk result (λ made. real_figure made.shape ≡ spec.straight_area (outline_of contour.now)) }
 {
@@ -99,7 +107,7 @@ fn curved_area(alloc: Global, contour: &Contour<Option<Bend>>) -> Result<Anchore
     })
 }
 
-/// What a closed contour of three edges or more bounds, by even and odd.
+/// What a closed contour bounds, by even and odd.
 pub fn area_of(alloc: Global, contour: &Contour<Option<Bend>>) -> Result<Anchored, NoMemory>
     requires closed { IsClosedOutline (outline_of contour.now) }
     requires bends { All (λ leg. IsNearBend leg.bend) (outline_of contour.now).legs }

@@ -101,11 +101,22 @@ fn is_circle(word: &[u8]) -> bool
     is_word(before_byte(name_text(word), b','), b"C")
 }
 
-// Whether it is `R`.
-fn is_rectangle(word: &[u8]) -> bool
-    ensures { result ≡ spec.is_named (codes "R") word.now }
+// What has two sizes.
+#[derive(Clone, Copy)]
+enum TwoSided {
+    Rectangle,
+    Obround,
+}
+
+// Which of both an `AD` word with two sizes names.
+fn sided_in(word: &[u8]) -> TwoSided
+    ensures { result ≡ spec.sided_in word.now }
 {
-    is_word(before_byte(name_text(word), b','), b"R")
+    if is_word(before_byte(name_text(word), b','), b"R") {
+        TwoSided::Rectangle
+    } else {
+        TwoSided::Obround
+    }
 }
 
 fn parameters(word: &[u8]) -> &[u8]
@@ -125,19 +136,18 @@ fn odd(word: &[u8], text: &[u8], unit: Unit) -> Result<OddForm, ApertureFault>
         return narrow(OddForm::Circle(size(text, unit)?));
     }
     let sizes = sizes(text, unit)?;
-    narrow(sided(is_rectangle(word), sizes.x, sizes.y))
+    narrow(sided(sided_in(word), sizes.x, sizes.y))
 }
 
-fn sided(square: bool, x: u64, y: u64) -> OddForm
+fn sided(kind: TwoSided, x: u64, y: u64) -> OddForm
     requires x { IsSize x }
     requires y { IsSize y }
-    ensures value { result ≡ spec.sided square x y }
+    ensures value { result ≡ spec.sided kind x y }
     ensures sizes { AreSizes result }
 {
-    if square {
-        OddForm::Rectangle(x, y)
-    } else {
-        OddForm::Obround(x, y)
+    match kind {
+        TwoSided::Rectangle => OddForm::Rectangle(x, y),
+        TwoSided::Obround => OddForm::Obround(x, y),
     }
 }
 
@@ -198,9 +208,10 @@ fn with_hole(form: OddForm, hole: u64) -> Result<RealAperture, ApertureFault>
     }
 }
 
-#[tactic(auto, unfolding(crate::specs::Apertures::ring_at))]
-fn ring(text: &[u8], unit: Unit) -> Result<RealAperture, ApertureFault>
-    ensures value { result ≡ spec.ring_at text.now unit }
+// A circle with a hole.
+#[tactic(auto, unfolding(crate::specs::Apertures::holed_circle_at))]
+fn holed_circle(text: &[u8], unit: Unit) -> Result<RealAperture, ApertureFault>
+    ensures value { result ≡ spec.holed_circle_at text.now unit }
     ensures lawful { IfOk result IsLawful }
 {
     last_behind(text, b'X')?;
@@ -208,31 +219,32 @@ fn ring(text: &[u8], unit: Unit) -> Result<RealAperture, ApertureFault>
     with_hole(OddForm::Circle(sizes.x), sizes.y)
 }
 
-#[tactic(auto, unfolding(crate::specs::Apertures::frame_at))]
-fn frame(square: bool, text: &[u8], unit: Unit) -> Result<RealAperture, ApertureFault>
-    ensures value { result ≡ spec.frame_at square text.now unit }
+// A rectangle or an obround with a hole.
+#[tactic(auto, unfolding(crate::specs::Apertures::holed_sided_at))]
+fn holed_sided(kind: TwoSided, text: &[u8], unit: Unit) -> Result<RealAperture, ApertureFault>
+    ensures value { result ≡ spec.holed_sided_at kind text.now unit }
     ensures lawful { IfOk result IsLawful }
 {
     let rest = after_byte(text, b'X');
     last_behind(rest, b'X')?;
     let x = size(before_byte(text, b'X'), unit)?;
-    frame_behind(square, x, rest, unit)
+    holed_sided_behind(kind, x, rest, unit)
 }
 
-// A rectangle or an obround by its first size, and what stands behind that.
-#[tactic(auto, unfolding(crate::specs::Apertures::frame_behind))]
-fn frame_behind(
-    square: bool,
+// The same by its first size, and what stands behind that.
+#[tactic(auto, unfolding(crate::specs::Apertures::holed_sided_behind))]
+fn holed_sided_behind(
+    kind: TwoSided,
     x: u64,
     text: &[u8],
     unit: Unit,
 ) -> Result<RealAperture, ApertureFault>
     requires x { IsSize x }
-    ensures value { result ≡ spec.frame_behind square x text.now unit }
+    ensures value { result ≡ spec.holed_sided_behind kind x text.now unit }
     ensures lawful { IfOk result IsLawful }
 {
     let sizes = sizes(text, unit)?;
-    with_hole(sided(square, x, sizes.x), sizes.y)
+    with_hole(sided(kind, x, sizes.x), sizes.y)
 }
 
 #[tactic(auto, unfolding(crate::specs::Apertures::holed_by))]
@@ -241,18 +253,18 @@ fn holed(word: &[u8], text: &[u8], unit: Unit) -> Result<RealAperture, ApertureF
     ensures lawful { IfOk result IsLawful }
 {
     if is_circle(word) {
-        ring(text, unit)
+        holed_circle(text, unit)
     } else {
-        frame(is_rectangle(word), text, unit)
+        holed_sided(sided_in(word), text, unit)
     }
 }
 
 /// Reads an `AD` word of real copper: as `read_aperture`, but circles, rectangles and obrounds may have a round hole as last parameter
 /// (Gerber Layer Format Specification, 4.4.2 to 4.4.4 and 4.4.6), and sizes may be odd. It takes no memory.
 ///
-/// Where `read_aperture` says `Hole` or `OffGrid`, each size is judged anew in turn: `BadText`; `OffGrid` for no whole number of u;
-/// `OutOfRange` unless over 0 and at most 1 m. Then comes `OutOfRange` for a hole, or the lesser size of what is round, over 50 mm, and
-/// `Hole` for a further parameter, or unless the hole is less than both sizes.
+/// Where `read_aperture` says `Hole` or `OffGrid`, a further parameter is `Hole`, and each size is judged anew in turn: `BadText`;
+/// `OffGrid` for no whole number of u; `OutOfRange` unless over 0 and at most 1 m. Then comes `OutOfRange` for a hole, or the lesser
+/// size of what is round, over 50 mm, and `Hole` unless the hole is less than both sizes.
 pub fn read_real_aperture(word: &[u8], unit: Unit) -> Result<(u32, RealAperture), ApertureFault>
     ensures value { result ≡ spec.real_aperture_at word.now unit }
     ensures lawful { IfOk result (λ read. IsLawful read.1) }

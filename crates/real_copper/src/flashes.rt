@@ -210,7 +210,7 @@ fn exact_flash(alloc: Global, aperture: Aperture, at: Spot) -> Result<Option<Anc
 
 /// What an aperture flashes at a spot within 1 m of 0; `None` for a circle of diameter 0.
 ///
-/// `OutOfRange` comes exactly where an end, a corner, a middle or the spot right of a hole at its border is over 1 m from 0 in x or y.
+/// `OutOfRange` comes exactly where an end, a corner, a middle or the spot at which a ring is begun is over 1 m from 0 in x or y.
 pub fn flash(
     alloc: Global,
     aperture: RealAperture,

@@ -598,6 +598,17 @@ class Taken(made.Case):
         ("a word of its own", ["G02*", "X1000000Y0D02*", "X-1000000Y0I-1000000J0D01*"], [A, B], "agrees"),
         ("whole turns", ["X1000000Y0D02*", "G03X1000000Y0I-1000000J0D01*", "G02I-1000000J0D01*"], [A, B], "agrees"),
         (
+            "regions of one arc and of two",
+            [
+                "G36*",
+                *("X2000000Y0D02*", "G03I-2000000J0D01*"),
+                *("X7000000Y0D02*", "G03X5000000Y0I-1000000J0D01*", "X7000000Y0I1000000J0D01*"),
+                *("G01*", "G37*"),
+            ],
+            [A, B, record("C", "J3.1", 5.5, 0), record("C", "J3.2", 6.5, 0)],
+            "agrees",
+        ),
+        (
             "a quarter",
             [
                 "G74*",

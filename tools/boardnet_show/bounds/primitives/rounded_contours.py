@@ -84,15 +84,15 @@ class Walked:
 
 @lru_cache(1000)
 def rounded_contour(contour: Sequence[Any], cuts: bool, is_coarse: bool) -> Rounded:
-    """What lies within and round a contour with arcs. `between` reads one of at least three parts whose arcs are told; it wants one area
-    within that is clear of its edges, or none."""
+    """What lies within and round a contour with arcs. `between` reads one whose arcs are told, of three parts or more
+    or with an arc; it wants one area within that is clear of its edges, or none."""
     it = Walked(contour)
     corners = it.spots[:-1]
     if it.spots[0] != it.spots[-1]:
         return Rounded((), it.spots, it.wide, False)
     if len(corners) < 3:
         return Rounded((), (), it.wide)
-    is_read = it.is_told and len(contour) > 3
+    is_read = it.is_told and (len(contour) > 3 or any(len(part) == 4 for part in it.parts))
     if is_read and is_coarse:
         found = it.is_kept and 2 * max(it.keeps) <= MOST_WIDE and inset(it.coarse[:-1], it.keeps)
         is_near = found and max(abs(v) for spot in [*found, *it.coarse] for v in spot) + max(it.keeps) < MOST_FAR
