@@ -77,10 +77,10 @@ class Lines:
     def of(self, net, layer):
         key = net, layer
         if key not in self.found:
-            radius, touching = self.board.shapes.radius, self.board.touching
+            reach, touching = self.board.shapes.reach, self.board.touching
             spans = touching.spans
             rows = [
-                (line, max(radius[piece], 0), piece)
+                (line, reach(piece), piece)
                 for piece in self.pieces[net]
                 if spans[piece][0] <= layer <= spans[piece][1]
                 for line in touching.lines(piece)

@@ -5,6 +5,8 @@ from boardnet_show.bounds.polarity.sweep import Sweep
 from boardnet_show.formats import ipc356
 from boardnet_show.geometry.capsule_polygons import polygon
 from boardnet_show.geometry.exact import Refused
+from boardnet_show.geometry.pieces import Area, Capsule
+from boardnet_show.geometry.segments import edges
 from boardnet_show.judging.two_bounds import own_commands
 
 from .board import Board
@@ -121,14 +123,15 @@ def beyond(low, high):
 
 def near(piece, other):
     """Whether a piece is another one but for less than a micrometre."""
-    if piece[0] != other[0] or len(piece[1]) != len(other[1]):
+    if isinstance(piece, Capsule) and isinstance(other, Capsule):
+        return piece[:2] == other[:2] and piece.radius - other.radius <= MICROMETRE
+    if not isinstance(piece, Area) or not isinstance(other, Area) or len(piece.corners) != len(other.corners):
         return False
-    if piece[0] == "area":
-        return all(abs(a - b) * 3 <= 2 * MICROMETRE for p, q in zip(piece[1], other[1]) for a, b in zip(p, q))
-    return piece[1:3] == other[1:3] and piece[3] - other[3] <= MICROMETRE
+    pairs = zip(piece.corners, other.corners)
+    return all(abs(a - b) * 3 <= 2 * MICROMETRE for p, q in pairs for a, b in zip(p, q))
 
 
 def grown(piece):
-    if piece[0] == "capsule":
-        return [(*piece[:3], piece[3] + MICROMETRE)]
-    return [piece] + [("capsule", a, b, MICROMETRE) for a, b in zip(piece[1], piece[1][1:] + piece[1][:1])]
+    if isinstance(piece, Capsule):
+        return [piece._replace(radius=piece.radius + MICROMETRE)]
+    return [piece] + [Capsule(a, b, MICROMETRE) for a, b in edges(piece.corners)]

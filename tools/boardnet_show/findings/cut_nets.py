@@ -79,7 +79,7 @@ class Cut:
         return [disc for disc in self.discs if top == bottom == disc[0][2]]
 
     def radius(self, piece: int) -> int:
-        return max(self.board.shapes.radius[piece], 0)
+        return int(self.board.shapes.reach(piece))
 
     def parts(self, piece: int) -> List[List[Line]]:
         """The lines of each node of a piece: one node, or of a stroke that could be either's what lies on both sides

@@ -85,9 +85,9 @@ class NearestCopper:
     def lines(self, net, layer):
         """The lines of a net on a layer, each with its radius, and the tree of their boxes."""
         if (net, layer) not in self.rows:
-            touching, sources, radius = self.board.touching, self.board.report.sources, self.board.shapes.radius
+            touching, sources, reach = self.board.touching, self.board.report.sources, self.board.shapes.reach
             lines = [
-                (line, max(radius[piece], 0))
+                (line, reach(piece))
                 for piece in self.board.pieces_of[net]
                 if sources[piece][3] <= layer <= sources[piece][4]
                 for line in touching.lines(piece)

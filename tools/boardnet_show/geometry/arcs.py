@@ -133,8 +133,8 @@ def chain_bounds(chain: Corners, most: int, radius: Number) -> Bounds:
     """Draws along a chain: half a pen less or more."""
     low, high = radius.__floor__() - most, radius.__ceil__() + most
     pairs = list(zip(chain, chain[1:]))
-    within: List[Capsule] = [("capsule", a, b, low) for a, b in pairs if low > 0]
-    return within, [("capsule", a, b, high) for a, b in pairs if radius > 0]
+    within: List[Capsule] = [Capsule(a, b, low) for a, b in pairs if low > 0]
+    return within, [Capsule(a, b, high) for a, b in pairs if radius > 0]
 
 
 def is_loop(centre: Spot, start: Spot, end: Spot) -> bool:

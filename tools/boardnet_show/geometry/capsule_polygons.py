@@ -6,7 +6,7 @@ from typing import List, Optional, Tuple
 
 from .arcs import arc_points, goes_once, rounded, scaled
 from .exact import Refused, ceil_root
-from .pieces import Corners, Piece, Spot
+from .pieces import Area, Capsule, Corners, Piece, Spot
 from .segments import cross, dot, edges
 
 SMALL = 8
@@ -14,9 +14,9 @@ SMALL = 8
 
 def polygon(piece: Piece, outer: bool) -> Optional[Corners]:
     """The corners of a piece, or of a polygon in it or round it; None where there is none in it."""
-    if piece[0] == "area":
-        return piece[1]
-    _, a, b, radius = piece
+    if isinstance(piece, Area):
+        return piece.corners
+    a, b, radius = piece
     if radius <= 0:
         return None
     found = round_it(b[0] - a[0], b[1] - a[1], radius) if outer else in_it(b[0] - a[0], b[1] - a[1], radius)
@@ -105,21 +105,35 @@ def ring(centre: Spot, chain: Corners, high: int) -> Optional[Tuple[List[Corners
     low = high - 1 - slack
     if low < 1000:
         return None
-    off = [(x - centre[0], y - centre[1]) for x, y in (out(p, low - 2) for p in fine)]
-    sides = [
-        [(p[0] + s * x, p[1] + s * y) if s > 0 or low < reach else centre for p, (x, y) in zip(links, off)]
-        for s in (1, -1)
-    ]
-    step = max(dot(p, q, q) for p, q in zip(fine, fine[1:]))
-    tops = [out(p, wide + step // (4 * wide) + 8) for p in fine]
-    feet = [out(p, slim - 2) if slim > 2 else centre for p in fine]
-    if any(dot((0, 0), p, p) > low * low for p in off) or any(dot(centre, p, p) > slim * slim for p in feet):
+    inner = band_within(centre, fine, links, low, low < reach)
+    outer = band_round(centre, fine, wide, slim)
+    if not inner or not outer:
         return None
-    if not all(keeps_off(p, q, centre, wide) for p, q in zip(tops, tops[1:])):
-        return None
-    both = [[band(*its)] for its in (sides, (tops, feet))]
     within, outside = at_ends(chain, high - 1, high + 4 * (far - near) + 8)
-    return both[0] + within, both[1] + outside
+    return [inner] + within, [outer] + outside
+
+
+def band_within(centre: Spot, fine: Corners, links: Corners, low: int, is_open: bool) -> Optional[Corners]:
+    """What lies within `low` of the links of a chain, beside which a finer one goes; to the centre where it is not open.
+    None where a corner would be further off."""
+    off = [(x - centre[0], y - centre[1]) for x, y in (out_from(centre, p, low - 2) for p in fine)]
+    if any(dot((0, 0), p, p) > low * low for p in off):
+        return None
+    sides = [
+        [(p[0] + s * x, p[1] + s * y) if s > 0 or is_open else centre for p, (x, y) in zip(links, off)] for s in (1, -1)
+    ]
+    return band(*sides)
+
+
+def band_round(centre: Spot, fine: Corners, wide: int, slim: int) -> Optional[Corners]:
+    """What goes round all from `slim` to `wide` away from the centre; None where a corner or an edge would be within."""
+    step = max(dot(p, q, q) for p, q in zip(fine, fine[1:]))
+    tops = [out_from(centre, p, wide + step // (4 * wide) + 8) for p in fine]
+    feet = [out_from(centre, p, slim - 2) if slim > 2 else centre for p in fine]
+    if any(dot(centre, p, p) > slim * slim for p in feet):
+        return None
+    is_round = all(keeps_off(p, q, centre, wide) for p, q in zip(tops, tops[1:]))
+    return band(tops, feet) if is_round else None
 
 
 def out_from(centre: Spot, p: Spot, by: int) -> Spot:
@@ -136,6 +150,6 @@ def band(one: Corners, two: Corners) -> Corners:
 def at_ends(chain: Corners, inner: int, outer: int) -> Tuple[List[Corners], List[Corners]]:
     """(inner, outer): areas within and round discs about both ends of a chain."""
     ends = {chain[0], chain[-1]}
-    within = [polygon(("capsule", end, end, inner), False) for end in ends]
-    outside = [polygon(("capsule", end, end, outer), True) for end in ends]
+    within = [polygon(Capsule(end, end, inner), False) for end in ends]
+    outside = [polygon(Capsule(end, end, outer), True) for end in ends]
     return [found for found in within if found], [found for found in outside if found]

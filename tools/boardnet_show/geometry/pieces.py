@@ -1,6 +1,6 @@
 """Pieces of copper as values, of whole places in u: a capsule is all that is within a radius of a line, or of a place;
 an area is a contour with its inside."""
-from typing import TYPE_CHECKING, Any, List, Literal, Tuple, Union
+from typing import TYPE_CHECKING, Any, List, NamedTuple, Tuple, Union
 
 if TYPE_CHECKING:  # loading it takes longer than a small board has
     from fractions import Fraction
@@ -8,8 +8,22 @@ if TYPE_CHECKING:  # loading it takes longer than a small board has
 Spot = Tuple[int, int]
 Line = Tuple[Spot, Spot]
 Corners = List[Spot]
-Capsule = Tuple[Literal["capsule"], Spot, Spot, int]
-Area = Tuple[Literal["area"], Corners]
+
+
+class Capsule(NamedTuple):
+    """All within a radius of a line, or of a place where both ends are one."""
+
+    start: Spot
+    end: Spot
+    radius: int
+
+
+class Area(NamedTuple):
+    """A contour with its inside."""
+
+    corners: Corners
+
+
 Piece = Union[Capsule, Area]
 # What stands for something on the lower side and on the upper one.
 Both = Tuple[List[Piece], List[Piece]]

@@ -2,13 +2,14 @@
 from array import array
 from typing import Iterable, List, Tuple
 
-from .pieces import Box, Piece, Spot
+from .pieces import Area, Box, Capsule, Piece, Spot
 
+# What stands in the column of radii for an area; `is_area` says so.
 AREA = -1
 
 
 class Shapes:
-    """Shapes in order, in u. A capsule has a radius and one or two places, an area the radius -1 and its corners."""
+    """Shapes in order, in u: capsules with one or two places, and areas with their corners."""
 
     def __init__(self) -> None:
         self.radius, self.start = array("q"), array("q", [0])
@@ -58,6 +59,10 @@ class Shapes:
     def is_area(self, piece: int) -> bool:
         return self.radius[piece] == AREA
 
+    def reach(self, piece: int) -> int:
+        """How far a piece reaches round its lines: a capsule's radius, and nothing round an area's edges."""
+        return max(self.radius[piece], 0)
+
     def places(self, piece: int) -> List[Spot]:
         first, end = self.start[piece], self.start[piece + 1]
         if end - first == 1:
@@ -65,9 +70,13 @@ class Shapes:
         return list(zip(self.x[first:end], self.y[first:end]))
 
     def solid(self, piece: int) -> Piece:
-        """A piece as bounds have it: ("capsule", a, b, r) or ("area", corners)."""
+        """A piece as bounds have it."""
+        return Area(self.places(piece)) if self.is_area(piece) else self.capsule(piece)
+
+    def capsule(self, piece: int) -> Capsule:
+        """One that is no area."""
         places = self.places(piece)
-        return ("area", places) if self.is_area(piece) else ("capsule", places[0], places[-1], self.radius[piece])
+        return Capsule(places[0], places[-1], self.radius[piece])
 
     def is_spot(self, piece: int) -> bool:
         """Whether it is a capsule of one place, as of a round pad."""

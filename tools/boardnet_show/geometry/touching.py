@@ -99,7 +99,7 @@ class Touching:
         box = common(self.box(p), self.box(q))
         if not box:
             return False
-        r = max(self.shapes.radius[p], 0) + max(self.shapes.radius[q], 0)
+        r = self.shapes.reach(p) + self.shapes.reach(q)
         if not self.shapes.is_area(p) and not self.shapes.is_area(q):
             return segments_within(*self.lines(p)[0], *self.lines(q)[0], r)
         wide = box[0] - r, box[1] - r, box[2] + r, box[3] + r
@@ -135,7 +135,7 @@ class Touching:
             for x, y in self.shapes.places(inner)[:60]:
                 if box[0] <= x <= box[2] and box[1] <= y <= box[3] and self.holds(outer, (x, y)):
                     return x, y
-        r = max(self.shapes.radius[p], 0), max(self.shapes.radius[q], 0)
+        r = self.shapes.reach(p), self.shapes.reach(q)
         squared, here, there = self.nearest_lines(p, q, box, sum(r))
         between = nearest_places.towards(here, there, squared**0.5 * r[0] / (sum(r) or 1), squared**0.5)
         return self.held((round(between[0]), round(between[1])), p, q)

@@ -10,7 +10,8 @@ from typing import Any, List, Sequence
 from boardnet_show.bounds.files.bounded_file import Copper
 from boardnet_show.formats.gerber_machine import FLASH
 from boardnet_show.formats.gerber_objects import Object
-from boardnet_show.geometry.pieces import Piece
+from boardnet_show.geometry.pieces import Area, Piece
+from boardnet_show.geometry.shapes import AREA
 
 
 class Blocks(Copper):
@@ -68,8 +69,8 @@ class Blocks(Copper):
 
 
 def form(pieces: Sequence[Piece]) -> List[Any]:
-    """Pieces beside the first place: ("area", corners) or ("capsule", a, b, r)."""
-    flat = [(-1, piece[1]) if piece[0] == "area" else (piece[3], dict.fromkeys(piece[1:3])) for piece in pieces]
+    """Pieces beside the first place, as `form_of` has them."""
+    flat = [(AREA, it.corners) if isinstance(it, Area) else (it.radius, dict.fromkeys(it[:2])) for it in pieces]
     x, y = next(iter(flat[0][1]))
     return [(radius, [(v - x, w - y) for v, w in places]) for radius, places in flat]
 

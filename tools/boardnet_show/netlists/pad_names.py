@@ -20,7 +20,7 @@ from boardnet_show.formats.gerber_lexer import OPERATION, Parts, Word
 from boardnet_show.formats.gerber_machine import CENTRE, CODES, DRAW, FLASH, Machine
 from boardnet_show.geometry.box_tree import Tree
 from boardnet_show.geometry.exact import Refused
-from boardnet_show.geometry.pieces import Both
+from boardnet_show.geometry.pieces import Area, Both
 from boardnet_show.intake.package import Package
 from boardnet_show.judging import net_ties
 
@@ -234,7 +234,7 @@ class Objects(bounded_file.Copper):
     def contours_of(self) -> List[Both]:
         """Both sides of the contours of the region that ends."""
         made, self.regions = self.regions, []
-        areas = lambda runs: [("area", run[:-1]) for run in runs]
+        areas = lambda runs: [Area(run[:-1]) for run in runs]
         return [(areas(it.runs[0]), areas(it.runs[1]) + it.grown) for it in made]
 
 

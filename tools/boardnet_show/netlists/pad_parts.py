@@ -4,7 +4,7 @@ from typing import List, Sequence, Tuple
 
 from boardnet_show.bounds.polarity.dark_and_clear import box, moved
 from boardnet_show.geometry.box_grid import meet
-from boardnet_show.geometry.pieces import Both, Piece, Spot
+from boardnet_show.geometry.pieces import Area, Both, Piece, Spot
 from boardnet_show.geometry.segments import edges, segments_within
 
 from .pad_places import holds
@@ -14,7 +14,7 @@ MOST = 200  # pieces that are looked at one by one
 
 def lines(piece: Piece) -> Tuple[List[Tuple[Spot, Spot]], int]:
     """The lines of a piece, and how far it reaches round them."""
-    return (edges(piece[1]), 0) if piece[0] == "area" else ([piece[1:3]], piece[3])
+    return (edges(piece.corners), 0) if isinstance(piece, Area) else ([piece[:2]], piece.radius)
 
 
 def touch(p: Piece, q: Piece) -> bool:
@@ -55,10 +55,8 @@ def parts_beside(lower, upper):
 
 def frozen(pieces, x, y):
     """Pieces beside a place, as a key."""
-    return tuple(
-        (kind, *(tuple(it) if isinstance(it, list) else it for it in rest))
-        for kind, *rest in (moved(piece, -x, -y) for piece in pieces)
-    )
+    its = (moved(piece, -x, -y) for piece in pieces)
+    return tuple(Area(tuple(it.corners)) if isinstance(it, Area) else it for it in its)
 
 
 def parts(both: Both) -> List[Tuple[List[Piece], bool]]:

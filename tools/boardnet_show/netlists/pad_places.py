@@ -12,7 +12,7 @@ from typing import Iterator, List, NamedTuple, Optional, Sequence, Tuple
 from boardnet_show.bounds.polarity.dark_and_clear import box
 from boardnet_show.formats.units import CODES
 from boardnet_show.geometry.capsule_polygons import polygon
-from boardnet_show.geometry.pieces import Piece, Spot
+from boardnet_show.geometry.pieces import Area, Capsule, Piece, Spot
 from boardnet_show.geometry.segments import edges, odd_inside, point_within
 
 MOST = 999_999  # six digits
@@ -21,8 +21,7 @@ FEW = 8  # of as many places that will do the nearest is taken
 
 
 class Pad(NamedTuple):
-    """Copper with a place where a point is wanted. Pieces are ("capsule", a, b, r) or ("area", corners), whole
-    numbers of u; what lies in one of `gone` is not taken, as where copper is erased again."""
+    """Copper with a place where a point is wanted; what lies in one of `gone` is not taken, as where copper is erased again."""
 
     middle: tuple
     pieces: list
@@ -39,9 +38,9 @@ class Place(NamedTuple):
 
 def holds(piece: Piece, spot: Spot) -> bool:
     """Whether a piece has a place; its border is part of it."""
-    if piece[0] == "capsule":
-        return point_within(spot, *piece[1:])
-    return odd_inside(piece[1], spot) or any(point_within(spot, a, b, 0) for a, b in edges(piece[1]))
+    if isinstance(piece, Capsule):
+        return point_within(spot, *piece)
+    return odd_inside(piece.corners, spot) or any(point_within(spot, a, b, 0) for a, b in edges(piece.corners))
 
 
 def is_copper(pad: Pad, spot: Spot) -> bool:
@@ -60,11 +59,11 @@ def apart(at: Spot, spot: Spot, unit: int) -> int:
 
 def middles(piece: Piece) -> List[Spot]:
     """Places that a piece is likely to have round them."""
-    if piece[0] == "capsule":
-        (x1, y1), (x2, y2) = piece[1:3]
+    if isinstance(piece, Capsule):
+        (x1, y1), (x2, y2) = piece.start, piece.end
         return [
             (x1 + (x2 - x1) * k // ALONG, y1 + (y2 - y1) * k // ALONG)
-            for k in (4, 0, 8, 2, 6, 1, 3, 5, 7)[: 9 if piece[1] != piece[2] else 1]
+            for k in (4, 0, 8, 2, 6, 1, 3, 5, 7)[: 9 if piece.start != piece.end else 1]
         ]
     left, low, right, high = box(piece)
     return [((left + right) // 2, (low + high) // 2)]
@@ -92,7 +91,7 @@ def within(piece: Piece, unit: int) -> Iterator[Spot]:
     """Places of the grid that may lie in a piece."""
     for spot in middles(piece):
         yield from around(spot, unit)
-    corners = piece[1] if piece[0] == "area" else polygon(piece, False)
+    corners = piece.corners if isinstance(piece, Area) else polygon(piece, False)
     for row in rows(piece, unit) if corners else ():
         for first, last in across(corners, row * unit)[:ROWS]:
             for k in (4, 2, 6, 1, 7):

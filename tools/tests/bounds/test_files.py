@@ -329,7 +329,7 @@ class Files(unittest.TestCase):
             "%FSLAX24Y24*%\n%MOIN*%\n%AMA*21,1,.1,.1,0,0,30*%\n%ADD10A*%\n%SRX2Y1I.5J0*%\nD10*\nX10000Y0D03*\n%SR*%\nM02*"
         )
         self.assertIn("%SRX2Y1I12.7000000J0.0000000*%", copper.sides[0].lines)
-        area = pieces_of(copper.sides[1])[0][1]
+        area = pieces_of(copper.sides[1])[0].corners
         self.assertTrue(all(abs(x - 254000000) < 20000000 and abs(y) < 20000000 for x, y in area))
 
     def test_mirrored_circles(self):

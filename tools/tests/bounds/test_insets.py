@@ -24,8 +24,8 @@ def stretches(contour, pieces):
                 chain.append(walk[at])
             links, draws = draws[: len(chain) - 1], draws[len(chain) - 1 :]
             chain = chain if part[2] else chain[::-1]
-            (radius,) = {draw[3] for draw in links}
-            assert [draw[1:3] for draw in links] == list(zip(chain, chain[1:]))
+            (radius,) = {draw.radius for draw in links}
+            assert [draw[:2] for draw in links] == list(zip(chain, chain[1:]))
         assert walk[at] == end
         told.append((start, part, chain, radius))
         start = end

@@ -12,6 +12,7 @@ from boardnet_show.bounds.polarity.dark_and_clear import Object, cut
 from boardnet_show.bounds.polarity.sweep import Sweep
 from boardnet_show.geometry.arcs import arc_chain
 from boardnet_show.geometry.capsule_polygons import in_it, ring, round_it
+from boardnet_show.geometry.pieces import Area
 from boardnet_show.geometry.segments import odd_inside, point_within
 from tests.fixtures import made
 from tests.fixtures.made import built, manifest, netlist, record
@@ -260,8 +261,8 @@ class Borders(unittest.TestCase):
     """What lies on the border of a clear area is not in LOWER and in UPPER, but where a later dark area has it."""
 
     def bounds(self, *items):
-        objects = [Object(dark, ([("area", corners)],) * 2, k) for k, (dark, corners) in enumerate(items)]
-        return [[corners for (_, corners), _ in pieces] for pieces in cut(objects, range(len(items)))[1:]]
+        objects = [Object(dark, ([Area(corners)],) * 2, k) for k, (dark, corners) in enumerate(items)]
+        return [[corners for (corners,), _ in pieces] for pieces in cut(objects, range(len(items)))[1:]]
 
     def test_places(self):
         ring = block_of(10, 10, 30, 30) + [(10, 10), (14, 14), (14, 26), (26, 26), (26, 14), (14, 14)]
@@ -435,10 +436,10 @@ class Borders(unittest.TestCase):
         for name, items, place, want in cases:
             for turn in (lambda x, y: (x, y), lambda x, y: (x, -y), lambda x, y: (y, x)):
                 objects = [
-                    Object(dark, ([("area", [turn(*p) for p in corners]) for corners in areas],) * 2, k)
+                    Object(dark, ([Area([turn(*p) for p in corners]) for corners in areas],) * 2, k)
                     for k, (dark, areas) in enumerate(items)
                 ]
-                found = [corners for (_, corners), _ in cut(objects, range(len(items)))[2]]
+                found = [corners for (corners,), _ in cut(objects, range(len(items)))[2]]
                 self.assertEqual(holds(found, turn(*place), 1), want, name)
 
     def test_contours_of_a_region(self):
@@ -546,7 +547,7 @@ class Rounds(unittest.TestCase):
                 p = tuple(round((v + r * f(t)) * FINE) + rng.randint(-4, 4) for v, f in zip(end, (math.cos, math.sin)))
                 inside = point_within(p, (0, 0), fine(d), r * FINE)
                 self.assertTrue(inside or not inner or not encloses(inner, p), (d, r, p))
-                self.assertTrue(not inside or has([("area", outer)], p), (d, r, p))
+                self.assertTrue(not inside or has([Area(outer)], p), (d, r, p))
             self.assertTrue(inner or r < 9, (d, r))
 
     def test_clear_arcs_over_dark_ones(self):
@@ -567,7 +568,7 @@ class Rounds(unittest.TestCase):
             radius, a, b = circle_ends(rng, 400)
             pen = rng.choice((rng.randrange(10**4, 2 * 10**6), rng.randrange(10**4, radius * 3 + 2 * 10**4)))
             chain, _ = arc_chain((0, 0), a, b)
-            low, high = ([("area", corners) for corners in its] for its in ring((0, 0), chain, pen))
+            low, high = ([Area(corners) for corners in its] for its in ring((0, 0), chain, pen))
             for _ in range(40):
                 t, side, end, off = (
                     rng.random() * 7,
@@ -780,12 +781,12 @@ class Board:
         if not pieces or rng.random() < 0.3:
             return tuple(rng.randint(-5 * self.size, 20 * self.size) * FINE for _ in "xy")
         piece, off = rng.choice(pieces), rng.choice((2, 12, 400, 20000))
-        if piece[0] == "area":
-            k, t = rng.randrange(len(piece[1])), rng.random()
-            at = [u + (v - u) * t for u, v in zip(piece[1][k - 1], piece[1][k])]
+        if isinstance(piece, Area):
+            k, t = rng.randrange(len(piece.corners)), rng.random()
+            at = [u + (v - u) * t for u, v in zip(piece.corners[k - 1], piece.corners[k])]
         else:
-            t, r = rng.random() * 7, piece[3]
-            at = [rng.choice(piece[1:3])[k] + r * f(t) for k, f in ((0, math.cos), (1, math.sin))]
+            t, r = rng.random() * 7, piece.radius
+            at = [rng.choice(piece[:2])[k] + r * f(t) for k, f in ((0, math.cos), (1, math.sin))]
         return tuple(round(v * FINE) + rng.randint(-off, off) for v in at)
 
 

@@ -28,6 +28,7 @@ from boardnet_show.bounds.primitives.arc_contours import contour_bound
 from boardnet_show.formats.macro_expressions import Expression
 from boardnet_show.geometry.arcs import Arc, arc_chain, chain_bounds, goes_once, is_meant
 from boardnet_show.geometry.exact import Refused, cos_sin, minus, plus, root, times
+from boardnet_show.geometry.pieces import Area, Capsule
 from boardnet_show.geometry.segments import cross, dot, point_within
 
 MANY = int(os.environ.get("TESTS", "1"))
@@ -66,7 +67,7 @@ class Numbers(unittest.TestCase):
         for text in ("", "1+", "1/0", "(1", "a", "1 2)"):
             self.assertRaises(Refused, lambda: Expression(text, {}).value())
         self.assertEqual(
-            macro_bounds(["$3=$1x2", "$4=$3/2", "1,1,$4,0,0"], [Q(2)], 10)[0], [("capsule", (0, 0), (0, 0), 10)]
+            macro_bounds(["$3=$1x2", "$4=$3/2", "1,1,$4,0,0"], [Q(2)], 10)[0], [Capsule((0, 0), (0, 0), 10)]
         )
 
 
@@ -338,7 +339,7 @@ class Regions(unittest.TestCase):
                 continue
             corners = contour_bound(parts, False)
             cases, lost = cases + 1, lost + (corners is None)
-            low, high = [("area", corners)] if corners else [], pieces_of(Copper(gerber_of(contour)).sides[1])
+            low, high = [Area(corners)] if corners else [], pieces_of(Copper(gerber_of(contour)).sides[1])
             round_it = contour_bound(parts, True)
             kept += round_it is not None
             for _ in range(80):
@@ -346,7 +347,7 @@ class Regions(unittest.TestCase):
                 truth = self.truth(p, contour)
                 self.assertFalse(truth is False and has(low, p), (contour, p))
                 self.assertFalse(truth is True and not has(high, p), (contour, p))
-                self.assertFalse(truth is True and round_it and not has([("area", round_it)], p), (contour, p))
+                self.assertFalse(truth is True and round_it and not has([Area(round_it)], p), (contour, p))
         self.assertLess(lost, cases // 10)
         self.assertGreater(kept, cases * 9 // 10)
 
@@ -367,7 +368,7 @@ class Regions(unittest.TestCase):
                     continue
                 around = [self.truth((p[0] + dx, p[1] + dy), contour) for dx in (-far, 0, far) for dy in (-far, 0, far)]
                 asked += all(around) or not any(around)
-                self.assertFalse(all(around) and not has([("area", corners)], p), (contour, p))
+                self.assertFalse(all(around) and not has([Area(corners)], p), (contour, p))
                 self.assertFalse(not any(around) and has(high, p), (contour, p))
         self.assertGreater(asked, 20 * MANY)
 
@@ -392,10 +393,8 @@ class Regions(unittest.TestCase):
                     if rng.random() < 0.7
                     else tuple(rng.randint(-8 * size, 8 * size) for _ in "xy")
                 )
-                self.assertFalse(
-                    corners and self.truth(p, contour) is False and has([("area", corners)], p), (contour, p)
-                )
-                self.assertFalse(outer and self.truth(p, contour) and not has([("area", outer)], p), (contour, p))
+                self.assertFalse(corners and self.truth(p, contour) is False and has([Area(corners)], p), (contour, p))
+                self.assertFalse(outer and self.truth(p, contour) and not has([Area(outer)], p), (contour, p))
         self.assertGreater(given, 12 * MANY)
 
     def test_cusps(self):
@@ -412,10 +411,8 @@ class Regions(unittest.TestCase):
             for _ in range(60 if corners or outer else 0):
                 t, off = rng.random() ** 3 / 2, rng.choice((2, 300, 5000))
                 p = tuple(round(x * FINE) + rng.randint(-off, off) for x in (r * math.cos(t), r * math.sin(t)))
-                self.assertFalse(
-                    corners and self.truth(p, contour) is False and has([("area", corners)], p), (contour, p)
-                )
-                self.assertFalse(outer and self.truth(p, contour) and not has([("area", outer)], p), (contour, p))
+                self.assertFalse(corners and self.truth(p, contour) is False and has([Area(corners)], p), (contour, p))
+                self.assertFalse(outer and self.truth(p, contour) and not has([Area(outer)], p), (contour, p))
         self.assertGreater(given, 12 * MANY)
 
 

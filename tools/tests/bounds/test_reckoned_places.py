@@ -9,6 +9,7 @@ from boardnet_show.base.statuses import fault_of
 from boardnet_show.bounds.files import bounded_file
 from boardnet_show.bounds.files.bounded_file import of_text
 from boardnet_show.geometry.exact import Refused
+from boardnet_show.geometry.pieces import Area, Capsule
 from boardnet_show.judging import two_bounds
 from tests.fixtures import made
 from tests.fixtures.made import built, manifest, netlist, record
@@ -308,14 +309,14 @@ class Places(unittest.TestCase):
                 low, high = both_of(*lines)
                 self.assertEqual([[p for p in inside if not has(pieces, at(*p))] for pieces in (low, high)], [[], []])
                 self.assertEqual([[p for p in outside if has(pieces, at(*p))] for pieces in (low, high)], [[], []])
-                self.assertTrue(all(len(piece[1]) > 2 for piece in low + high if piece[0] == "area"))
+                self.assertTrue(all(len(piece.corners) > 2 for piece in low + high if isinstance(piece, Area)))
 
     def test_unused(self):
         """What has no bounds and is not used is no matter."""
         low, high = both_of(
             "%ADD13C,1X.2X.2*%", "%AMA*6,0,0,1,.1,.1,2,.1,1,0*%", "%ADD14A*%", "%ADD12C,1*%", "D12*", "X0Y0D03*"
         )
-        self.assertEqual((low, high), ([("capsule", (0, 0), (0, 0), MM // 2)],) * 2)
+        self.assertEqual((low, high), ([Capsule((0, 0), (0, 0), MM // 2)],) * 2)
 
     def test_open_contours(self):
         """A contour with an arc that is not closed is passed on, so that `check` refuses it."""

@@ -67,12 +67,12 @@ class TestSlants(unittest.TestCase):
         for start, end, width in lines(3000):
             below, above = line_bounds(start, end, width)
             with self.subTest(start=start, end=end, width=width):
-                ((_, corners),) = above
+                ((corners,),) = above
                 self.assertTrue(is_above(start, end, width, corners + corners[:1]))
-                self.assertTrue(not below or is_below(start, end, width, below[0][1] + below[0][1][:1]))
+                self.assertTrue(not below or is_below(start, end, width, below[0].corners + below[0].corners[:1]))
                 if min(width, hypot(end[0] - start[0], end[1] - start[1])) > 8:
-                    (((_, inner),), off) = below, [
-                        abs(v - w) for p, q in zip(below[0][1], corners) for v, w in zip(p, q)
+                    (((inner,),), off) = below, [
+                        abs(v - w) for p, q in zip(below[0].corners, corners) for v, w in zip(p, q)
                     ]
                     self.assertEqual((len(inner), max(off) <= 8 or width > 10**6), (4, True))
 

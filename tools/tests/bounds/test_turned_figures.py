@@ -9,6 +9,7 @@ from boardnet_show.bounds.primitives.cones import cone_of
 from boardnet_show.bounds.primitives.regular_polygons import PARTS, regular_bounds
 from boardnet_show.bounds.primitives.turned_figures import turned_bounds
 from boardnet_show.geometry.exact import cos_sin, cross_least, exact, minus, plus, pointed, times, turned
+from boardnet_show.geometry.pieces import Area
 from boardnet_show.geometry.segments import cross, dot, edges
 from tests.fixtures.real_shapes import METRE, RIGHT, angles, are_placed, macro_bounds
 
@@ -122,10 +123,10 @@ class TestDegrees(unittest.TestCase):
             for corners in outlines(rng):
                 below, above = turned_bounds(tuple(corners), angle)
                 with self.subTest(angle=angle, corners=corners, at=at):
-                    ((_, outer),) = above
+                    ((outer,),) = above
                     self.assertTrue(is_above(ring(corners, at), first, last, at, at, ring(outer, at)))
                     self.assertTrue(
-                        not below or is_below(ring(corners, at), first, last, at, at, ring(below[0][1], at))
+                        not below or is_below(ring(corners, at), first, last, at, at, ring(below[0].corners, at))
                     )
                     self.assertTrue(below or is_small(corners))
 
@@ -142,13 +143,13 @@ class TestDegrees(unittest.TestCase):
                     self.assertTrue(
                         all(
                             cross_least(a, b, pointed(q)) >= 0
-                            for _, inner in below
+                            for (inner,) in below
                             for q in inner
                             for a, b in edges(real)
                         )
                     )
                     self.assertTrue(
-                        all(cross_least(pointed(a), pointed(b), q) >= 0 for a, b in edges(above[0][1]) for q in real)
+                        all(cross_least(pointed(a), pointed(b), q) >= 0 for a, b in edges(above[0].corners) for q in real)
                     )
 
     def test_they_are_close(self):
@@ -158,14 +159,14 @@ class TestDegrees(unittest.TestCase):
             c, s = (f(math.radians(angle / 10**7)) for f in (math.cos, math.sin))
             w, h, x, y = (rng.randrange(10, 3 * 10**7) for _ in range(4))
             corners = [(x, y), (x + w, y), (x + w, y + h), (x, y + h)]
-            for ((_, found),) in turned_bounds(tuple(corners), angle):
+            for ((found,),) in turned_bounds(tuple(corners), angle):
                 off = max(math.hypot(p * c - q * s - u, p * s + q * c - v) for (p, q), (u, v) in zip(corners, found))
                 self.assertLess(off, 5, (angle, corners, found))
 
     def test_one_u_more_is_refused(self):
         """A square of 2 mm, turned by 45 degrees: an edge that is 3 u further in above, or further out below."""
         square, (first, last) = [(-MM, -MM), (MM, -MM), (MM, MM), (-MM, MM)], cone_of(RIGHT // 2)
-        ((_, inner),), ((_, outer),) = turned_bounds(tuple(square), RIGHT // 2)
+        ((inner,),), ((outer,),) = turned_bounds(tuple(square), RIGHT // 2)
         origin = (0, 0)
         for k in range(4):
             x, y = ((1, -1), (1, 1), (-1, 1), (-1, -1))[k]  # the way out of the edge from corner k on
@@ -197,7 +198,7 @@ class TestPolygons(unittest.TestCase):
                 100 * PARTS, rng.choice((2 * 10**3, 2 * 10**5, 2 * 10**7, 5 * 10**8)) * PARTS
             ), rng.choice((0, RIGHT // 4, rng.randrange(4 * RIGHT)))
             corners = regular(n, 0, 0, Q(d, PARTS), Q(angle, 10**7))
-            ([(_, inner)], [(_, outer)]) = regular_bounds(n, d, angle)
+            ([(inner,)], [(outer,)]) = regular_bounds(n, d, angle)
             with self.subTest(f"{n} {d} {angle}"):
                 self.assertTrue(all(cross_least(a, b, pointed(w)) >= 0 for a, b in edges(corners) for w in inner))
                 self.assertTrue(
@@ -217,7 +218,7 @@ class TestPolygons(unittest.TestCase):
             quarters, turn = divmod(angle, RIGHT)
             at = turned(tuple(map(exact, centre)), cos_sin(Q(turn, 10**7)))
             corners = [(plus(p, at[0]), plus(q, at[1])) for p, q in regular(n, 0, 0, Q(d, PARTS), Q(angle, 10**7))]
-            ([(_, inner)], [(_, outer)]) = regular_bounds(n, d, angle, centre, turn)
+            ([(inner,)], [(outer,)]) = regular_bounds(n, d, angle, centre, turn)
             with self.subTest(f"{n} {d} {angle} {centre}"):
                 self.assertTrue(all(cross_least(a, b, pointed(w)) >= 0 for a, b in edges(corners) for w in inner))
                 self.assertTrue(
@@ -312,7 +313,7 @@ class TestFigures(unittest.TestCase):
         corners = [(-MM, -MM // 2), (MM, -MM // 2), (MM, MM // 2), (-MM, MM // 2)]
         for quarters in range(-4, 9):
             low, high, lost = macro_bounds(ROT_RECT, [Q(2), Q(1), Q(90 * quarters)], MM)
-            self.assertEqual((low, high, lost), ([("area", corners)],) * 2 + (0,))
+            self.assertEqual((low, high, lost), ([Area(corners)],) * 2 + (0,))
             corners = [(-y, x) for x, y in corners]
 
     def test_whole_turns_are_made_first(self):

@@ -8,6 +8,7 @@ from boardnet_show.bounds.apertures.macros import rows
 from boardnet_show.bounds.primitives.cones import cone_of
 from boardnet_show.bounds.primitives.turned_outlines import outline_bounds, placed_outline
 from boardnet_show.geometry.exact import cos_sin, exact
+from boardnet_show.geometry.pieces import Area, Capsule
 from tests.fixtures.real_shapes import RIGHT, Real, angles, has, macro_bounds
 
 MM = 10**7
@@ -42,9 +43,9 @@ def reach(corners):
 def is_above(corners, angle, pieces):
     """The turned corners to the nearest spot, in order, and a draw along each edge. Where they come to is within the radius of the spots, at each
     place of the cone."""
-    (kind, spots), *draws = pieces
-    first, last = cone_of(angle)
-    places, (c, s) = [meet(first, first), meet(first, last), meet(last, last)], (
+    (first, *draws), spots = pieces, pieces[0].corners
+    low, high = cone_of(angle)
+    places, (c, s) = [meet(low, low), meet(low, high), meet(high, high)], (
         sum(its) / 2 for its in cos_sin(Q(angle, MM))
     )
     are_near = all(
@@ -54,11 +55,11 @@ def is_above(corners, angle, pieces):
     )
     stay = all(square(come(p, place), q) <= reach(corners) ** 2 for p, q in zip(corners, spots) for place in places)
     return (
-        kind == "area"
+        isinstance(first, Area)
         and len(spots) == len(corners)
         and are_near
         and stay
-        and draws == [("capsule", a, b, reach(corners)) for a, b in ways(spots)]
+        and draws == [Capsule(a, b, reach(corners)) for a, b in ways(spots)]
     )
 
 
@@ -158,7 +159,8 @@ class TestTurnedOutlines(unittest.TestCase):
                 with self.subTest(angle=angle, corners=corners):
                     self.assertTrue(is_above(corners, angle, above))
                     self.assertTrue(
-                        len(below) < 2 and all(is_below(above[0][1], reach(corners), points) for _, points in below)
+                        len(below) < 2
+                        and all(is_below(above[0].corners, reach(corners), points) for (points,) in below)
                     )
 
     def test_something_lies_below(self):
@@ -198,7 +200,7 @@ class TestTurnedOutlines(unittest.TestCase):
             ]
             (u, v), (p, q) = cone_of(angle)
             for corner in corners:
-                ((_, (spot, *_)), *_) = outline_bounds(
+                (((spot, *_),), *_) = outline_bounds(
                     (corner, (corner[0] + 1, corner[1]), (corner[0], corner[1] + 1)), angle
                 )[1]
                 for i, j in ((1, 0), (0, 1), (1, 1), (rng.randrange(99), rng.randrange(1, 99))):
@@ -211,12 +213,12 @@ class TestTurnedOutlines(unittest.TestCase):
         """A draw that is wider, a spot that is further off, an area that comes to a draw or lies elsewhere."""
         corners, angle = ((0, 0), (2 * MM, 0), (2 * MM, 2 * MM), (MM, MM), (0, 2 * MM)), RIGHT // 2
         below, above = outline_bounds(corners, angle)
-        (_, spots), (_, points) = above[0], below[0]
+        (spots,), (points,) = above[0], below[0]
         self.assertTrue(is_above(corners, angle, above) and is_below(spots, 4, points))
         self.assertFalse(
             is_above(corners, angle, [*above[:-1], (*above[-1][:3], 5)]) or is_above(corners, angle, above[:-1])
         )
-        self.assertFalse(is_above(corners, angle, [("area", [(1, 0), *spots[1:]]), *above[1:]]))
+        self.assertFalse(is_above(corners, angle, [Area([(1, 0), *spots[1:]]), *above[1:]]))
         self.assertFalse(
             is_below(spots, 4, spots)
             or is_below(spots, 6 + 2, points)
@@ -266,7 +268,7 @@ class TestRows(unittest.TestCase):
         low, high, lost = macro_bounds(["1,1,1,5,5", f"4,1,5,{dart},$1", "21,1,1,2,0,0,$1"], [Q(30)], MM)
         self.assertEqual(([len(low), len(high)], lost), ([3, 8], 0))
         self.assertEqual(([low[1]], high[1:7]), outline_bounds(tuple((x * MM, y * MM) for x, y in self.DART), 30 * MM))
-        self.assertEqual([piece[0] for piece in high], ["capsule", "area", *["capsule"] * 5, "area"])
+        self.assertEqual([type(piece) for piece in high], [Capsule, Area, *[Capsule] * 5, Area])
 
     def test_whole_turns_are_made_first(self):
         corners = [(exact(x * MM), exact(y * MM)) for x, y in self.DART]

@@ -101,10 +101,10 @@ def arcs(count):
 
 def chain_of(draws):
     """The spots and the radius of draws that each begin where the one before ended."""
-    (radius,) = {draw[3] for draw in draws}
-    if any(one[2] != other[1] for one, other in zip(draws, draws[1:])):
+    (radius,) = {draw.radius for draw in draws}
+    if any(one.end != other.start for one, other in zip(draws, draws[1:])):
         raise AssertionError("no chain")
-    return [draws[0][1], *(draw[2] for draw in draws)], radius
+    return [draws[0].start, *(draw.end for draw in draws)], radius
 
 
 class TestArcChains(unittest.TestCase):
@@ -117,7 +117,7 @@ class TestArcChains(unittest.TestCase):
             with self.subTest(centre=centre, start=start, end=end, half=half):
                 self.assertTrue(not below or is_below(centre, start, end, 2 * half, *chain_of(below)))
                 self.assertTrue(is_above(centre, start, end, 2 * half, *chain_of(above)))
-                self.assertEqual(bool(below), half > above[0][3] - half and not is_loop(centre, start, end))
+                self.assertEqual(bool(below), half > above[0].radius - half and not is_loop(centre, start, end))
 
     def test_ends_that_are_unlike_have_few_chords(self):
         """Where draws are millimetres wide, since nobody knows where the arc is, short chords would be thousands of edges that cross."""

@@ -4,6 +4,7 @@ import os
 import unittest
 
 from boardnet_show.formats import ipc356 as read
+from boardnet_show.geometry.pieces import Area, Capsule
 from boardnet_show.netlists import pad_names, pad_places, pin_names
 from tests.fixtures import made
 from tests.fixtures.made import draw, drill, flash, gerber, label, manifest, netlist, record, region
@@ -485,30 +486,30 @@ class Pairs(unittest.TestCase):
 
 
 class Places(unittest.TestCase):
-    DISC = ("capsule", (0, 0), (0, 0), 5_000_000)
+    DISC = Capsule((0, 0), (0, 0), 5_000_000)
 
     def test_units(self):
         """The unit in which most pads have their middle: whole thousandths of an inch, whole micrometres."""
         for middle, unit, at in (((254_000, 0), 25_400, (10, 0)), ((250_000, 30_000), 10_000, (25, 3))):
-            pad = pad_places.Pad(middle, [("capsule", middle, middle, 5_000_000)])
+            pad = pad_places.Pad(middle, [Capsule(middle, middle, 5_000_000)])
             self.assertEqual(pad_places.settled([pad]), (unit, [pad_places.Place(*at, 0)]))
 
     def test_in_copper(self):
         """Each place is copper of its pad, by whole numbers: off the grid, with a hole, small, beside its middle, slanted."""
-        square = ("area", [(-19_000, -19_000), (19_000, -19_000), (19_000, 19_000), (-19_000, 19_000)])
-        far = ("area", [(5_003, 0), (999_003, 994_000), (999_003, 1_006_000), (5_003, 12_000)])
+        square = Area([(-19_000, -19_000), (19_000, -19_000), (19_000, 19_000), (-19_000, 19_000)])
+        far = Area([(5_003, 0), (999_003, 994_000), (999_003, 1_006_000), (5_003, 12_000)])
         rows = [
             [self.DISC],
-            [("capsule", (12_345, 6_789), (12_345, 6_789), 8_000)],
+            [Capsule((12_345, 6_789), (12_345, 6_789), 8_000)],
             [square],
             [far],
-            [("capsule", (3, 3), (700_003, 100_003), 6_000)],
+            [Capsule((3, 3), (700_003, 100_003), 6_000)],
         ]
         for pieces in rows:
             for gone in (
                 [],
-                [("capsule", (0, 0), (0, 0), 3_000)],
-                [("capsule", (0, 0), (0, 0), 3_000_000)] if pieces == [self.DISC] else [],
+                [Capsule((0, 0), (0, 0), 3_000)],
+                [Capsule((0, 0), (0, 0), 3_000_000)] if pieces == [self.DISC] else [],
             ):
                 pad = pad_places.Pad((0, 0), pieces, gone)
                 place = pad_places.grid_place(pad, 10_000)
@@ -522,8 +523,8 @@ class Places(unittest.TestCase):
 
     def test_nowhere(self):
         """A pad smaller than the grid and off it, and one farther than six digits."""
-        small = pad_places.Pad((5_000, 5_000), [("capsule", (5_000, 5_000), (5_000, 5_000), 100)])
-        far = pad_places.Pad((10_010_000_000, 0), [("capsule", (10_010_000_000, 0), (10_010_000_000, 0), 1_000_000)])
+        small = pad_places.Pad((5_000, 5_000), [Capsule((5_000, 5_000), (5_000, 5_000), 100)])
+        far = pad_places.Pad((10_010_000_000, 0), [Capsule((10_010_000_000, 0), (10_010_000_000, 0), 1_000_000)])
         self.assertEqual(
             (pad_places.grid_place(small, 10_000), pad_places.grid_place(far, 10_000), pad_places.settled([far])[0]),
             (None, None, 25_400),

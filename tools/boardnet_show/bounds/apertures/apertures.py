@@ -10,7 +10,7 @@ from boardnet_show.bounds.primitives.slots import slot_draws
 from boardnet_show.formats.gerber_machine import MOST_WIDE
 from boardnet_show.geometry.arcs import Arc, arc_chain, chain_bounds, draw_bounds, leaves
 from boardnet_show.geometry.exact import Refused, exact
-from boardnet_show.geometry.pieces import Corners, Piece, Spot
+from boardnet_show.geometry.pieces import Area, Capsule, Corners, Piece, Spot
 from boardnet_show.geometry.segments import cross
 
 from .macros import figures, rectangle, regular, rows, without
@@ -127,11 +127,11 @@ def solid(name: str, sizes: Sequence[int]) -> List[Piece]:
         return []
     x, y = sizes[0] // 2, sizes[-1] // 2
     if name == CIRCLE:
-        return [("capsule", (0, 0), (0, 0), x)]
+        return [Capsule((0, 0), (0, 0), x)]
     if name == RECTANGLE:
-        return [("area", [(-x, -y), (x, -y), (x, y), (-x, y)])]
+        return [Area([(-x, -y), (x, -y), (x, y), (-x, y)])]
     a = (x - y, 0) if x > y else (0, y - x)
-    return [("capsule", (-a[0], -a[1]), a, min(x, y))]
+    return [Capsule((-a[0], -a[1]), a, min(x, y))]
 
 
 def obround(w, h):
@@ -165,9 +165,9 @@ def frame_shape(w: int, h: int, hole: int) -> Shape:
     around = rounded_contour(
         ((r, 0), ((0, 0), (r, 0), False), (x, 0), (x, y), (-x, y), (-x, -y), (x, -y), (x, 0), (r, 0)), False, True
     )
-    upper = [("area", around.outer), *around.wide]
+    upper = [Area(around.outer), *around.wide]
     shape, corners = framed(holed(RECTANGLE, (w, h), hole), upper), clear_frame(x, y, r)
-    shape.smaller = framed([("area", corners)] if corners else [], upper)
+    shape.smaller = framed([Area(corners)] if corners else [], upper)
     shape.plainer = Shape(shape.both[0], solid(RECTANGLE, (w, h)), shape.lost)
     return shape
 
@@ -246,7 +246,7 @@ def holed(name, sizes, hole):
     x, y = sizes[0] // 2, sizes[1] // 2
     if not arc.lies_outside() or max(max(abs(p), abs(q)) for p, q in arc.outer) >= min(x, y):
         return []
-    return [("area", [(-x, -y), (x, -y), (x, 0)] + arc.outer[::-1] + [(x, 0), (x, y), (-x, y)])]
+    return [Area([(-x, -y), (x, -y), (x, 0)] + arc.outer[::-1] + [(x, 0), (x, y), (-x, y)])]
 
 
 def polygon(values: Sequence[Q], scale: int) -> Aperture:
@@ -275,12 +275,12 @@ def swept(piece: Piece, a: Spot, b: Spot) -> List[Piece]:
     """What a convex piece covers along a line: the hull of the piece at both ends, or for a round one the hull of its middle line
     with draws round it."""
     moved = lambda spots: [(x + p, y + q) for p, q in (a, b) for x, y in spots]
-    if piece[0] == "area":
-        return [("area", hull(moved(piece[1])))]
-    spots, radius = hull(moved(piece[1:3])), piece[3]
+    if isinstance(piece, Area):
+        return [Area(hull(moved(piece.corners)))]
+    spots, radius = hull(moved(piece[:2])), piece.radius
     if len(spots) < 3:
-        return [("capsule", spots[0], spots[-1], radius)]
-    return [("area", spots)] + [("capsule", p, q, radius) for p, q in zip(spots, spots[1:] + spots[:1])]
+        return [Capsule(spots[0], spots[-1], radius)]
+    return [Area(spots)] + [Capsule(p, q, radius) for p, q in zip(spots, spots[1:] + spots[:1])]
 
 
 def hull(spots: Corners) -> List[Spot]:

@@ -6,7 +6,7 @@ from typing import Any, List, NamedTuple, Optional, Sequence
 from boardnet_show.bounds.polarity.dark_and_clear import Object
 from boardnet_show.bounds.primitives.real_polygons import polygon_bounds
 from boardnet_show.geometry.exact import cos_sin, exact, minus, times, turned, whole_near
-from boardnet_show.geometry.pieces import Piece
+from boardnet_show.geometry.pieces import Area, Capsule, Piece
 from boardnet_show.geometry.segments import cross, edges
 
 from .apertures import Block, Pen, Shape
@@ -68,7 +68,7 @@ def abut(pieces: Sequence[Piece]) -> bool:
     """Whether a level or upright edge of an area lies along one of another that is on its other side."""
     lines = {}
     for k, piece in enumerate(pieces):
-        sides = edges(piece[1]) if piece[0] == "area" else []
+        sides = edges(piece.corners) if isinstance(piece, Area) else []
         is_left = sum(cross((0, 0), a, b) for a, b in sides) > 0
         for a, b in sides:
             for axis in (0, 1):
@@ -85,7 +85,7 @@ def abut(pieces: Sequence[Piece]) -> bool:
 
 
 def frozen(piece: Piece) -> Any:
-    return ("area", tuple(piece[1])) if piece[0] == "area" else piece
+    return Area(tuple(piece.corners)) if isinstance(piece, Area) else piece
 
 
 @lru_cache(4096)
@@ -97,10 +97,10 @@ def changed(change: Change, piece: Any, side: int) -> List[Piece]:
         x, y = (minus(exact(v)) if is_mirrored else exact(v) for v, is_mirrored in zip(spot, change.mirror))
         return tuple(times(v, exact(change.size)) for v in turned((x, y), turn))
 
-    if piece[0] == "area":
-        points = [at(spot) for spot in piece[1]]
+    if isinstance(piece, Area):
+        points = [at(spot) for spot in piece.corners]
         return polygon_bounds(points if change.mirror[0] == change.mirror[1] else points[::-1])[side]
-    (a, off_a), (b, off_b) = whole_near(at(piece[1])), whole_near(at(piece[2]))
-    off, radius = max(off_a, off_b), piece[3] * change.size
+    (a, off_a), (b, off_b) = whole_near(at(piece.start)), whole_near(at(piece.end))
+    off, radius = max(off_a, off_b), piece.radius * change.size
     radius = (radius + off).__ceil__() if side else (radius - off).__floor__()
-    return [("capsule", a, b, radius)] if radius > 0 else []
+    return [Capsule(a, b, radius)] if radius > 0 else []

@@ -2,7 +2,7 @@
 from typing import Dict, Iterable, List, Optional, Sequence
 from boardnet_show.formats.gerber_machine import DRAW, FLASH, MOVE
 from boardnet_show.formats.units import decimal_millimetres
-from boardnet_show.geometry.pieces import Piece, Spot
+from boardnet_show.geometry.pieces import Area, Piece, Spot
 
 OWN = 900_000_000  # numbers of apertures that are made here
 
@@ -68,10 +68,10 @@ class Side:
         """Pieces about a place."""
         x, y = by
         for piece in pieces:
-            if piece[0] == "area":
-                self.region([(u + x, v + y) for u, v in piece[1]] if any(by) else piece[1], source)
+            if isinstance(piece, Area):
+                self.region([(u + x, v + y) for u, v in piece.corners] if any(by) else piece.corners, source)
             else:
-                _, a, b, radius = piece
+                a, b, radius = piece
                 self.capsule((a[0] + x, a[1] + y), (b[0] + x, b[1] + y), radius, source)
 
     def file_text(self) -> str:

@@ -9,7 +9,7 @@ from boardnet_show.formats.gerber_machine import ANTICLOCKWISE, DRAW, FLASH, MOV
 from boardnet_show.geometry.arcs import chain_bounds, draw_bounds
 from boardnet_show.geometry.capsule_polygons import ring
 from boardnet_show.geometry.exact import Refused
-from boardnet_show.geometry.pieces import Both, Spot
+from boardnet_show.geometry.pieces import Both, Capsule, Spot
 from boardnet_show.geometry.segments import cross, dot
 
 
@@ -128,9 +128,7 @@ class Operations:
             )
             return
         drawn = (
-            [[("capsule", start, self.spot, size[0] // 2)] if size[0] else [] for size in made.sizes]
-            if made
-            else ([], [])
+            [[Capsule(start, self.spot, size[0] // 2)] if size[0] else [] for size in made.sizes] if made else ([], [])
         )
         self.replaced += bool(made) and not (made.is_even or made.is_read)
         if self.stays(*drawn):

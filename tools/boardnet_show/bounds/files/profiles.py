@@ -10,7 +10,7 @@ from boardnet_show.bounds.polarity.negative import around
 from boardnet_show.bounds.primitives.rounded_contours import Walked, rounded_contour
 from boardnet_show.formats.gerber_machine import ANTICLOCKWISE
 from boardnet_show.geometry.exact import Refused
-from boardnet_show.geometry.pieces import Box, Piece, Spot
+from boardnet_show.geometry.pieces import Area, Box, Piece, Spot
 from boardnet_show.geometry.segments import Segments, edges, odd_inside, segments_within
 
 from .bounded_file import Copper
@@ -130,8 +130,8 @@ class Loop:
         walked, made = Walked(contour), rounded_contour(contour, True, False)
         if not walked.is_told or len(walked.spots) < 4:
             raise Refused("an arc or a loop of nearly no length")
-        self.corners, self.off = walked.spots[:-1], max((piece[3] for piece in walked.wide), default=0)
-        self.both = [("area", [*corners]) for corners in made.inner], [("area", [*made.outer]), *made.wide]
+        self.corners, self.off = walked.spots[:-1], max((piece.radius for piece in walked.wide), default=0)
+        self.both = [Area([*corners]) for corners in made.inner], [Area([*made.outer]), *made.wide]
         self.box = around(map(box, self.both[1]))
 
     def size(self) -> int:
@@ -166,7 +166,7 @@ def innermost(inside: Sequence[Tuple[Loop, Object]], pieces: Sequence[Piece]) ->
     """Whether the smallest contour that has pieces in its box and the first place of one within is dark; they may lie
     in none."""
     left, low, right, high = around(map(box, pieces))
-    first = pieces[0][1][0] if pieces[0][0] == "area" else pieces[0][1]
+    first = pieces[0].corners[0] if isinstance(pieces[0], Area) else pieces[0].start
     for loop, it in reversed(inside):
         if (
             loop.box[0] <= left

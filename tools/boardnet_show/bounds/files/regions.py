@@ -4,7 +4,7 @@ from typing import List, NamedTuple, Optional, Sequence, Tuple, Union
 from boardnet_show.bounds.primitives.rounded_contours import rounded_contour
 from boardnet_show.formats.gerber_machine import ANTICLOCKWISE, MOST_EDGES
 from boardnet_show.geometry.exact import Refused
-from boardnet_show.geometry.pieces import Spot
+from boardnet_show.geometry.pieces import Area, Capsule, Spot
 
 from .bound_writer import edges_of
 
@@ -57,9 +57,7 @@ class Regions:
         if is_bent:
             rows = [it.row for it in made]
             self.stands(None if None in rows else rows)
-        both = (
-            [[("area", run[:-1]) for it in made for run in it.runs[k]] for k in (0, 1)] if self.is_noted() else [(), ()]
-        )
+        both = [[Area(run[:-1]) for it in made for run in it.runs[k]] for k in (0, 1)] if self.is_noted() else [(), ()]
         grown = [piece for it in made for piece in it.grown]
         if self.stays(both[0], [*both[1], *grown], None, len(made) < 2):
             for its in [[it] for it in made] if is_bent else [made]:
@@ -103,7 +101,7 @@ class Regions:
             self.is_coarse,
         )
         self.is_bent = self.is_bent or made.is_read
-        grown = [("capsule", by(a), by(b), most) for _, a, b, most in made.wide]
+        grown = [Capsule(by(a), by(b), most) for a, b, most in made.wide]
         if not made.is_closed:
             run = [*map(by, made.outer)]
             return Contour(([run], [run]), grown, True, None)

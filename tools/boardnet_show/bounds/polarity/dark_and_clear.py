@@ -10,7 +10,7 @@ from typing import Any, Collection, List, NamedTuple, Sequence, Set, Tuple
 
 from boardnet_show.geometry.box_grid import meet
 from boardnet_show.geometry.capsule_polygons import polygon
-from boardnet_show.geometry.pieces import Both, Box, Piece, Spot
+from boardnet_show.geometry.pieces import Area, Both, Box, Capsule, Piece, Spot
 from boardnet_show.geometry.segments import box_of_line, edges
 
 from .sweep import Sweep
@@ -37,17 +37,17 @@ class Object(NamedTuple):
 
 
 def moved(piece: Piece, x: int, y: int) -> Any:
-    if piece[0] == "area":
-        return "area", [(p + x, q + y) for p, q in piece[1]]
-    kind, a, b, radius = piece
-    return kind, (a[0] + x, a[1] + y), (b[0] + x, b[1] + y), radius
+    if isinstance(piece, Area):
+        return Area([(p + x, q + y) for p, q in piece.corners])
+    a, b, radius = piece
+    return Capsule((a[0] + x, a[1] + y), (b[0] + x, b[1] + y), radius)
 
 
 def box(piece: Piece) -> Box:
-    if piece[0] == "area":
-        xs, ys = zip(*piece[1])
+    if isinstance(piece, Area):
+        xs, ys = zip(*piece.corners)
         return min(xs), min(ys), max(xs), max(ys)
-    return box_of_line(*piece[1:])
+    return box_of_line(*piece)
 
 
 class Boxes:
@@ -110,7 +110,7 @@ def cut(objects, also=(), sides=(0, 1)):
         joined = [it[4] if objects[it[4]].joins else (it[4], k) for k, it in enumerate(items)]
         made = Sweep([it[:2] for it in items], bool(side), [k for k, it in enumerate(items) if it[3]], joined).out
         last = max((k for k, it in enumerate(items) if it[0]), default=0)
-        written += [(("area", corners), items[k if k >= 0 else last][2]) for corners, k in made]
+        written += [(Area(corners), items[k if k >= 0 else last][2]) for corners, k in made]
         out.append(written)
     return (tags, *out)
 
@@ -135,8 +135,8 @@ def corners_of(item, side):
     for piece in item.both[1 if outer else 0]:
         corners = polygon(piece, outer)
         if corners:
-            yield corners, not outer and piece[0] != "area"
-            if outer and not item.dark and piece[0] == "area":
+            yield corners, not outer and not isinstance(piece, Area)
+            if outer and not item.dark and isinstance(piece, Area):
                 yield from ((cap, False) for cap in caps(corners))
 
 

@@ -6,7 +6,7 @@ from typing import Iterable, List, Sequence
 
 from boardnet_show.formats import gerber_attributes
 from boardnet_show.geometry.exact import Refused
-from boardnet_show.geometry.pieces import Box, Spot
+from boardnet_show.geometry.pieces import Area, Box, Spot
 
 from .dark_and_clear import Object, box, whole
 
@@ -40,7 +40,7 @@ def exchanged(objects, outline, tag):
     inside, turned = [it._replace(tag=tag) for it in outline.objects], [it._replace(dark=not it.dark) for it in objects]
     seen = around([outline.box, *(box(piece) for it in objects for piece in it.both[1])])
     if not inside:
-        return [Object(True, ([], [("area", beyond(seen))]), tag)] + [
+        return [Object(True, ([], [Area(beyond(seen))]), tag)] + [
             it._replace(both=([], it.both[1]), areas=None) if it.dark else it for it in turned
         ]
     return inside + turned + (outside(inside, seen, tag) if any(it.dark for it in turned) else [])
@@ -54,7 +54,7 @@ def beyond(seen: Box) -> List[Spot]:
 
 def outside(inside: Sequence[Object], seen: Box, tag: int) -> List[Object]:
     """What is clear beyond the board's inside."""
-    all_but = [Object(True, ([("area", rectangle(seen, FRAME))],) * 2, tag)] + [
+    all_but = [Object(True, ([Area(rectangle(seen, FRAME))],) * 2, tag)] + [
         it._replace(dark=not it.dark) for it in inside
     ]
     return [Object(False, whole(all_but), tag)]

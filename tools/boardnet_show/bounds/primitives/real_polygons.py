@@ -1,21 +1,21 @@
 """Discs and polygons with real corners between pieces with whole ones.
 
-Of each shape two lists of pieces: those that lie in it, and those that hold it. A piece is ("capsule", a, b, r) or ("area",
-corners), all whole; an area is filled by even-odd. Corners are places of intervals.
+Of each shape two lists of pieces: those that lie in it, and those that hold it. An area is filled by even-odd. Corners are places of
+intervals.
 """
 from fractions import Fraction as Q
 from math import isqrt
 from typing import List, Sequence
 
 from boardnet_show.geometry.exact import cross_least, pointed, whole_near
-from boardnet_show.geometry.pieces import Both, Corners, Piece, Point, Spot
+from boardnet_show.geometry.pieces import Area, Both, Capsule, Corners, Piece, Point, Spot
 from boardnet_show.geometry.segments import Segments, cross, dot, edges, odd_inside, segments_within
 
 
 def disc_bounds(centre: Point, radius: Q) -> Both:
     spot, off = whole_near(centre)
     low, high = (radius - off).__floor__(), (radius + off).__ceil__()
-    return [("capsule", spot, spot, low)] if low > 0 else [], [("capsule", spot, spot, high)] if radius > 0 else []
+    return [Capsule(spot, spot, low)] if low > 0 else [], [Capsule(spot, spot, high)] if radius > 0 else []
 
 
 def whole_corners(points):
@@ -49,7 +49,7 @@ def convex_bounds(points: Sequence[Point]) -> Both:
     its corners lie in convex order, and all real corners lie left of all its edges."""
     spots, whole = whole_corners(points)
     if whole:
-        return [("area", spots)], [("area", spots)]
+        return [Area(spots)], [Area(spots)]
     return convex_lower(points, spots), convex_upper(points, spots)
 
 
@@ -57,7 +57,7 @@ def convex_lower(points, spots):
     for by in (1, 2, 4):
         inner = mitred(spots, by)
         if all(cross_least(a, b, pointed(w)) >= 0 for a, b in edges(points) for w in inner):
-            return [("area", inner)]
+            return [Area(inner)]
     return []
 
 
@@ -70,20 +70,20 @@ def convex_upper(points, spots):
             and len(set(outer)) == len(outer)
             and all(cross_least(pointed(a), pointed(b), v) >= 0 for a, b in edges(outer) for v in points)
         ):
-            return [("area", outer)]
+            return [Area(outer)]
     return polygon_upper(spots)
 
 
 def polygon_upper(spots: Corners) -> List[Piece]:
     """Each real corner lies within 1 u of its spot, so what lies in one area alone is within 1 u of an edge of the spots."""
-    return [("area", spots)] + [("capsule", a, b, 1) for a, b in edges(spots)]
+    return [Area(spots)] + [Capsule(a, b, 1) for a, b in edges(spots)]
 
 
 def polygon_bounds(points: Sequence[Point]) -> Both:
     """For any outline. LOWER wants a simple outline: a closed chain that meets no real edge, with one corner inside."""
     spots, whole = whole_corners(points)
     if whole:
-        return [("area", spots)], [("area", spots)]
+        return [Area(spots)], [Area(spots)]
     if sum(cross((0, 0), a, b) for a, b in edges(spots)) < 0:
         points, spots = points[::-1], spots[::-1]
     if (
@@ -115,7 +115,7 @@ def polygon_lower(spots):
             segments_within(a, b, *grid.segments[k], 1) for a, b in edges(inner) for k in grid.near(a, b, 2)
         )
         if clear and odd_inside(spots, inner[0]):
-            return [("area", inner)]
+            return [Area(inner)]
     return []
 
 

@@ -6,7 +6,7 @@ from fractions import Fraction as Q
 from functools import lru_cache, partial
 from typing import List, Optional, Tuple
 
-from boardnet_show.geometry.pieces import Both, Corners, Figure, Point, Spot
+from boardnet_show.geometry.pieces import Area, Both, Corners, Figure, Point, Spot
 from boardnet_show.geometry.segments import edges
 
 from .cones import DEGREE, RADIUS, RIGHT_ANGLE, cone_of, way_of
@@ -104,7 +104,7 @@ def regular_bounds(n: int, diameter: int, angle: int, centre: Spot = ORIGIN, tur
         bounds_about_0(n, diameter, angle, far) if not turn or stays_near(centre, *cone_of(turn), spot, far) else None
     )
     return found and tuple(
-        [(kind, [(p + spot[0], q + spot[1]) for p, q in corners]) for kind, corners in side] for side in found
+        [Area([(p + spot[0], q + spot[1]) for p, q in corners]) for (corners,) in side] for side in found
     )
 
 

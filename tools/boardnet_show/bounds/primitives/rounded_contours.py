@@ -12,7 +12,7 @@ from boardnet_show.formats.gerber_machine import MOST_WIDE
 from boardnet_show.geometry.arcs import Arc, arc_chain, distances, goes_once, is_loop, leaves, need_meant
 from boardnet_show.geometry.capsule_polygons import polygon
 from boardnet_show.geometry.exact import Refused
-from boardnet_show.geometry.pieces import Spot
+from boardnet_show.geometry.pieces import Capsule, Spot
 from boardnet_show.geometry.segments import cross, dot
 
 from .arc_contours import contour_bound
@@ -62,7 +62,7 @@ class Walked:
             self.is_told and not is_loop(centre, first, last) and goes_once(lambda p, q: cross(centre, p, q), chain)
         )
         self.is_exact = self.is_exact and self.is_told and dot(centre, start, start) == dot(centre, end, end)
-        self.wide += [("capsule", a, b, most) for a, b in zip(chain, chain[1:])]
+        self.wide += [Capsule(a, b, most) for a, b in zip(chain, chain[1:])]
         chain, turns = (its if anticlockwise else its[::-1] for its in (chain, eighth_chain(centre, first, last)))
         self.outline += chain[1:]
         self.spots += [spot for k, spot in enumerate(chain[1:]) if spot != chain[k]]

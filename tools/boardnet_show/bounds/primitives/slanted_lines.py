@@ -9,7 +9,7 @@ from typing import List
 from boardnet_show.geometry.arcs import rounded
 from boardnet_show.geometry.capsule_polygons import is_convex
 from boardnet_show.geometry.exact import Refused
-from boardnet_show.geometry.pieces import Both, Corners, Spot
+from boardnet_show.geometry.pieces import Area, Both, Corners, Spot
 from boardnet_show.geometry.segments import cross, dot, edges
 
 FURTHER = (0, 1, 2, 4, 8, 16, 32)  # u that corners are tried further in or out
@@ -52,8 +52,8 @@ def lies_round(start: Spot, end: Spot, width: int, found: Corners) -> bool:
 def line_bounds(start: Spot, end: Spot, width: int) -> Both:
     """The pieces within and round the rectangle between two spots, half a whole width to each side."""
     tried = [(corners(start, end, width, -by), corners(start, end, width, by)) for by in FURTHER]
-    inner = [("area", found) for found, _ in tried if lies_within(start, end, width, found)][:1]
-    outer = [("area", found) for _, found in tried if lies_round(start, end, width, found)][:1]
+    inner = [Area(found) for found, _ in tried if lies_within(start, end, width, found)][:1]
+    outer = [Area(found) for _, found in tried if lies_round(start, end, width, found)][:1]
     if not outer:
         raise Refused("no contour round a line")
     return inner, outer

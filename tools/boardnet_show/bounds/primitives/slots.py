@@ -16,7 +16,7 @@ def slot_draws(width: int, height: int, hole: Q) -> List[Capsule]:
     pen = (round_ - clear) // 2
     if pen < 1:
         return []
-    found = [("capsule", (-far, y), (far, y), pen) for y in (pen - round_, round_ - pen)]
+    found = [Capsule((-far, y), (far, y), pen) for y in (pen - round_, round_ - pen)]
     for centre, start, end in (
         ((0, 0), (clear + pen, 0), (clear + pen, 0)),
         ((far, 0), (far, pen - round_), (far, round_ - pen)),
@@ -24,7 +24,7 @@ def slot_draws(width: int, height: int, hole: Q) -> List[Capsule]:
     ):
         found += draw_bounds(centre, start, end, Q(pen))[1][0]
     found += strips(far, round_, clear, max(pen, min(clear // 8, (far + round_ - clear) // 4)))
-    return found if width >= height else [("capsule", (-a[1], a[0]), (-b[1], b[0]), r) for _, a, b, r in found]
+    return found if width >= height else [Capsule((-a[1], a[0]), (-b[1], b[0]), r) for a, b, r in found]
 
 
 def strips(far: int, round_: int, clear: int, pen: int) -> List[Capsule]:
@@ -34,5 +34,5 @@ def strips(far: int, round_: int, clear: int, pen: int) -> List[Capsule]:
         y = max(min(k * pen, round_ - pen), pen - round_)
         first, last = ceil_root(max((clear + pen) ** 2 - y * y, 0)), far + isqrt((round_ - pen) ** 2 - y * y)
         if first <= last:
-            found += [("capsule", (first, y), (last, y), pen), ("capsule", (-last, y), (-first, y), pen)]
+            found += [Capsule((first, y), (last, y), pen), Capsule((-last, y), (-first, y), pen)]
     return found

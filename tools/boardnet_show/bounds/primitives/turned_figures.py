@@ -9,7 +9,7 @@ from typing import Callable, List, Optional, Sequence, Tuple
 
 from boardnet_show.geometry.capsule_polygons import is_convex
 from boardnet_show.geometry.exact import cos_sin, turned
-from boardnet_show.geometry.pieces import Both, Corners, Figure, Point, Spot
+from boardnet_show.geometry.pieces import Area, Both, Capsule, Corners, Figure, Point, Spot
 from boardnet_show.geometry.segments import cross, dot, edges
 
 from .cones import DEGREE, RIGHT_ANGLE, cone_of, way_of
@@ -115,7 +115,7 @@ def turned_disc_bounds(centre: Spot, radius: int, angle: int) -> Optional[Both]:
     cone, (x, y, n) = cone_of(angle), meet(way_of(angle), way_of(angle))
     spot = round(Q(centre[0] * x - centre[1] * y, n)), round(Q(centre[0] * y + centre[1] * x, n))
     by = next((far for far in range(1, FARTHEST) if stays_near(centre, *cone, spot, far)), None)
-    disc = lambda r: [("capsule", spot, spot, r)]
+    disc = lambda r: [Capsule(spot, spot, r)]
     return (disc(radius - by) if by < radius else [], disc(radius + by)) if by else None
 
 
@@ -149,7 +149,7 @@ def first_of(
         (found for found in (list(near_by(-by)) for by in FURTHER) if area(found) > 0 and is_within(found)), None
     )
     outer = next((found for found in (list(near_by(by)) for by in FURTHER) if is_round(found)), None)
-    return ([("area", inner)] if inner else [], [("area", outer)]) if outer else None
+    return ([Area(inner)] if inner else [], [Area(outer)]) if outer else None
 
 
 @lru_cache(4096)

@@ -9,7 +9,7 @@ from functools import lru_cache
 from typing import List, Optional, Sequence, Tuple
 
 from boardnet_show.geometry.arcs import rounded
-from boardnet_show.geometry.pieces import Both, Corners, Figure, Point, Spot
+from boardnet_show.geometry.pieces import Area, Both, Capsule, Corners, Figure, Point, Spot
 from boardnet_show.geometry.segments import Segments, edges
 
 from .cones import DEGREE, ONE, PI
@@ -68,4 +68,4 @@ def outline_bounds(corners: Corners, angle: int) -> Both:
     spots, far = turned_spots(corners, angle), radius_of(corners)
     around = once(spots)
     found = inset(around, [far] * len(around))
-    return [("area", found)] if found else [], [("area", spots), *(("capsule", a, b, far) for a, b in edges(spots))]
+    return [Area(found)] if found else [], [Area(spots), *(Capsule(a, b, far) for a, b in edges(spots))]

@@ -72,14 +72,14 @@ def plated(board: Board) -> Iterator[Hole]:
     """The plated holes that the report has."""
     for piece, (file, line, *_) in enumerate(board.report.sources):
         if board.manifest.is_drilled(file) and board.shapes:
-            _, a, b, radius = board.shapes.solid(piece)
+            a, b, radius = board.shapes.capsule(piece)
             yield Hole(a, b, 2 * radius, True, Source(board.manifest.files[file], line, is_line=True))
 
 
 def unplated(judged: Judged) -> Iterator[Hole]:
     for its in unplated_holes.of_package(judged.package):
         for piece, line in enumerate(its.lines):
-            _, a, b, radius = its.shapes.solid(piece)
+            a, b, radius = its.shapes.capsule(piece)
             yield Hole(a, b, 2 * radius, False, Source(its.file, line, is_line=True))
 
 

@@ -10,6 +10,7 @@ from typing import Dict, Iterable, Iterator, List, Sequence, Set, Tuple
 from boardnet_show.bounds.polarity import dark_and_clear
 from boardnet_show.bounds.polarity.dark_and_clear import Object
 from boardnet_show.geometry.exact import Refused
+from boardnet_show.geometry.pieces import Area, Capsule, Piece
 from boardnet_show.geometry.segments import Bands, place_beside
 from boardnet_show.geometry.shapes import Shapes
 
@@ -44,12 +45,12 @@ def is_covered(edge: Edge, insides: Sequence[Bands]) -> bool:
     return all(any(its.odd(*place_beside(list(edge), side)) for its in insides) for side in (False, True))
 
 
-def rims(lines: Iterable[Edge], half: int) -> List[tuple]:
+def rims(lines: Iterable[Edge], half: int) -> List[Piece]:
     """What lies within half a width of edges."""
-    return [("capsule", a, b, half) for a, b in lines]
+    return [Capsule(a, b, half) for a, b in lines]
 
 
-def lower_areas(shapes: Shapes, pieces: Sequence[int], half: int) -> Iterator[tuple]:
+def lower_areas(shapes: Shapes, pieces: Sequence[int], half: int) -> Iterator[Piece]:
     """What is left for certain of a layer's areas."""
     areas = {piece: shapes.places(piece) for piece in pieces}
     if sum(map(len, areas.values())) > MOST_EDGES:
@@ -59,25 +60,25 @@ def lower_areas(shapes: Shapes, pieces: Sequence[int], half: int) -> Iterator[tu
         borders = [bordering(areas[piece], shared) for piece in its]
         near = rims([edge for lines in borders for edge in lines if edge], half)
         around = [corners for lines in borders for corners in round_edges(lines, half)]
-        dark = [("area", areas[piece]) for piece in its]
+        dark = [Area(areas[piece]) for piece in its]
         objects = [Object(True, (dark, dark), 0), Object(False, (near, near), 0, ([], around))]
         yield from (piece for piece, _ in dark_and_clear.cut(objects, sides=(0,))[1])
 
 
-def lower_layer(shapes: Shapes, pieces: Sequence[int], half: int) -> Iterator[tuple]:
+def lower_layer(shapes: Shapes, pieces: Sequence[int], half: int) -> Iterator[Piece]:
     """What is left for certain of a layer's pieces."""
     for piece in pieces:
         if not shapes.is_area(piece) and shapes.radius[piece] > half:
-            _, a, b, radius = shapes.solid(piece)
-            yield "capsule", a, b, radius - half
+            a, b, radius = shapes.capsule(piece)
+            yield Capsule(a, b, radius - half)
     yield from lower_areas(shapes, [piece for piece in pieces if shapes.is_area(piece)], half)
 
 
-def upper_layer(shapes: Shapes, pieces: Sequence[int], half: int) -> Iterator[tuple]:
+def upper_layer(shapes: Shapes, pieces: Sequence[int], half: int) -> Iterator[Piece]:
     """All that may be left of what some pieces of a layer make together."""
     darks = [Object(True, ([shapes.solid(piece)],) * 2, 0) for piece in pieces]
     together = dark_and_clear.cut(darks, {0}, (1,))[2]
-    lines = [edge for (_, corners), _ in together for edge in own_edges(corners)]
+    lines = [edge for area, _ in together for edge in own_edges(area.corners)]
     if len(lines) > MOST_EDGES:
         raise Refused(f"a net's copper on a layer has over {MOST_EDGES} edges")
     dark = [piece for piece, _ in together]

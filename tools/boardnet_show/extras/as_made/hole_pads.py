@@ -5,6 +5,7 @@ from boardnet_show.bounds.polarity import dark_and_clear
 from boardnet_show.bounds.polarity.dark_and_clear import Object
 from boardnet_show.findings.board import Board
 from boardnet_show.geometry.box_tree import Tree
+from boardnet_show.geometry.pieces import Capsule, Piece
 from boardnet_show.geometry.segments import point_within
 
 Spot = Tuple[int, int]
@@ -17,18 +18,18 @@ class Wide(NamedTuple):
     layer: int
 
 
-def is_round_about(solid: tuple, ends: Tuple[Spot, Spot], radius: int) -> bool:
+def is_round_about(solid: Piece, ends: Tuple[Spot, Spot], radius: int) -> bool:
     """Whether a piece has all of a barrel, where that is seen by its line alone."""
     return bool(
-        solid[0] == "capsule"
-        and solid[3] >= radius
-        and all(point_within(spot, solid[1], solid[2], solid[3] - radius) for spot in ends)
+        isinstance(solid, Capsule)
+        and solid.radius >= radius
+        and all(point_within(spot, solid.start, solid.end, solid.radius - radius) for spot in ends)
     )
 
 
-def is_larger(barrel: tuple, pads: List[tuple]) -> bool:
+def is_larger(barrel: Capsule, pads: List[Piece]) -> bool:
     """Whether a barrel has a place outside of some pieces, for certain."""
-    _, a, b, radius = barrel
+    a, b, radius = barrel
     if any(is_round_about(pad, (a, b), radius) for pad in pads):
         return False
     left = dark_and_clear.whole([Object(True, ([barrel],) * 2, 0), *(Object(False, ([pad],) * 2, 0) for pad in pads)])[
@@ -44,7 +45,7 @@ def larger_than_pads(board: Board) -> Iterator[Wide]:
     for piece, (file, _, _, top, bottom) in enumerate(sources):
         if not tree or not board.manifest.is_drilled(file):
             continue
-        barrel, near = shapes.solid(piece), tree.meeting(shapes.box(piece))
+        barrel, near = shapes.capsule(piece), tree.meeting(shapes.box(piece))
         for layer in range(top, bottom + 1):
             pads = [
                 its
@@ -53,7 +54,7 @@ def larger_than_pads(board: Board) -> Iterator[Wide]:
                 and sources[its][3] == layer
                 and board.touching.touch(piece, its)
             ]
-            if any(board.touching.holds(its, barrel[1]) for its in pads) and is_larger(
+            if any(board.touching.holds(its, barrel.start) for its in pads) and is_larger(
                 barrel, list(map(shapes.solid, pads))
             ):
                 yield Wide(piece, layer)

@@ -9,6 +9,7 @@ from boardnet_show.findings.board import Board
 from boardnet_show.findings.finding import CUT, OUTSIDE, Finding
 from boardnet_show.findings.notes import EdgeNotKnown, HarmlessHoles, HolesNotRead, LossNotKnown, MadeCounted
 from boardnet_show.geometry.exact import Refused
+from boardnet_show.geometry.pieces import Area
 from boardnet_show.geometry.segments import odd_inside
 from boardnet_show.intake.unplated_holes import UnplatedHoles
 from boardnet_show.judging.judged import Judged
@@ -44,7 +45,7 @@ def edge_of(texts: Sequence[str], board: Board) -> Edge:
 
 def points_outside(board: Board, edge: Removal) -> List[int]:
     """The test points that lie outside the edge, and not on it."""
-    areas = [piece[1] for piece in edge.clear.both[0] if piece[0] == "area"]
+    areas = [piece.corners for piece in edge.clear.both[0] if isinstance(piece, Area)]
     return [
         point
         for point in range(len(board.report.points))

@@ -12,6 +12,7 @@ from boardnet_show.bounds.polarity import dark_and_clear
 from boardnet_show.bounds.polarity.dark_and_clear import Object
 from boardnet_show.geometry.box_tree import Tree
 from boardnet_show.geometry.exact import Refused
+from boardnet_show.geometry.pieces import Area, Piece
 from boardnet_show.geometry.segments import Bands, box_of_line, edges
 from boardnet_show.geometry.shapes import Shapes
 from boardnet_show.geometry.touching import Touching
@@ -93,15 +94,15 @@ class Copper:
         return [Taken(layer, dict(pieces)) for layer, pieces in sorted(layers.items())]
 
 
-def add_pieces(shapes: Shapes, pieces: Iterable[tuple]) -> None:
+def add_pieces(shapes: Shapes, pieces: Iterable[Piece]) -> None:
     for piece in pieces:
-        if piece[0] == "area":
-            shapes.add_area(*map(list, zip(*piece[1])))
+        if isinstance(piece, Area):
+            shapes.add_area(*map(list, zip(*piece.corners)))
         else:
-            shapes.add(piece[3], [piece[1]] if piece[1] == piece[2] else [piece[1], piece[2]])
+            shapes.add(piece.radius, [piece.start] if piece.start == piece.end else [piece.start, piece.end])
 
 
-def file_text(pieces: Iterable[tuple]) -> str:
+def file_text(pieces: Iterable[Piece]) -> str:
     """A copper file of some pieces."""
     out = Side()
     out.pieces(pieces, (0, 0), 0)

@@ -15,6 +15,7 @@ from boardnet_show.findings.nearest_copper import Gap, NearestCopper
 from boardnet_show.findings.notes import NecksCounted, NotKnown
 from boardnet_show.formats.ipc356 import NO_NET
 from boardnet_show.geometry.exact import Refused
+from boardnet_show.geometry.pieces import Piece
 from boardnet_show.judging import board_copper
 from boardnet_show.judging.judged import Judged
 
@@ -50,7 +51,7 @@ def half_of(width: int) -> int:
     return max(width // 2 - SLACK, LEAST)
 
 
-def judged_by_layers(program: Any, copper: Copper, solids: Dict[int, List[tuple]]) -> Judged:
+def judged_by_layers(program: Any, copper: Copper, solids: Dict[int, List[Piece]]) -> Judged:
     """The board with other copper on some layers, judged."""
     package, names, files = copper.told.package, list(copper.told.package.manifest.copper), {}
     for layer, its in solids.items():
@@ -70,7 +71,7 @@ def lower(program: Any, copper: Copper, half: int) -> Judged:
 def upper(program: Any, copper: Copper, half: int, nets: Set[int]) -> Judged:
     """All that may be left of some nets of a board; the others stay as they are."""
     net_of = copper.told.report.net_of
-    solids: Dict[int, List[tuple]] = {}
+    solids: Dict[int, List[Piece]] = {}
     for layer, pieces in drawn_in.by_layers(copper.layers, range(len(copper.shapes))).items():
         its: Dict[int, List[int]] = {}
         for piece in pieces:

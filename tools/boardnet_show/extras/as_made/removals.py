@@ -7,6 +7,7 @@ from boardnet_show.base.facts import HoleAt
 from boardnet_show.bounds.files.profiles import Outline
 from boardnet_show.bounds.polarity import negative
 from boardnet_show.bounds.polarity.dark_and_clear import Object
+from boardnet_show.geometry.pieces import Capsule
 from boardnet_show.intake.unplated_holes import UnplatedHoles
 
 Spot = Tuple[int, int]
@@ -29,11 +30,11 @@ class Removal(NamedTuple):
 def of_holes(holes: UnplatedHoles) -> Iterator[Removal]:
     """Each hole as it takes copper away: half an odd diameter lies between two whole lengths, and capsules have half of it, rounded down."""
     for piece, line in enumerate(holes.lines):
-        _, a, b, radius = holes.shapes.solid(piece)
+        a, b, radius = holes.shapes.capsule(piece)
         x, y = ((p + q) // 2 for p, q in zip(a, b))
         hole = HoleAt(not holes.shapes.is_spot(piece), 2 * radius, (x, y), holes.file, line)
         left, low, right, high = holes.shapes.box(piece)
-        clear = Object(False, ([("capsule", a, b, radius)], [("capsule", a, b, radius + 1)]), 0)
+        clear = Object(False, ([Capsule(a, b, radius)], [Capsule(a, b, radius + 1)]), 0)
         yield Removal(hole, clear, (left - 1, low - 1, right + 1, high + 1))
 
 

@@ -6,6 +6,7 @@ from math import hypot
 from typing import Collection, Iterator, List, Optional, Tuple
 
 from boardnet_show.geometry.capsule_polygons import is_convex, keeps_off, polygon
+from boardnet_show.geometry.pieces import Capsule
 
 Spot = Tuple[int, int]
 Edge = Tuple[Spot, Spot]
@@ -70,4 +71,4 @@ def round_edges(lines: List[Optional[Edge]], half: int) -> Iterator[List[Spot]]:
         # Both sides of a line at which edges end are covered, or the edge has an area of its own.
         found = whole[k] if whole[k - 1] and whole[(k + 1) % len(lines)] else None
         if line:
-            yield found or polygon(("capsule", *line, half), True) or []
+            yield found or polygon(Capsule(*line, half), True) or []

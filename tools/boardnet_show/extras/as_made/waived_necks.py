@@ -11,6 +11,7 @@ from boardnet_show.findings.board import Board
 from boardnet_show.findings.finding import Finding
 from boardnet_show.findings.waivers import MOST_WITHIN, Place, Waiver
 from boardnet_show.geometry.exact import Refused
+from boardnet_show.geometry.pieces import Capsule, Piece
 from boardnet_show.judging.judged import Judged
 
 from . import drawn_in
@@ -30,9 +31,9 @@ class Necks:
     def __init__(self, program: Any, told: Judged, board: Board, width: int) -> None:
         self.program, self.board, self.width = program, board, width
         self.copper = Copper.of(program, bounds_of(told)[0])
-        self.drawn: Dict[Tuple[int, int], Dict[int, List[tuple]]] = {}
+        self.drawn: Dict[Tuple[int, int], Dict[int, List[Piece]]] = {}
 
-    def solids(self, net: int, width: int) -> Dict[int, List[tuple]]:
+    def solids(self, net: int, width: int) -> Dict[int, List[Piece]]:
         """What is left of a net on each layer."""
         if (net, width) not in self.drawn:
             its, net_of = self.copper, self.copper.told.report.net_of
@@ -46,7 +47,7 @@ class Necks:
     def judged(self, net: int, width: int, discs: Sequence[Disc] = ()) -> Judged:
         solids = {layer: list(its) for layer, its in self.solids(net, width).items()}
         for (x, y, layer), radius in discs:
-            solids.setdefault(layer, []).append(("capsule", (x, y), (x, y), radius))
+            solids.setdefault(layer, []).append(Capsule((x, y), (x, y), radius))
         return judged_by_layers(self.program, self.copper, solids)
 
     def is_joined(self, finding: Finding, width: int, discs: Sequence[Disc] = ()) -> bool:
@@ -89,7 +90,7 @@ class Necks:
         for piece, of in enumerate(its.told.report.net_of):
             layer, radius = its.layers[piece], its.shapes.radius[piece]
             if of == net and layer and 0 <= radius <= half_of(self.width):
-                _, (ax, ay), (bx, by), _ = its.shapes.solid(piece)
+                (ax, ay), (bx, by), _ = its.shapes.capsule(piece)
                 count = max(1, ceil(hypot(bx - ax, by - ay) / step))
                 found.update(
                     dict.fromkeys(
