@@ -14,7 +14,7 @@ def read(*names):
 class Readme(common.Case):
     def test_answer(self):
         """The lines of an example, as `show` prints them."""
-        quoted = re.search(r"(?m)^    opens_and_shorts: (?:.*\n    )+.*$", read("README.md"))[0]
+        quoted = re.search(r"(?m)^    FAIL opens_and_shorts: (?:.*\n    )+.*$", read("README.md"))[0]
         wanted = [line[4:] for line in quoted.splitlines()]
         self.example("opens_and_shorts", "opens_and_shorts")
         status, out, _ = self.run_words(

@@ -1,5 +1,6 @@
 """How a run ends: statuses of the program and those beside, and what stops a board."""
 import errno
+from typing import Sequence
 
 # Statuses of the program, and those beside: no package can be made of the files; the answer lies between two bounds;
 # nothing was
@@ -11,11 +12,11 @@ FULL = (errno.ENOSPC, errno.EDQUOT)
 
 
 class Stop(Exception):
-    """Why a board is not shown, and the status that says so."""
+    """Why a board is not shown, and the status that says so; `rows` are what is listed below it."""
 
-    def __init__(self, status: int, words: str) -> None:
-        super().__init__(words)
-        self.status = status
+    def __init__(self, status: int, words: str, rows: Sequence[str] = ()) -> None:
+        super().__init__("\n  ".join([words, *rows]))
+        self.status, self.words, self.rows = status, words, tuple(rows)
 
 
 class BadCopper(Exception):

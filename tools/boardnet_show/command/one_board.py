@@ -2,7 +2,6 @@
 import os
 
 from boardnet_show.base.statuses import FAULT, REFUSED, UNDECIDED, BadCopper, Stop, fault_of
-from boardnet_show.base.wording import spoken
 from boardnet_show.extras import requested
 from boardnet_show.findings.board import Board
 from boardnet_show.findings.explained import Explained, title_of
@@ -43,23 +42,11 @@ def labels_of(program, told):
     return {record - 1: own.names[name] for record, _, name, _ in own.points}
 
 
-def flattened_notes(flattened, outside):
-    """One note of all files that were flattened, and one of those that could not be, with the reason of the first."""
-    if len(flattened) == 1:
-        yield f"{flattened[0]} has macros and was flattened, which --keep keeps; commands are those of the file that came"
-    elif flattened:
-        yield f"{spoken(flattened)} have macros and were flattened, which --keep keeps; commands are those of the files that came"
-    for name in [*outside][:1]:
-        rest = [*outside][1:]
-        yield f"{name} could not be flattened: {outside[name]}" + (f"; nor could {spoken(rest)}" if rest else "")
-
-
 def package_notes(files):
-    """What was taken as what, where the manifest was made here, and what was flattened."""
+    """What was taken as what, where the manifest was made here."""
     notes = [f"taken as {word}" for word in files.guessed]
     if files.left_out:
         notes.append(f"left out, {len(files.left_out)} of the folder's files: " + "; ".join(files.left_out))
-    notes += flattened_notes(sorted(files.flattened), files.outside)
     passed_over = (
         netlist_files.note(files.manifest.netlist, mending.read(files, files.manifest.netlist))
         if files.manifest
@@ -244,12 +231,9 @@ def of_files(files, seen):
         is_by_own_names=bool(files.own) and seen.answer.status in own_names.ANSWERS,
         is_trial=building.is_trial(),
     )
-    notes = [f"mended: {it.words}" for it in files.mends]
-    if seen.declared or seen.waived or seen.stale:
-        from boardnet_show.output.sentences import declarations
-
-        notes = declarations.notes(seen) + notes
-    return seen._replace(answer=answer, mends=files.mends, notes=[*notes, *seen.notes])
+    return seen._replace(
+        answer=answer, mends=files.mends, flattened=sorted(files.flattened), unflattened=dict(files.outside)
+    )
 
 
 # ---- one board

@@ -4,6 +4,7 @@ from types import SimpleNamespace
 FLAGS = (
     "-q",
     "--all",
+    "--explain",
     "--labels",
     "--yes",
     "--no-drills",

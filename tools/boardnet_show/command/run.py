@@ -81,11 +81,12 @@ def printed(asked, all_shown):
 
         rows = [row for shown in all_shown for row in annotations.rows(shown)]
     elif asked.q:
-        rows = [row for shown in all_shown for row in text_lines.quiet(shown)] + total_of(all_shown)
+        rows = [row for shown in all_shown for row in text_lines.quiet(shown)]
+        rows += [text_lines.quiet_total(all_shown)] if len(all_shown) > 1 else []
     elif len(all_shown) > 1:
         rows = [text_lines.summary(shown) for shown in all_shown] + total_of(all_shown)
     else:
-        rows = text_lines.reader(all_shown[0], asked.all)
+        rows = text_lines.reader(all_shown[0], asked.all, asked.explain)
     return "".join(printable(row) + "\n" for row in rows)
 
 

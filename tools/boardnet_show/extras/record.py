@@ -15,7 +15,7 @@ from boardnet_show.base.wording import counted, spoken
 from boardnet_show.findings.besides import Requested, lacking, outcome
 from boardnet_show.formats import indented_json
 from boardnet_show.judging.program import TOOLS
-from boardnet_show.output.sentences import answers, declarations, hints
+from boardnet_show.output.sentences import answers, declarations, hints, made_first
 from boardnet_show.output.sentences import notes as sentences
 
 
@@ -32,6 +32,13 @@ COMPARED = (
     ("declared", "what is declared"),
     ("hints", "the hints"),
 )
+# What is said of a file of which a sum is another one.
+UNLIKE = {
+    "came": "is another file",
+    "judged": "was judged as another text",
+    "lower": "has another copy with the least copper",
+    "upper": "has another copy with the most copper",
+}
 
 
 def sum_of(data):
@@ -144,7 +151,7 @@ def of(program, told, seen, its):
         "ties": seen.ties.file_text().splitlines(),
         "declared": declarations.notes(seen),
         "hints": [hints.words(hint) for hint in seen.hints],
-        "notes": list(map(sentences.words, [*seen.notes, *its.notes])),
+        "notes": list(map(sentences.words, [*made_first.all_of(seen), *its.notes])),
         "reports": reports,
         "between": between_of(seen),
     }
@@ -202,9 +209,7 @@ def file_differences(record, now):
             continue
         for key in ("came", "judged", "lower", "upper"):
             if old[name].get(key) != new[name].get(key):
-                how = {"came": "is another file", "judged": "was judged as another text"}.get(
-                    key, f"has another {key} bound"
-                )
+                how = UNLIKE[key]
                 yield f"{name} {how}: SHA-256 {old[name].get(key)} in the record, {new[name].get(key)} here"
                 break
 
@@ -258,7 +263,7 @@ def told_of(value):
 def judged_as(told):
     """What the reports are of."""
     if told.package.between:
-        return "both bounds"
+        return "both copies, with the least and the most copper"
     return "the copies that were judged" if told.package.mends or told.package.flattened else "them"
 
 
@@ -275,11 +280,11 @@ def verify(program, told, seen, its, path):
         if not isinstance(record.get("program"), dict) or record["program"].get(key) != value
     }
     others = ", ".join(f"{key} {value}" for key, value in other.items())
-    notes = [f"the record of {record.get('date')} is by another program: now {others}"] if other else []
-    notes += [f"unlike the record: {words}" for words in unlike]
+    more = [f"the record of {record.get('date')} is by another program: now {others}"] if other else []
+    more += [f"unlike the record: {words}" for words in unlike]
     passes = f"its report passes the audit on {judged_as(told)}"
     same = f"the record is of these files, and {passes if packages(told) else 'neither it nor today has a report'}"
     words = f"unlike the record in {counted(len(unlike), 'point')}" if unlike else same
     return Requested(
-        [outcome(RECORD, len(unlike), 0, words, tuple(("record", each, ()) for each in unlike))], notes=notes
+        [outcome(RECORD, len(unlike), 0, words, tuple(("record", each, ()) for each in unlike))], notes=more
     )

@@ -1,6 +1,6 @@
 """All that is known of a board once it was judged, as a value: each step gives one with more in it."""
 import os
-from typing import TYPE_CHECKING, Any, List, NamedTuple, Optional, Sequence, Tuple
+from typing import TYPE_CHECKING, Any, Dict, List, NamedTuple, Optional, Sequence, Tuple
 
 from boardnet_show.formats.report import Report
 from boardnet_show.intake.package import Taken
@@ -21,7 +21,8 @@ class Explained(NamedTuple):
     answers of `check` on changed copies, `bounds` the answer on a board that lies between two, `reports` the report
     twice, or those of a lower and an upper board, `report` its text, `taken` what its files were taken as, `declared`
     what is declared of them, `stale` the waivers of no finding, `wider` what an upper board has beyond a lower one, as
-    (layer, corners)."""
+    (layer, corners), `flattened` the files whose macros were written out, `unflattened` the program's line on each of
+    which that could not be."""
 
     title: str
     answer: Answer
@@ -42,6 +43,8 @@ class Explained(NamedTuple):
     stale: Sequence[Waiver] = ()
     unlooked: Sequence[Waiver] = ()
     wider: Sequence[Tuple[int, Any]] = ()
+    flattened: Sequence[str] = ()
+    unflattened: Dict[str, str] = {}
 
     def noted(self, *notes: Any) -> "Explained":
         return self._replace(notes=[*self.notes, *notes])

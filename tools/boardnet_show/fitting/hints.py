@@ -122,9 +122,9 @@ class Trials:
         try:
             both, _, high = two_bounds.judge(self.program, told.package, self.ties)
         except exact.Refused as why:
-            answer = answers.without_bounds(told.status, told.line, told.refusal, str(why))
-            also = [why.refusal] if isinstance(why, two_bounds.SideRefused) else []
-            return Trial(told.package, answer, refusals=tuple(filter(None, [told.refusal, *also])), changes=changes)
+            stops = why.refusal if isinstance(why, two_bounds.SideRefused) else None
+            answer = answers.without_bounds(told.status, told.line, told.refusal, str(why), stops)
+            return Trial(told.package, answer, refusals=tuple(filter(None, [told.refusal, stops])), changes=changes)
         return Trial(told.package, both.answer, high.report, self.ties, (told.refusal,), changes)
 
     def plain(self, told, changes):

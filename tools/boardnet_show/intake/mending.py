@@ -24,7 +24,7 @@ def mend(package, progress, is_yes=False, said=()):
     if unsaid and not is_yes:
         from .evidence import readings  # few boards want them
 
-        raise Stop(UNCLEAR, readings.ASK + would_be_taken(unsaid))
+        raise Stop(UNCLEAR, readings.ASK, would_be_taken(unsaid))
     package.guessed += map(sentence, unsaid)
     package.taken += doubts
 
@@ -34,7 +34,7 @@ def sentence(taken):
 
 
 def would_be_taken(doubts):
-    return "".join(f"\n  would be taken: {sentence(it)}" for it in doubts)
+    return [f"would be taken: {sentence(it)}" for it in doubts]
 
 
 def with_readings(unconfirmed):
@@ -43,7 +43,7 @@ def with_readings(unconfirmed):
         doubts = rewritten(unconfirmed.package)
     except (Stop, OSError, ValueError):
         doubts = []
-    return Stop(unconfirmed.status, str(unconfirmed) + would_be_taken(doubts))
+    return Stop(unconfirmed.status, unconfirmed.words, [*unconfirmed.rows, *would_be_taken(doubts)])
 
 
 def rewritten(package, told=lambda number, count: None):

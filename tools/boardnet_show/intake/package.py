@@ -169,8 +169,8 @@ class Package:
 class Unconfirmed(Stop):
     """A folder whose files do not say all of what they are; `package` is what would be taken."""
 
-    def __init__(self, words, package):
-        super().__init__(UNCLEAR, words)
+    def __init__(self, words, rows, package):
+        super().__init__(UNCLEAR, words, rows)
         self.package = package
 
 
@@ -242,8 +242,7 @@ def of_folder(home, asked, scratch, declared, homes):
             found, asked.netlist or said.netlist or None, asked.no_drills or said.has_no_drills, True, said.drilled
         )
     except Refused as why:
-        left_out = "".join(f"\n  left out: {name}: {reason}" for name, reason in found.left_out)
-        raise Stop(UNCLEAR, f"{why}{left_out}") from None
+        raise Stop(UNCLEAR, str(why), [f"left out: {name}: {reason}" for name, reason in found.left_out]) from None
     unsaid = [row for row in plan.guessed if Taken(*row[:2]) not in said.taken]
     told = manifest.Manifest(plan.manifest)
     package = Package(told, room(scratch, told.names()))
@@ -256,8 +255,8 @@ def of_folder(home, asked, scratch, declared, homes):
         package.link(name, os.path.join(home, name))
     if unsaid and not asked.yes:
         raise Unconfirmed(
-            "the files do not say all of what they are: if this is right, say --yes; else write m.json by hand"
-            + "".join(f"\n  would be taken: {word}" for word in package.guessed),
+            "the files do not say all of what they are: if this is right, say --yes; else write m.json by hand",
+            [f"would be taken: {word}" for word in package.guessed],
             package,
         )
     return package

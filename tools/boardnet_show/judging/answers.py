@@ -52,8 +52,10 @@ class Answer(NamedTuple):
     """`said` is the program's own line, or why the board is not judged; `no_bounds` why there are no bounds of a board
     that is refused, `behind` what else would stop it; `is_trial` whether a trial build said it, which is not proved.
 
-    `counts` is what counts by the report where ties are declared or findings waived. `ties` is how many declared ties the copper has, None
-    where none is declared; so many things are `declared`, findings `waived`, and declarations and waivers `stale`."""
+    `found` is what the report has, and `counts` what counts of it where ties are declared or findings waived. `ties` is
+    how many declared ties the copper has, None where none is declared; so many things are `declared`, findings
+    `waived`, and declarations and waivers `stale`. `stops` is what refuses one of both bounds; `rows` are listed
+    below it."""
 
     status: int
     kind: str
@@ -72,6 +74,9 @@ class Answer(NamedTuple):
     stale: int = 0
     behind: Tuple[Refusal, ...] = ()
     of_files: Optional[OfFiles] = None
+    found: Optional[Counts] = None
+    stops: Optional[Refusal] = None
+    rows: Tuple[str, ...] = ()
 
     def is_between(self) -> bool:
         return self.both is not None
@@ -79,7 +84,7 @@ class Answer(NamedTuple):
 
 def stopped(stop: Stop) -> Answer:
     """The answer on a board that is not judged."""
-    return Answer(stop.status, STOPPED, str(stop))
+    return Answer(stop.status, STOPPED, stop.words, rows=stop.rows)
 
 
 def nothing(why: str) -> Answer:
@@ -92,6 +97,8 @@ def blocked(status: int, refusal: Refusal, bounded: Refusal) -> Answer:
     return Answer(status, STOPPED, refusal.line(), refusal, behind=(bounded,))
 
 
-def without_bounds(status: int, said: str, refusal: Optional[Refusal], why: str) -> Answer:
+def without_bounds(
+    status: int, said: str, refusal: Optional[Refusal], why: str, stops: Optional[Refusal] = None
+) -> Answer:
     """The answer on a refused board that has no bounds either."""
-    return Answer(status, STOPPED, said, refusal, no_bounds=why)
+    return Answer(status, STOPPED, said, refusal, no_bounds=why, stops=stops)

@@ -118,11 +118,10 @@ def confirm(text, decision, status, ties):
     own = decision.word(Ties())
     if said != own or decision.word(ties) != ANSWERS[status]:
         raise Stop(
-            UNJUDGED,
-            f"NOTHING WAS JUDGED: `between` says {said} of a board that {own} by its bounds, and {ANSWERS[status]} with its ties",
+            UNJUDGED, f"`between` says {said} of a board that {own} by its bounds, and {ANSWERS[status]} with its ties"
         )
     if findings != decision.findings() or not set(decision.heads()) <= set(heads):
-        raise Stop(UNJUDGED, "NOTHING WAS JUDGED: `between` finds otherwise than `check` on the same two boards")
+        raise Stop(UNJUDGED, "`between` finds otherwise than `check` on the same two boards")
 
 
 # ---- what is told

@@ -47,7 +47,7 @@ def shapes_of(package, report, flatten, known=None):
         else:
             add_flat(shapes, flatten(name))
         if len(shapes) - before != counts[file]:
-            raise BadCopper(f"{name}: {len(shapes) - before} shapes, but the report has {counts[file]} pieces of it")
+            raise BadCopper(f"{name}: {len(shapes) - before} shapes, but the report has {counts[file]} of it")
     must_fit(shapes, report)
     return shapes
 
@@ -64,6 +64,4 @@ def must_fit(shapes, report):
         if parent >= 0:
             a, b = boxes[piece], boxes[parent]
             if a[0] > b[2] or b[0] > a[2] or a[1] > b[3] or b[1] > a[3]:
-                raise BadCopper(
-                    f"the shapes of pieces {parent} and {piece} do not touch, and the report says that they do"
-                )
+                raise BadCopper(f"the shapes {parent} and {piece} do not touch, and the report says that they do")

@@ -36,7 +36,7 @@ def known(package):
         lines[0] += f" with {len(ipc356.records(package.read(told.netlist)))} test records"
     lines += [f"{name} is not there" for name in missing]
     lines += [
-        f"{name} has macros, which `flatten` rewrites"
+        f"{name} has aperture macros, which are written out first"
         for name in dict.fromkeys(told.copper)
         if name not in missing and begins(package.read(name), b"AM")
     ]

@@ -70,13 +70,12 @@ def judge(program, package):
     told = audit.out.decode("ascii", "replace").strip() or audit.line
     if audit.status != 0:
         raise Stop(
-            UNJUDGED if audit.status == 1 else audit.status,
-            f"NOTHING WAS JUDGED: `audit` does not confirm the report of `check`: {told}",
+            UNJUDGED if audit.status == 1 else audit.status, f"`audit` does not confirm the report of `check`: {told}"
         )
     try:
         report = Report(answer.out)
     except BadReport as fault:
-        raise Stop(UNJUDGED, f"NOTHING WAS JUDGED: {fault}") from None
+        raise Stop(UNJUDGED, str(fault)) from None
     names = ipc356.spoken(report.names, ipc356.aliases(package.read(package.manifest.netlist)))
     report.names = ipc356.spoken(names, package.whole)
     report.short_names = {whole: name for whole, name in zip(report.names, names) if whole != name}

@@ -118,7 +118,10 @@ class Ties:
     def answer(self, told) -> Answer:
         """The answer on a judged package, with the ties taken into account."""
         plain = Answer(told.status, EXACT if told.report else STOPPED, told.line, told.refusal)
-        if not self.ties or not told.report:
+        if not told.report:
+            return plain
+        plain = plain._replace(found=Counts(len(told.report.opens), len(told.report.shorts), len(told.report.bare), 0))
+        if not self.ties:
             return plain
         counts = self.counts(told.report)
         return plain._replace(status=int(any(counts)), counts=counts, ties=len(self.ties) - counts.open_ties)

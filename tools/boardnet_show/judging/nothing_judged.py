@@ -5,11 +5,8 @@ from boardnet_show.formats.ipc356 import NO_NET
 from boardnet_show.base.facts import UnnamedJoined
 
 FEW = 4
-NOTHING = "NOTHING WAS JUDGED: "
 BECAUSE = ", so no two of them could contradict one another, and this yes says nothing about the board"
-NO_POINTS = (
-    NOTHING + "the netlist has no test point (no 317 and no 327 record), so this yes says nothing about the board"
-)
+NO_POINTS = "the netlist has no test point (no 317 and no 327 record), so this yes says nothing about the board"
 
 
 def why_nothing(report):
@@ -19,9 +16,9 @@ def why_nothing(report):
     if not report.points:
         return NO_POINTS
     if names == {NO_NET}:
-        return f"{NOTHING}all test points ({len(report.points)}) are without net ({NO_NET}){BECAUSE}"
+        return f"all test points ({len(report.points)}) are without net ({NO_NET}){BECAUSE}"
     if len(report.points) == 1:
-        return f"{NOTHING}there is one test point alone, of {names.pop()}{BECAUSE}"
+        return f"there is one test point alone, of {names.pop()}{BECAUSE}"
     return ""
 
 

@@ -198,7 +198,7 @@ def of_package(package, is_coarse=False, told=None):
     if any(map(os.path.isabs, files[0])):
         raise Refused("a copper file is named by its whole path, so it has no copy that could be changed")
     if not replaced:
-        raise Refused("nothing in the copper files is of a kind that has bounds")
+        raise Refused("nothing in the copper files is of a kind of which the least and the most are known")
     made = tuple(package.changed(beside(package, side), data) for side, data in zip(SIDES, files))
     for name in files[0]:
         if key_of(package, name, is_coarse) in package.made:
@@ -276,7 +276,8 @@ def refused_answer(told, why):
     refusal = own_refusal(told.package, why) if isinstance(why, SideRefused) and why.refusal else None
     if refusal:
         return answers.blocked(told.status, refusal, told.refusal)
-    return answers.without_bounds(told.status, told.line, told.refusal, str(why))
+    stops = why.refusal if isinstance(why, SideRefused) else None
+    return answers.without_bounds(told.status, told.line, told.refusal, str(why), stops)
 
 
 def bounded(program, told, ties=Ties()):

@@ -48,5 +48,5 @@ def above(program, high, sides):
             add_flat(shapes, flat_of(program, package)(part))
             told += its
         if len(shapes) != len(told):
-            raise BadCopper(f"{name}: the pieces of its upper bound are not those of the report")
+            raise BadCopper(f"{name}: the most copper that it can mean is not that of the report")
     return shapes, told

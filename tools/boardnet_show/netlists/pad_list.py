@@ -115,7 +115,7 @@ def origins(board: Board, base: Optional[Package]) -> Objects:
         else:
             its = of_file(package, name)
             if len(its) != len(pieces):
-                raise BadCopper(f"{name}: its commands make {len(its)} pieces here, and {len(pieces)} in the report")
+                raise BadCopper(f"{name}: its commands make {len(its)} shapes here, and {len(pieces)} in the report")
             found += its
     return found
 

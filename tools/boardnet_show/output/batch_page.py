@@ -4,6 +4,7 @@ from typing import Dict, Optional, Sequence
 
 from . import text_lines
 from .markup import in_html
+from .sentences import verdicts
 from .shown import Shown
 
 STYLE = (
@@ -23,8 +24,8 @@ def row(shown: Shown, link: Optional[str]) -> str:
     name = in_html(shown.path)
     linked = f'<a href="{in_html(os.path.basename(link))}">{name}</a>' if link else name
     hint = text_lines.first_hint(shown)
-    told = in_html(shown.line) + (f"<br>hint: {in_html(hint)}" if hint else "")
-    return f'<tr><td>{linked}</td><td class="{"agrees" if shown.status == 0 else "other"}">{text_lines.word_of(shown.status)}</td><td>{told}</td></tr>'
+    told = in_html(verdicts.before(shown.answer) + shown.verdict) + (f"<br>hint: {in_html(hint)}" if hint else "")
+    return f'<tr><td>{linked}</td><td class="{"agrees" if shown.status == 0 else "other"}">{shown.word}</td><td>{told}</td></tr>'
 
 
 def page_html(all_shown: Sequence[Shown], links: Dict[str, str]) -> str:

@@ -250,6 +250,7 @@ def board_of(shown: Shown) -> Dict[str, Any]:
         "path": shown.path,
         "status": shown.status,
         "line": shown.line,
+        "verdict": shown.sentence(),
         "notes": shown.notes,
         "declarations": list(map(declaration, seen.declared)),
         "stale_waivers": list(map(declaration_file.waiver_values, seen.stale)),

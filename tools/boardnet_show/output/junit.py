@@ -72,7 +72,7 @@ def waived_of(shown: Shown, what: str) -> List[str]:
 def cases_of(shown: Shown) -> List[Case]:
     """All cases: no status but 0 is without one that fails or is an error."""
     status = shown.answer.status
-    cases = of_names(shown) if shown.board and status in (0, 1) else [whole(shown, status, shown.netlist_line)]
+    cases = of_names(shown) if shown.board and status in (0, 1) else [whole(shown, status, shown.netlist_sentence)]
     cases += [
         Case(it.what, list(of_beside(it)), "failure" if it.status == 1 else "error", waived_of(shown, it.what))
         for it in shown.besides
@@ -80,7 +80,7 @@ def cases_of(shown: Shown) -> List[Case]:
     return (
         cases
         if not shown.status or any(it.causes for it in cases)
-        else [*cases, whole(shown, shown.status, shown.line)]
+        else [*cases, whole(shown, shown.status, shown.sentence())]
     )
 
 

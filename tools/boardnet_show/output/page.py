@@ -22,7 +22,7 @@ from boardnet_show.findings.waivers import OF_NETLIST
 
 from . import record_page, text_lines
 from .markup import in_html
-from .sentences import answers, declarations
+from .sentences import made_first
 from .sentences.findings import flood_words
 from .sentences.findings import hints as hints_of
 from .sentences.findings import words as words_of
@@ -30,8 +30,8 @@ from .shown import Shown
 from .text_lines import cut
 
 BETWEEN_BOUNDS = (
-    "The board lies between two bounds, since some of its copper is outside the profile. The lower one is shown; where the upper one is "
-    "over a micrometre wider, it is outlined by dashes. What is not certain is called undecided."
+    "Some of the copper is not known exactly, as arcs and turned shapes are. Shown is the least that the files can mean; where "
+    "the most is over a micrometre wider, that is outlined by dashes. What is not certain is called undecided."
 )
 Place = Tuple[float, float]
 HERE = os.path.join(os.path.dirname(os.path.abspath(__file__)), "page_assets")
@@ -260,12 +260,8 @@ def list_of(kind: str, findings: Sequence[Finding]) -> str:
 
 
 def verdict(shown: Shown) -> str:
-    """The words of the terminal, and what they mean where the board agrees."""
-    words = f"{shown.line[:1].upper()}{shown.line[1:]}"
-    if shown.bounds or shown.answer.status != 0 or shown.seen.waived:
-        return words
-    what = "to which its own files give one name" if shown.board.package.own else "that the netlist joins"
-    return f"{words}. The copper joins exactly the points {what}{' or the ties do' if shown.seen.ties.ties else ''}."
+    """The words of the terminal."""
+    return shown.sentence()
 
 
 def audited(shown: Shown) -> str:
@@ -307,7 +303,7 @@ def advice(shown: Shown) -> str:
     """What is told above the findings: hints, what is declared, a flood, and what was asked for besides."""
     told = [
         *(f"hint: {words}" for words in text_lines.hint_words(shown)),
-        *declarations.notes(shown.seen),
+        *made_first.declared(shown.seen),
         *([flood_words(shown.seen.flood)] if shown.seen.flood else []),
     ]
     return paragraphs([*told, *cut(list(text_lines.extra_lines(shown)), False)])
@@ -315,12 +311,13 @@ def advice(shown: Shown) -> str:
 
 def folded(shown: Shown) -> str:
     """The other notes, which most do not want, behind a line that counts them."""
-    above = declarations.notes(shown.seen)
+    above = made_first.declared(shown.seen)
     told = [words for words in shown.notes if words not in above]
-    told += [answers.bounds_words(shown.answer.both)] if shown.answer.both else []
     count = f", and {counted(len(told), 'note')}" if told else ""
+    rules = "".join(f'<p class="facts">{in_html(words)}</p>\n' for words in shown.in_rules_words())
     return (
-        f'<summary>How it was judged{count}</summary>\n<p class="facts">{in_html(facts(shown))}</p>\n{paragraphs(told)}'
+        f'<summary>How it was judged{count}</summary>\n<p class="facts">{in_html(facts(shown))}</p>\n'
+        f"{paragraphs(told)}{rules}"
     )
 
 

@@ -17,7 +17,7 @@ KINDS = {
     "cut": "What unplated holes part when the board is made",
     "outside": "What lies outside the board's edge",
     "neck": "Joins that are narrower than asked for",
-    "wider": "Copper that the upper of two bounds has and the lower one has not",
+    "wider": "Copper that the files may mean beyond what is sure",
     "waived": "Findings that somebody has signed for",
     "tie": "Declared ties of names that no test point has",
     "beside": "What was asked for besides",
@@ -77,7 +77,9 @@ def items_of(shown: Shown) -> List[str]:
         if not beside.findings
         for name, what, places in beside.causes()
     ]
-    return (its if its or not shown.status else [item("board", f"status {shown.status}", [quoted(shown.line)])]) + wider
+    return (
+        its if its or not shown.status else [item("board", f"status {shown.status}", [quoted(shown.sentence())])]
+    ) + wider
 
 
 def items_of_board(shown: Shown) -> Tuple[List[str], List[str]]:
@@ -100,7 +102,7 @@ def marker_database(shown: Shown) -> str:
     rows = [
         '<?xml version="1.0" encoding="utf-8"?>',
         "<report-database>",
-        f"  <description>{escaped(shown.title)}: {escaped(shown.line)}</description>",
+        f"  <description>{escaped(shown.sentence(shown.title))}</description>",
         "  <original-file/>",
         "  <generator>boardnet show</generator>",
         "  <top-cell>board</top-cell>",

@@ -8,8 +8,8 @@ from .shown import Shown
 SIDES = (
     ("came", "SHA-256 as it came"),
     ("judged", "as it was judged"),
-    ("lower", "lower bound"),
-    ("upper", "upper bound"),
+    ("lower", "the least copper that it can mean"),
+    ("upper", "the most"),
 )
 
 
@@ -51,7 +51,9 @@ def section(record: Dict[str, Any]) -> str:
 
 def page(shown: Shown) -> str:
     """The record and what is told of the board, without a picture."""
-    told = "".join(f"<p>{in_html(words)}</p>\n" for words in [shown.line, *shown.notes, *text_lines.extra_lines(shown)])
+    told = "".join(
+        f"<p>{in_html(words)}</p>\n" for words in [shown.sentence(), *shown.notes, *text_lines.extra_lines(shown)]
+    )
     return (
         f'<!DOCTYPE html>\n<html lang="en">\n<head>\n<meta charset="utf-8">\n'
         f'<meta http-equiv="Content-Security-Policy" content="default-src \'none\'">\n<title>{in_html(shown.title)}: boardnet</title>\n</head>\n'

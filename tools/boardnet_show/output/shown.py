@@ -7,7 +7,7 @@ from boardnet_show.findings.finding import Finding
 from boardnet_show.judging.answers import Answer
 from boardnet_show.judging.both_reports import BothFind
 
-from .sentences import answers
+from .sentences import answers, made_first, verdicts
 
 if TYPE_CHECKING:  # most boards have no bounds, and loading takes longer than a small board
     from boardnet_show.judging.two_bounds import Bounded
@@ -42,14 +42,48 @@ class Shown(NamedTuple):
         return status_with(self.answer.status, self.requested.besides)
 
     @property
-    def netlist_line(self) -> str:
-        """The answer on the netlist alone."""
-        return answers.line(self.answer)
+    def line(self) -> str:
+        """The answer in the words of the rules, with what was asked for besides."""
+        return answers.whole_line(self.answer, in_words([it.said for it in self.besides]))
 
     @property
-    def line(self) -> str:
-        """The answer with what was asked for besides."""
-        return answers.whole_line(self.answer, in_words([it.said for it in self.besides]))
+    def word(self) -> str:
+        """PASS, FAIL or what it is."""
+        return verdicts.word_of(self.answer, self.status)
+
+    @property
+    def rewritten(self) -> List[str]:
+        """The files in whose place copies were judged."""
+        return list(dict.fromkeys([*(it.file for it in self.seen.mends), *self.seen.flattened]))
+
+    @property
+    def verdict(self) -> str:
+        """What a person reads behind that word and the board's name."""
+        return verdicts.words(self.answer, self.points, self.rewritten, self.asked_besides)
+
+    @property
+    def asked_besides(self) -> List[Tuple[int, str]]:
+        """What was asked for besides: how each ended, and its words."""
+        return list(zip((it.status for it in self.besides), in_words([it.said for it in self.besides])))
+
+    def sentence(self, name: str = "") -> str:
+        """Both, with a name between them; of a trial build behind the word that says so."""
+        return f"{verdicts.before(self.answer)}{self.word}{' ' + name if name else ''}: {self.verdict}"
+
+    @property
+    def netlist_sentence(self) -> str:
+        """What is told of the netlist alone."""
+        return verdicts.before(self.answer) + verdicts.words(self.answer, self.points, self.rewritten, ())
+
+    @property
+    def brief(self) -> str:
+        """What counts alone."""
+        return f"{verdicts.before(self.answer)}{self.word}: {verdicts.counted_words(self.answer, self.points, self.asked_besides)}"
+
+    @property
+    def points(self) -> int:
+        """How many test points there are, 0 where that is not known."""
+        return len(self.board.report.points) if self.board else 0
 
     @property
     def board(self) -> Any:
@@ -66,7 +100,17 @@ class Shown(NamedTuple):
 
     @property
     def notes(self) -> List[str]:
-        return in_words([*self.seen.notes, *self.requested.notes])
+        """All that is told beside the answer."""
+        return in_words([*made_first.all_of(self.seen), *self.requested.notes])
+
+    @property
+    def first_notes(self) -> List[str]:
+        """The same without what was made of the files, of which the answer has a clause."""
+        return in_words([*made_first.declared(self.seen), *self.seen.notes, *self.requested.notes])
+
+    def in_rules_words(self) -> List[str]:
+        """The answer in the words of the program and of the rules."""
+        return list(made_first.in_rules_words(self.answer, self.line, self.seen))
 
     @property
     def bounds(self) -> "Optional[Bounded]":

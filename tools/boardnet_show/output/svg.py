@@ -168,7 +168,7 @@ class Picture:
     def labels(self) -> Iterator[str]:
         """The pins of the finding's points, and what the picture is of."""
         size, (left, low, _, _) = 16 * self.pixel, self.box
-        head = f"{self.finding.id}: {findings.heading(self.finding)}" if self.finding else self.shown.line
+        head = f"{self.finding.id}: {findings.heading(self.finding)}" if self.finding else self.shown.brief
         rows = [(head, (left + size // 2, low + size // 2))]
         for number in self.finding.points[:12] if self.finding else []:
             x, y = self.board.spot(number)
@@ -187,7 +187,7 @@ class Picture:
     def rows(self) -> Iterator[str]:
         left, low, right, high = self.box
         height = max(1, WIDTH * (high - low) // max(1, right - left))
-        told = findings.sentence(self.finding) if self.finding else f"{self.shown.title}: {self.shown.line}"
+        told = findings.sentence(self.finding) if self.finding else self.shown.sentence(self.shown.title)
         yield (
             f'<svg xmlns="http://www.w3.org/2000/svg" width="{WIDTH}" height="{height}" role="img" '
             f'viewBox="{point((left, high))} {micrometres(right - left)} {micrometres(high - low)}">'

@@ -1,16 +1,15 @@
 """Findings as lines: grouped by name for a reader, one a line for `grep`."""
-from typing import Any, Dict, Iterator, List, Sequence
+from typing import Any, Dict, Iterator, List, Sequence, Tuple
 
 from boardnet_show.base.statuses import REFUSED, UNDECIDED, UNJUDGED
 from boardnet_show.base.wording import counted
 from boardnet_show.findings.finding import Finding, doubt
 
-from .sentences import answers
+from .sentences import verdicts
 from .shown import Shown
 
 MOST = 20
-WORDS = {0: "agrees", 1: "differs", UNDECIDED: "undecided", REFUSED: "refused"}
-# What became of boards, one and several.
+# What became of boards, one and several, as `-q` counts them.
 PLURALS = {
     0: ("agrees", "agree"),
     1: ("differs", "differ"),
@@ -21,6 +20,12 @@ PLURALS = {
 
 
 def heading(shown: Shown) -> str:
+    """The first line, as one reads it aloud."""
+    return shown.sentence(shown.path)
+
+
+def quiet_heading(shown: Shown) -> str:
+    """The first line for scripts."""
     return f"{shown.path}: {shown.line}"
 
 
@@ -45,34 +50,37 @@ def summary(shown: Shown) -> str:
     return heading(shown) + (f" [hint: {hint}]" if hint else "")
 
 
-def word_of(status: int) -> str:
-    """What became of a board, in a word."""
-    return WORDS.get(status, "not judged")
+def counted_boards(count: int, rows: Sequence[Tuple[int, Tuple[str, str]]]) -> str:
+    """How many boards there are, and how many of each kind, with the words for one and for several."""
+    told = ", ".join(f"{number} {one if number == 1 else many}" for number, (one, many) in rows if number)
+    return f"{counted(count, 'board')}: {told}"
 
 
 def total(all_shown: Sequence[Shown]) -> str:
-    """How many boards there are of each answer."""
-    counts = [
-        (sum(word_of(shown.status) == WORDS.get(status, "not judged") for shown in all_shown), words)
-        for status, words in PLURALS.items()
-    ]
-    told = ", ".join(f"{count} {one if count == 1 else many}" for count, (one, many) in counts if count)
-    return f"{counted(len(all_shown), 'board')}: {told}"
+    """The last line of a batch: how many boards there are of each answer."""
+    words = [shown.word for shown in all_shown]
+    return counted_boards(len(words), [(words.count(word), plural) for word, plural in verdicts.PLURALS.items()])
 
 
-def notes(shown: Shown) -> List[str]:
-    """What is told before the findings."""
-    told = list(shown.notes)
+def quiet_total(all_shown: Sequence[Shown]) -> str:
+    """The same for scripts."""
+    known = [shown.status if shown.status in PLURALS else UNJUDGED for shown in all_shown]
+    return counted_boards(len(known), [(known.count(status), plural) for status, plural in PLURALS.items()])
+
+
+def notes(shown: Shown, is_all: bool) -> List[str]:
+    """What is told before the findings: what leads on first."""
+    told = [f"hint: {words}" for words in hint_words(shown)]
     if shown.seen.flood:
         from .sentences import findings  # most boards have none, and loading takes longer than a small board
 
         told.append(findings.flood_words(shown.seen.flood))
-    return told + [f"hint: {words}" for words in hint_words(shown)]
+    return told + (shown.notes if is_all else shown.first_notes)
 
 
 def bounded(shown: Shown) -> List[str]:
-    """What a board between two bounds leaves out below."""
-    return [f"  left out of the lower bound: {word}" for word in shown.bounds.left_out] if shown.bounds else []
+    """What is no sure copper of a board whose copper is not known exactly."""
+    return [f"not counted as sure copper: {word}" for word in shown.bounds.left_out] if shown.bounds else []
 
 
 def grouped(findings: Sequence[Finding]) -> Dict[str, List[Finding]]:
@@ -97,12 +105,11 @@ def blocks(shown: Shown) -> Iterator[List[str]]:
             ]
 
 
-def reader(shown: Shown, is_all: bool) -> Iterator[str]:
+def reader(shown: Shown, is_all: bool, is_explained: bool = False) -> Iterator[str]:
     """What is printed of one board: at most twenty lines of findings where not all are wanted."""
-    yield heading(shown) + (
-        f" ({shown.seen.audit})" if shown.seen.audit and shown.status != UNJUDGED and not shown.bounds else ""
-    )
-    yield from notes(shown)
+    yield heading(shown)
+    yield from (f"  {row}" for row in shown.answer.rows)
+    yield from notes(shown, is_all)
     printed, told = 0, 0
     for block in blocks(shown):
         if not is_all and told and printed + len(block) > MOST:
@@ -113,9 +120,15 @@ def reader(shown: Shown, is_all: bool) -> Iterator[str]:
     if left:
         yield f"{counted(left, 'further finding')}: --all prints them, --page FILE shows them"
     yield from cut(bounded(shown), is_all)
-    if is_all and shown.answer.both:
-        yield f"  {answers.bounds_words(shown.answer.both)}"
     yield from cut(list(extra_lines(shown)), is_all)
+    hidden = 0 if is_all else len(shown.notes) - len(shown.first_notes)
+    if hidden:
+        yield f"{counted(hidden, 'note')} on rewritten files: --all prints {'it' if hidden == 1 else 'them'}"
+    if is_explained:
+        yield from (f"explained: {words}" for words in shown.in_rules_words())
+        if shown.board:
+            report = shown.board.report
+            yield f"explained: the report has {counted(report.pieces, 'piece')} in {counted(report.nets, 'net')}"
 
 
 def cut(rows: List[str], is_all: bool) -> List[str]:
@@ -124,7 +137,7 @@ def cut(rows: List[str], is_all: bool) -> List[str]:
 
 def quiet(shown: Shown) -> Iterator[str]:
     """A line for the board, and one `file:line: id: words` for each finding, as editors and CI read them."""
-    yield heading(shown)
+    yield quiet_heading(shown)
     yield from (f"{shown.path}: hint: {words}" for words in hint_words(shown))
     if shown.board:
         from .sentences.findings import sentence  # as above

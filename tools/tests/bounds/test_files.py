@@ -22,6 +22,7 @@ from boardnet_show.judging.program import Program
 from boardnet_show.judging.upper_joins import Differing
 from boardnet_show.output.sentences import answers as sentences
 from boardnet_show.output.sentences.findings import statement
+from boardnet_show.output.sentences.verdicts import NOT_KNOWN
 from tests.fixtures import made
 from tests.fixtures.made import STAND_IN, flash, manifest, netlist, record
 from tests.fixtures.real_shapes import Real, fine, has, pieces_of
@@ -456,7 +457,10 @@ class Packages(made.Case):
                     its, places = told.findings[0], told.findings[0].places
                     said = statement(its.what)
                     self.assertEqual((its.kind, its.is_sure, said.startswith(words)), (kind, False, True), said)
-                    self.assertIn(f"on the upper board alone, by top.gbr {commands} at the one layer, 0.0", said)
+                    self.assertIn(
+                        f"only if the copper is the most that the files can mean, by top.gbr {commands} at the one layer, 0.0",
+                        said,
+                    )
                     self.assertTrue(abs(places[0][0]) < 10**6 and abs(places[0][1] - 11_000_000) < 10**6, places)
             told = self.bounded(program, self.ARC, [record("A", "J1.1", 0, 1.1), record("A", "J1.2", 1, 0)])
             self.assertEqual((told.status, [it[:2] for it in told.findings]), (11, [("missing", False)]))
@@ -579,12 +583,7 @@ class Packages(made.Case):
         before = self.read("files/top.gbr")
         status, out, _ = self.show("board")
         self.assertEqual(
-            (
-                status,
-                "undecided, between two bounds" in out,
-                self.read("files/top.gbr"),
-                len(os.listdir(self.path("files"))),
-            ),
+            (status, NOT_KNOWN in out, self.read("files/top.gbr"), len(os.listdir(self.path("files")))),
             (11, True, before, 2),
         )
 
@@ -596,7 +595,7 @@ class Packages(made.Case):
         before = self.read("files/top.gbr")
         status, out, _ = self.show("board")
         self.assertEqual(
-            (status, "; no bounds: a copper file is named by its whole path" in out, self.read("files/top.gbr")),
+            (status, "that is not known: a copper file is named by its whole path" in out, self.read("files/top.gbr")),
             (3, True, before),
             out,
         )
@@ -606,16 +605,14 @@ class Packages(made.Case):
         self.write("board/top.gbr", "\n".join([*self.ARC, "M02*", ""]))
         self.write("board/n.ipc", netlist(record("A", "J1.1", 0, 1.1), record("A", "J1.2", 1, 0)))
         before = {name: os.stat(self.path("board", name)).st_mtime_ns for name in os.listdir(self.path("board"))}
-        status, out, _ = self.show("board", "--all", "--json", "b.json")
-        self.assertEqual(
-            (status, out.splitlines()[0]), (11, "board: undecided, between two bounds: 1 finding undecided")
-        )
-        self.assertIn("  bounds: lower differs, opens 0, shorts 0, missing 1; upper agrees\n", out)
+        status, out, _ = self.show("board", "--explain", "--json", "b.json")
+        self.assertEqual((status, out.splitlines()[0]), (11, f"UNDECIDED board: 1 fault is possible. {NOT_KNOWN}"))
+        self.assertIn("explained: bounds: lower differs, opens 0, shorts 0, missing 1; upper agrees\n", out)
         its = json.loads(self.read("b.json"))["boards"][0]["bounds"]
         self.assertEqual((its["lower"], its["upper"]), ("differs, opens 0, shorts 0, missing 1", "agrees"))
-        self.assertNotIn("lower", self.show("board")[1].splitlines()[0])
+        self.assertNotRegex(self.show("board", "--all")[1], r"\b(lower|upper|bounds?)\b")
         self.assertIn(
-            "  undecided missing-0: copper lies under J1 pin 1 (the one layer, 0.000, 1.100 mm), of A, on the upper board alone",
+            "  undecided missing-0: copper lies under J1 pin 1 (the one layer, 0.000, 1.100 mm), of A, only if the copper is the most that the files can mean",
             out,
         )
         self.assertEqual(

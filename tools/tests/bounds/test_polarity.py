@@ -2,6 +2,7 @@
 import math
 import os
 import random
+import re
 import time
 import unittest
 import zipfile
@@ -15,6 +16,7 @@ from boardnet_show.geometry.capsule_polygons import in_it, ring, round_it
 from boardnet_show.geometry.pieces import Area
 from boardnet_show.geometry.segments import odd_inside, point_within
 from tests.fixtures import made
+from tests.fixtures.common import SURE
 from tests.fixtures.made import built, manifest, netlist, record
 from tests.fixtures.real_shapes import FINE, circle_ends, encloses, every, fine, has, in_sector, pieces_of
 
@@ -909,14 +911,16 @@ class Boards(made.Case):
         self.write("board/m.json", manifest())
         self.write("board/top.gbr", plane.copper())
         self.write("board/n.ipc", netlist(*plane.records(), *more))
-        status, out, _ = self.show("board", "--all", program=built())
+        status, out, _ = self.show("board", "--all", "--explain", program=built())
         return status, out
 
     def test_agrees(self):
         for how in ("flash", "region", "thermal"):
             for tilt in (0, 7, 3 * 10**6):
                 status, out = self.told(Plane(4, tilt, how))
-                self.assertEqual((status, "board: agrees, between two bounds" in out), (0, True), (how, tilt, out))
+                self.assertEqual(
+                    (status, "the words of the rules: agrees, between two bounds" in out), (0, True), (how, tilt, out)
+                )
 
     def test_differs(self):
         for tilt in (0, 10**3, 3 * 10**6):
@@ -927,7 +931,7 @@ class Boards(made.Case):
                 (
                     status,
                     [
-                        "2 findings certain" in out.splitlines()[0],
+                        "2 faults are certain. " in out.splitlines()[0],
                         "bounds: lower differs, opens 1, shorts 1, missing 0; upper differs, opens 1, shorts 1" in out,
                     ],
                 ),
@@ -986,9 +990,9 @@ class Boards(made.Case):
             "G37*",
         ]
         records = [record("A", "J1.1", -3, 0), record("A", "J1.2", 3, 3.5), record("B", "J2.1", 0, 0)]
-        for lines, words in [(it, "agrees") for it in rings] + [
-            (macro("7,0,0,3,2,0.4,0"), "differs"),
-            (macro("7,0,0,3,2,0.4,45"), "differs"),
+        for lines, words in [(it, "PASS") for it in rings] + [
+            (macro("7,0,0,3,2,0.4,0"), "FAIL"),
+            (macro("7,0,0,3,2,0.4,45"), "FAIL"),
         ]:
             self.write("board/m.json", manifest())
             self.write(
@@ -999,7 +1003,11 @@ class Boards(made.Case):
             )
             self.write("board/n.ipc", netlist(*records))
             self.assertTrue(
-                self.show("board", program=built())[1].startswith(f"board: {words}, between two bounds"), lines
+                re.match(
+                    f"{words} board: .* Certain: the same for the least and the most ",
+                    self.show("board", program=built())[1],
+                ),
+                lines,
             )
 
     def negative(self, plane, word, profile):
@@ -1065,13 +1073,17 @@ class Boards(made.Case):
             (".", self.path("board")),
         ):
             status, out, _ = self.show(words, folder=folder, program=built())
-            self.assertEqual((status, "agrees, between two bounds" in out), (0, True), (words, out))
+            self.assertEqual(
+                (status, "Certain: the same for the least and the most copper" in out), (0, True), (words, out)
+            )
 
     def test_negative_twice(self):
         plane = Plane(2)
         self.negative(plane, "%IPNEG*%\n%TF.FilePolarity,Negative*%", True)
         status, out = self.told(plane)
-        self.assertEqual((status, "no bounds: top.gbr: a file that is negative twice" in out), (3, True), out)
+        self.assertEqual(
+            (status, "but that is not known: top.gbr: a file that is negative twice" in out), (3, True), out
+        )
 
     def test_long_contour(self):
         """A contour of more than 100,000 edges is cut along a chord: the answer is no bound."""
@@ -1084,7 +1096,10 @@ class Boards(made.Case):
         status, out = self.told(plane)
         self.assertEqual(
             (status, out.splitlines()[0]),
-            (1, "board: differs, opens 0, shorts 0, missing 1, after 2 mends (audit true)"),
+            (
+                1,
+                f"FAIL board: 1 test point without copper. {SURE} Judged on a copy of top.gbr, rewritten to say the same in simpler words.",
+            ),
             out,
         )
 

@@ -242,7 +242,7 @@ class Places(unittest.TestCase):
                 self.assertEqual(of(*change, "X0Y0D03*"), [f"{words} at command {at}" for words in lost])
                 self.assertEqual(
                     of("%LPC*%", *change, "X0Y0D03*"),
-                    [f"what {words} takes away, which the upper bound has, at command {at + 1}" for words in lost],
+                    [f"what {words} takes away, as far as that is not sure, at command {at + 1}" for words in lost],
                 )
                 block = of("%ABD13*%", "D12*", "X0Y0D03*", "%AB*%", "D13*", *change, "X0Y0D03*")
                 self.assertEqual(
@@ -356,7 +356,7 @@ class Unforeseen(made.Case):
         self.board("good", "X1000000Y0D03*")
         with mock.patch.object(bounded_file, "of_text", side_effect=ZeroDivisionError("by 0")):
             status, out, _ = self.show("bad", "good")
-            self.assertEqual((status, out.count("\n"), "good: agrees" in out), (70, 3, True), out)
+            self.assertEqual((status, out.count("\n"), "PASS good: " in out), (70, 3, True), out)
             self.assertIn(
                 f"bad: {os.path.join('bad', 'top.gbr')}: a fault of `show` itself, which is no answer on the board (ZeroDivisionError by 0, in ",
                 out,
@@ -384,7 +384,7 @@ class Unforeseen(made.Case):
         for program in self.over_both():
             status, out, _ = self.show(
                 "board",
-                "--all",
+                "--explain",
                 "--json",
                 "b.json",
                 "--page",
@@ -396,7 +396,7 @@ class Unforeseen(made.Case):
                 program=program,
             )
             line = "bounds: lower differs, opens 2, shorts 1, missing 1; upper differs, opens 2, shorts 1, missing 1\n"
-            self.assertEqual((status, line in out, "3 findings certain" in out), (1, True, True), out)
+            self.assertEqual((status, line in out, "3 faults are certain. " in out), (1, True, True), out)
             board = json.loads(self.read("b.json"))["boards"][0]
             words = ("opens", "shorts", "missing", "open_ties", "certain", "undecided")
             self.assertEqual([board[word] for word in words], [2, 1, 1, 0, 3, 0])
@@ -406,7 +406,7 @@ class Unforeseen(made.Case):
             )
             self.assertRegex(
                 self.read("b.lyrdb"),
-                "<description>board: differs, between two bounds(, proved)?: 3 findings certain</description>",
+                "<description>FAIL board: 3 faults are certain. Certain: the same for the least and the most ",
             )
 
     def test_no_memory(self):
@@ -442,13 +442,13 @@ class Unforeseen(made.Case):
             )
             self.assertEqual(status, 1, out)
             self.assertIn("  short-0: A at J1 pin 1", out)
-            self.assertIn("; top.gbr command 7 makes 62 pieces that could be either's.", out)
+            self.assertIn("; top.gbr command 7 could belong to either.", out)
             self.assertIn("  undecided missing-0: ", out)
             page, picture, markers, told = (self.read(name) for name in ("p.html", "p.svg", "p.lyrdb", "p.json"))
             self.assertTrue(
-                "The board lies between two bounds" in page
+                "Some of the copper is not known exactly" in page
                 and "undecided missing 0" in page
-                and "Differs, between two bounds" in page
+                and "FAIL: 1 fault is certain, 1 is possible. Certain: the same " in page
             )
             self.assertIn('class="wider"', picture)
             self.assertIn("<category>wider</category>", markers)

@@ -149,7 +149,11 @@ class TestDegrees(unittest.TestCase):
                         )
                     )
                     self.assertTrue(
-                        all(cross_least(pointed(a), pointed(b), q) >= 0 for a, b in edges(above[0].corners) for q in real)
+                        all(
+                            cross_least(pointed(a), pointed(b), q) >= 0
+                            for a, b in edges(above[0].corners)
+                            for q in real
+                        )
                     )
 
     def test_they_are_close(self):

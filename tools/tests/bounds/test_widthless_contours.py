@@ -139,7 +139,7 @@ class Notes(made.Case):
         self.assertEqual(
             (
                 status,
-                out.startswith("board: agrees"),
+                out.startswith("PASS board: "),
                 "top.gbr: copper without width at 4.500, 0.000 mm, command 14, line 14" in out,
             ),
             (0, True, True),

@@ -34,13 +34,13 @@ class Batch(made.Case):
         lines = out.splitlines()
         self.assertEqual(
             (status, [line.split(":")[0] for line in lines]),
-            (1, ["all/bad", "all/good", "all/moved", "all/packed.zip", "4 boards"]),
+            (1, ["FAIL all/bad", "PASS all/good", "FAIL all/moved", "PASS all/packed.zip", "4 boards"]),
         )
         self.assertTrue(
-            lines[2].endswith(" [hint: with the netlist moved by (-12.345, 0.678) mm, `check` says: agrees]"), lines[2]
+            lines[2].endswith(" [hint: with the netlist moved by (-12.345, 0.678) mm, the board passes]"), lines[2]
         )
-        self.assertEqual(lines[-1], "4 boards: 2 agree, 2 differ")
-        self.assertEqual(self.show("all", "--take-hints")[1].splitlines()[-1], "4 boards: 3 agree, 1 differs")
+        self.assertEqual(lines[-1], "4 boards: 2 pass, 2 fail")
+        self.assertEqual(self.show("all", "--take-hints")[1].splitlines()[-1], "4 boards: 3 pass, 1 fails")
 
     def test_no_batch(self):
         """A folder with files of a board of its own is that board, whatever else is in it; so is one with a manifest, or without boards."""
@@ -80,7 +80,7 @@ class Batch(made.Case):
             ["list-1.html", "list-2.html", "list-3.html", "list-4.html", "list.html"],
         )
         text = self.read("out/list.html")
-        self.assertIn("5 boards: 2 agree, 2 differ, 1 is refused", text)
+        self.assertIn("5 boards: 2 pass, 2 fail, 1 is not judged", text)
         self.assertEqual(text.count('<a href="list-'), 4)
         self.assertEqual(self.show("all", "--page", "-")[0], 2)
 

@@ -8,6 +8,7 @@ from boardnet_show.base.statuses import Stop
 from boardnet_show.findings import waivers
 from boardnet_show.fitting import access_codes, declaration_file, placement
 from tests.fixtures import common, made
+from tests.fixtures.common import counted
 from tests.fixtures.hinted import files_of, with_netlist
 from tests.fixtures.made import drill, draw, flash, gerber, manifest, netlist, record, region
 from tests.fitting.test_hints import STRICT
@@ -63,7 +64,13 @@ class Changes(Case):
                         folder, "--take-hints", "--write-declarations", f"{folder}/boardnet.json", program=program
                     )
                     self.assertEqual(
-                        (status, out.startswith(f"{folder}: agrees, with "), "declared: " in out), (0, True, True), out
+                        (
+                            status,
+                            counted(out).startswith(f"PASS {folder}: copper and the netlist agree, with "),
+                            "declared: " in out,
+                        ),
+                        (0, True, True),
+                        out,
                     )
                     status, again, _ = self.show(folder, program=program)
                     self.assertEqual((status, again.split("\n")[0]), (0, out.split("\n")[0]))
@@ -83,9 +90,7 @@ class Changes(Case):
         self.put(files)
         status, out, _ = self.show("board", "--take-hints")
         self.assertEqual(
-            (status, "no hint is taken, since none agrees" in out, ", with" in out.split("\n")[0]),
-            (1, True, False),
-            out,
+            (status, "no hint is taken, since none agrees" in out, ", with" in counted(out)), (1, True, False), out
         )
 
     def test_what_fits_as_well(self):
@@ -97,9 +102,7 @@ class Changes(Case):
             copper = made.gerber(*made.flash(10, *flashed), *(line for track in tracks for line in track))
             self.put({"m.json": made.manifest(), "top.gbr": copper, "n.ipc": made.netlist(*points)})
             found, out, _ = self.show("board", "--take-hints")
-            self.assertEqual(
-                (found, "which fits about as well, `check` says: differs" in out), (status, status == 1), out
-            )
+            self.assertEqual((found, "which fits about as well, the board fails" in out), (status, status == 1), out)
             self.assertEqual("which is right is not known" in self.show("board")[1], status == 1)
 
     def test_options(self):
@@ -117,8 +120,8 @@ class Changes(Case):
             self.put(DEFAULTS[name](), f"row{row}")
             status, out, notes = self.show(f"row{row}", "--with", words, program=self.programs()[0])
             self.assertEqual(
-                (status, out.split("\n")[0]),
-                (0, f"row{row}: agrees, with 1 declaration (audit true)"),
+                (status, counted(out)),
+                (0, f"PASS row{row}: copper and the netlist agree, with 1 declaration"),
                 (words, out, notes),
             )
 
@@ -163,8 +166,8 @@ class Changes(Case):
             self.declare(changes=[change])
             status, out, _ = self.show("board")
             self.assertEqual(
-                (status, out.split("\n")[0]),
-                (0, "board: agrees, with 1 declaration and 1 of what is declared stale (audit true)"),
+                (status, counted(out)),
+                (0, "PASS board: copper and the netlist agree, with 1 declaration and 1 of what is declared stale"),
                 out,
             )
             self.assertIn("stale: it changes nothing of these files", out)
@@ -213,8 +216,8 @@ class Changes(Case):
         # The kept files have the change: it is told, and not made again.
         status, out, _ = self.show("kept")
         self.assertEqual(
-            (status, out.split("\n")[0], "made of these files before" in out),
-            (0, "kept: agrees, with 1 declaration (audit true)", True),
+            (status, counted(out), "made of these files before" in out),
+            (0, "PASS kept: copper and the netlist agree, with 1 declaration", True),
             out,
         )
 
@@ -235,7 +238,9 @@ class Sorted(Case):
         self.assertEqual(self.show("board")[0], 10)
         self.assertEqual(self.show("board", "--yes", "--write-declarations", "board/boardnet.json")[0], 0)
         status, out, _ = self.show("board")
-        self.assertEqual((status, out.split("\n")[0]), (0, "board: agrees, with 3 declarations (audit true)"), out)
+        self.assertEqual(
+            (status, counted(out)), (0, "PASS board: copper and the netlist agree, with 3 declarations"), out
+        )
         self.put({"inner1.gbr": gerber(*flash(10, (0, 0), (5, 0)))})
         self.assertEqual(self.show("board")[0], 10)
 
@@ -250,7 +255,9 @@ class Sorted(Case):
                 self.show("board", "--yes", "--write-declarations", "board/boardnet.json", program=program)[0], 0
             )
             status, out, _ = self.show("board", program=program)
-            self.assertEqual((status, out.split("\n")[0]), (0, "board: agrees, with 1 declaration (audit true)"), out)
+            self.assertEqual(
+                (status, counted(out)), (0, "PASS board: copper and the netlist agree, with 1 declaration"), out
+            )
             (taken,) = json.loads(self.read("board/boardnet.json"))["taken"]
             self.declare(taken=[{**taken, "as": taken["as"] + " of another board"}])
             self.assertEqual(self.show("board", program=program)[0], 10)
@@ -348,11 +355,8 @@ class Waivers(Case):
             self.waive(SHORT, "short-0")
             status, out, _ = self.show("board", program=program)
             self.assertEqual(
-                (status, out.split("\n")[0]),
-                (
-                    0,
-                    "board: agrees, with 1 waiver; the report itself says: differs, opens 0, shorts 1, missing 0 (audit true)",
-                ),
+                (status, counted(out)),
+                (0, "PASS board: copper and the netlist agree, but for what is signed for, with 1 waiver"),
             )
             self.assertIn("short-0 of GND and AGND, waived by Ann on ", out)
         again = [
@@ -437,7 +441,9 @@ class Waivers(Case):
         self.put(files)
         status, out, _ = self.show("board")
         self.assertEqual(
-            (status, out.split("\n")[0]), (0, "board: agrees, with 1 of what is declared stale (audit true)"), out
+            (status, counted(out)),
+            (0, "PASS board: copper and the netlist agree, with 1 of what is declared stale"),
+            out,
         )
 
     def test_between_bounds(self):

@@ -14,13 +14,14 @@ from xml.dom import minidom
 
 from boardnet_show.base import workers
 from boardnet_show.base.progress import Progress
-from boardnet_show.command import one_board
 from boardnet_show.command.run import SIGNALS
 from boardnet_show.formats import indented_json
 from boardnet_show.formats.manifest import of_text
 from boardnet_show.intake.package import Package
 from boardnet_show.judging import two_bounds
+from boardnet_show.output.sentences import made_first
 from tests.fixtures import common, made
+from tests.fixtures.common import SURE
 from tests.fixtures.made import draw, flash, gerber, label, manifest, netlist, record
 from tests.fixtures.pages import unpacked
 
@@ -52,11 +53,11 @@ board: differs, opens 1, shorts 1, missing 1
 board/n.ipc:5: open-0: R1 pin 2 (the one layer, 3.000, 5.000 mm) is not joined to J1 pin 2 (the one layer, 0.000, 5.000 mm), 3.000 mm away; \
 SIG is in 2 parts, here R1 pin 2, there J1 pin 2. Suggestion: their copper comes nearest, 2.000 mm, on the one layer (top.gbr) at 1.500, 5.000 mm.
 board/n.ipc:2: short-0: GND and VCC are joined, it seems on the one layer (top.gbr) at 5.000, 0.000 mm: GND has J1 pin 1 (the one layer, 0.000, 0.000 mm) and VCC has U1 pin 8 (the one layer, 10.000, 0.000 mm). \
-Suggestion: GND and VCC meet on the one layer (top.gbr) at 5.000, 0.000 mm; top.gbr command 13 is one piece that could be either's, between top.gbr command 7 and top.gbr command 8.
+Suggestion: GND and VCC meet on the one layer (top.gbr) at 5.000, 0.000 mm; top.gbr command 13 could belong to either, between top.gbr command 7 and top.gbr command 8.
 board/n.ipc:6: missing-0: no copper of top.gbr lies under </b> (the one layer, -0.500, 9.999 mm), of SIG.
 """
-READER = """\
-board: differs, opens 1, shorts 1, missing 1 (audit true)
+READER = f"""\
+FAIL board: 1 open, 1 short and 1 test point without copper. {SURE}
 SIG
   open-0: R1 pin 2 """
 MACRO = "%AMRound*\n1,1,1.0,0,0*%\n%ADD13Round*%\n"
@@ -126,12 +127,12 @@ class Answers(made.Case):
     def test_statuses(self):
         rows = [
             # what is changed, status, what the line has
-            ({}, 0, "board: agrees (audit true)"),
-            ({"m.json": "{"}, 3, "board: m.json: not JSON"),
-            ({"m.json": "{}"}, 3, "board: m.json: not a manifest"),
-            ({"top.gbr": "%FSLAX46Y46*%\n"}, 3, "board: top.gbr: Gerber 3 NotEnded at command 2"),
-            ({"m.json": manifest(["lost.gbr"])}, 4, "board: lost.gbr: cannot be read"),
-            ({"n.ipc": netlist()}, 12, "board: NOTHING WAS JUDGED: the netlist has no test point"),
+            ({}, 0, f"PASS board: copper and the netlist agree at all 4 test points. {SURE}"),
+            ({"m.json": "{"}, 3, "NOT JUDGED board: m.json is not JSON: "),
+            ({"m.json": "{}"}, 3, "NOT JUDGED board: m.json is not a manifest: "),
+            ({"top.gbr": "%FSLAX46Y46*%\n"}, 3, "NOT JUDGED board: top.gbr, line 2: the file ends too early: "),
+            ({"m.json": manifest(["lost.gbr"])}, 4, "NOT JUDGED board: lost.gbr is not there, or "),
+            ({"n.ipc": netlist()}, 12, "NOT JUDGED board: the netlist has no test point"),
         ]
         for number, (files, status, line) in enumerate(rows):
             with self.subTest(line=line):
@@ -143,7 +144,7 @@ class Answers(made.Case):
         self.board(GOOD)
         for status in (2, 3, 4, 5, 6):
             program = self.write(f"fails{status}", f"#!/bin/sh\necho 'boardnet: asked for' >&2\nexit {status}\n", 0o755)
-            self.assertEqual(self.show("board", program=program), (status, "board: asked for\n", ""))
+            self.assertEqual(self.show("board", program=program), (status, "NOT JUDGED board: asked for.\n", ""))
         program = self.write("dies", "#!/bin/sh\nkill -9 $$\n", 0o755)
         self.assertEqual(self.show("board", program=program)[0], 127)
         lies = self.write(
@@ -153,8 +154,7 @@ class Answers(made.Case):
         )
         status, out, _ = self.show("board", program=lies)
         self.assertEqual(
-            (status, out),
-            (12, "board: NOTHING WAS JUDGED: `audit` does not confirm the report of `check`: audit untrue 4\n"),
+            (status, out), (12, "NOT JUDGED board: `audit` does not confirm the report of `check`: audit untrue 4.\n")
         )
         broken = self.write("broken", "#!/bin/sh\necho 'boardnet 2'; echo 'boardnet: agrees' >&2\n", 0o755)
         self.assertEqual(self.show("board", program=broken)[0], 12)
@@ -175,14 +175,16 @@ class Answers(made.Case):
             self.assertEqual(
                 (status, out.startswith("boardnet show PATH.. [OPTION ..]\ntells what is wrong")), (0, True)
             )
-        self.assertEqual(self.show("nowhere")[:2], (4, "nowhere: cannot be read: No such file or directory\n"))
+        self.assertEqual(
+            self.show("nowhere")[:2], (4, "NOT JUDGED nowhere: cannot be read: No such file or directory.\n")
+        )
         os.makedirs(self.path("odd", "m.json"))
-        self.assertEqual(self.show("odd")[:2], (4, "odd: m.json: cannot be read: Is a directory\n"))
+        self.assertEqual(self.show("odd")[:2], (4, "NOT JUDGED odd: m.json: cannot be read: Is a directory.\n"))
         # Nothing is judged by another netlist than the one that is asked for.
         self.assertEqual(self.show("board", "--netlist", "n.ipc")[0], 0)
         self.assertEqual(
             self.show("board", "--netlist", "other.ipc")[:2],
-            (2, "board: --netlist other.ipc: m.json names n.ipc, so have it name the other\n"),
+            (2, "NOT JUDGED board: --netlist other.ipc: m.json names n.ipc, so have it name the other.\n"),
         )
 
     def test_folder_without_a_manifest(self):
@@ -194,7 +196,7 @@ class Answers(made.Case):
             (status, out),
             (
                 0,
-                "board: agrees (audit true)\nleft out, 1 of the folder's files: notes.txt: it is no Gerber, drill or IPC-D-356A file\n",
+                f"PASS board: copper and the netlist agree at all 4 test points. {SURE}\nleft out, 1 of the folder's files: notes.txt: it is no Gerber, drill or IPC-D-356A file\n",
             ),
         )
         self.assertEqual(sorted(os.listdir(self.path("board"))), ["n.ipc", "notes.txt", "top.gbr"])
@@ -225,17 +227,23 @@ class Answers(made.Case):
     def test_batch(self):
         for folder, files in (("good", GOOD), ("bad", BAD), ("refused", {**GOOD, "top.gbr": "%FSLAX46Y46*%\n"})):
             self.board(files, folder)
-        self.assertEqual(self.show("good", "good")[:2], (0, "good: agrees\ngood: agrees\n2 boards: 2 agree\n"))
+        right = f"PASS good: copper and the netlist agree at all 4 test points. {SURE}\n"
+        self.assertEqual(self.show("good", "good")[:2], (0, f"{right}{right}2 boards: 2 pass\n"))
+        self.assertEqual(self.show("good", "good", "-q")[:2], (0, "good: agrees\ngood: agrees\n2 boards: 2 agree\n"))
         status, out, _ = self.show("bad", "good", "--json", "all.json")
         self.assertEqual(
             (status, out),
-            (1, "bad: differs, opens 1, shorts 1, missing 1\ngood: agrees\n2 boards: 1 agrees, 1 differs\n"),
+            (
+                1,
+                f"FAIL bad: 1 open, 1 short and 1 test point without copper. {SURE}\n{right}"
+                "2 boards: 1 passes, 1 fails\n",
+            ),
         )
         self.assertEqual([board["status"] for board in json.loads(self.read("all.json"))["boards"]], [1, 0])
         status, out, _ = self.show("good", "bad", "refused", "nowhere")
         self.assertEqual(
             (status, len(out.splitlines()), out.splitlines()[-1]),
-            (3, 5, "4 boards: 1 agrees, 1 differs, 1 is refused, 1 is not judged"),
+            (3, 5, "4 boards: 1 passes, 1 fails, 2 are not judged"),
         )
 
     def test_macros_are_flattened(self):
@@ -243,7 +251,8 @@ class Answers(made.Case):
         self.board({**BAD, "top.gbr": gerber(*lines, *flash(10, (0, 5), (3, 5)))})
         status, out, _ = self.show("board", "--keep", "kept")
         self.assertEqual(status, 1)
-        self.assertIn("top.gbr has macros and was flattened", out)
+        self.assertIn("Judged on a copy of top.gbr, rewritten to say the same in simpler words.", out.split("\n")[0])
+        self.assertIn("1 note on rewritten files: --all prints it\n", out)
         self.assertIn("top.gbr command ", out)
         self.assertIn("%FSLAX47Y47*%", self.read("kept/top.gbr"))
         self.assertTrue(self.read("kept/report.txt").startswith("boardnet 2\n"))
@@ -251,32 +260,43 @@ class Answers(made.Case):
         self.assertIn("AMRound", self.read("board/top.gbr"))
         status, out, _ = self.show("board", STAND_IN_LACKS="flatten")
         self.assertEqual(
-            (status, out.startswith("board: differs, between two bounds: 3 findings certain\n")), (1, True)
+            (status, out.startswith("FAIL board: 3 faults are certain. Certain: the same for the least and the most ")),
+            (1, True),
         )
-        self.assertIn("top.gbr could not be flattened: words not understood\n", out)
+        out = self.show("board", "--all", "--explain", STAND_IN_LACKS="flatten")[1]
+        self.assertIn("aperture macros could not be written out: words not understood\n", out)
+        self.assertIn("explained: not flattened: words not understood\n", out)
         self.show("board", "--junit", "b.xml", "--rdb", "b.lyrdb", STAND_IN_LACKS="flatten")
         self.assertEqual(
             minidom.parseString(self.read("b.xml")).getElementsByTagName("testsuite")[0].getAttribute("failures"), "3"
         )
         self.assertEqual(len(minidom.parseString(self.read("b.lyrdb")).getElementsByTagName("item")), 3)
         self.board({**BAD, "top.gbr": gerber(*[line.replace("1,1,", "1,0,") for line in lines])}, "off")
-        self.assertIn("top.gbr could not be flattened: top.gbr: flatten 34 ExposureOff", self.show("off")[1])
+        out = self.show("off", "--all", "--explain")[1]
+        self.assertRegex(
+            out, r"macros could not be written out: top.gbr, command \d+: an aperture macro that takes copper away"
+        )
+        self.assertIn("explained: not flattened: top.gbr: flatten 34 ExposureOff at command ", out)
 
     def test_notes_of_many_files(self):
         """What is said of each of twelve layers is said once."""
         names = [f"l{k}.gbr" for k in range(12)]
-        told = list(one_board.flattened_notes(names, {name: f"{name}: flatten 34 ExposureOff" for name in names}))
         self.assertEqual(
-            told,
+            made_first.written_out(names),
             [
-                "l0.gbr, l1.gbr, l2.gbr, l3.gbr, l4.gbr, l5.gbr and 6 more have macros and were flattened, which --keep keeps; commands are those of the files that came",
-                "l0.gbr could not be flattened: l0.gbr: flatten 34 ExposureOff; nor could l1.gbr, l2.gbr, l3.gbr, l4.gbr, l5.gbr, l6.gbr and 5 more",
+                "l0.gbr, l1.gbr, l2.gbr, l3.gbr, l4.gbr, l5.gbr and 6 more: their aperture macros were written out as areas in a copy, which "
+                "--keep keeps"
             ],
         )
+        lines = {name: f"{name}: flatten 34 ExposureOff at command 3, byte 9" for name in names}
         self.assertEqual(
-            (list(one_board.flattened_notes([], {})), list(one_board.flattened_notes([], {"a": "why"}))),
-            ([], ["a could not be flattened: why"]),
+            list(made_first.not_written_out(lines)),
+            [
+                "aperture macros could not be written out: l0.gbr, command 3: an aperture macro that takes copper away (exposure off); nor could "
+                "those of l1.gbr, l2.gbr, l3.gbr, l4.gbr, l5.gbr, l6.gbr and 5 more"
+            ],
         )
+        self.assertEqual((made_first.written_out([]), list(made_first.not_written_out({}))), ([], []))
 
     def test_copper_that_is_not_known(self):
         """Where `flatten` fails, the report alone says what is wrong, with the files' labels."""
@@ -338,14 +358,21 @@ class Answers(made.Case):
             "NotEnded", minidom.parseString(self.read("r.xml")).getElementsByTagName("error")[0].getAttribute("message")
         )
         self.show(refused, "--rdb", "r.lyrdb")
-        self.assertIn("NotEnded", minidom.parseString(self.read("r.lyrdb")).getElementsByTagName("item")[0].toxml())
+        self.assertIn(
+            "the file ends too early: ",
+            minidom.parseString(self.read("r.lyrdb")).getElementsByTagName("item")[0].toxml(),
+        )
         # Where there is no such form, the standard error has the words.
         for name in ("--ipc", "--record", "--page", "--svg"):
             status, out, notes = self.show("nowhere", name, "-")
             self.assertEqual(
-                (status, out, notes.split("\n")[0]), (4, "", "nowhere: cannot be read: No such file or directory"), name
+                (status, out, notes.split("\n")[0]),
+                (4, "", "NOT JUDGED nowhere: cannot be read: No such file or directory."),
+                name,
             )
-        self.assertIn("<description>nowhere: cannot be read: No such file", self.show("nowhere", "--rdb", "-")[1])
+        self.assertIn(
+            "<description>NOT JUDGED nowhere: cannot be read: No such file", self.show("nowhere", "--rdb", "-")[1]
+        )
 
     def test_controls(self):
         """What hides or turns round text reaches no form as it is: of aliases, pins, file names, names of pads, ties."""

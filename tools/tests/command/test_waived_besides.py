@@ -6,6 +6,7 @@ from boardnet_show.extras.waived_gaps import MOST_PLACES, Close, covering
 from boardnet_show.findings.waivers import WITHIN
 from tests.extras.as_made.test_cuts import profile, unplated
 from tests.fixtures import made
+from tests.fixtures.common import counted
 from tests.fixtures.made import draw, flash, gerber, manifest, netlist, record, region
 
 PADS = flash(10, (0, 0), (20, 0), (0, 1.5), (20, 1.5))
@@ -64,8 +65,11 @@ class Gaps(Waived):
         for program in self.over_both():
             status, out, _ = self.waive(close(LOW, HIGH), "gap-0", words=("--gaps", "0.25"), program=program)
             self.assertEqual(
-                (status, out.splitlines()[:2]),
-                (0, ["board: agrees, with 1 waiver; 1 gap under 0.250 mm, waived (audit true)", out.splitlines()[1]]),
+                (status, counted(out)),
+                (
+                    0,
+                    "PASS board: copper and the netlist agree, but for what is signed for, with 1 waiver; 1 gap under 0.250 mm, waived",
+                ),
             )
             self.assertIn("gap-0 of A and B, waived by Ann on ", out.splitlines()[1])
         (waiver,) = json.loads(self.read("board/boardnet.json"))["waivers"]
@@ -129,7 +133,8 @@ class Gaps(Waived):
         wavy = lambda files: {**files, "top.gbr": files["top.gbr"].replace("M02*", "\n".join([*bent, "M02*"]))}
         words = ("--gaps", "0.25")
         status, out, notes = self.waive(wavy(close(LOW, HIGH)), "gap-0", words=words)
-        self.assertEqual((status, ", with 1 waiver, between two bounds" in out), (0, True), (out, notes))
+        is_between = "Of the netlist certain: the same for the least and the most " in out
+        self.assertEqual((status, ", with 1 waiver; " in out, is_between), (0, True, True), (out, notes))
         self.assertEqual(self.after(wavy(close(LOW, HIGH)), *words), (0, 1, 0, []))
         self.assertEqual(self.after(wavy(close(LOW, HIGH, *FAR)), *words), (1, 0, 1, ["gap-0"]))
 
@@ -137,7 +142,7 @@ class Gaps(Waived):
         """Without the option the waiver is neither of a finding nor stale, and is written again."""
         self.waive(close(LOW, HIGH), "gap-0", words=("--gaps", "0.25"))
         status, out, _ = self.show("board", "--write-declarations", "again.json")
-        self.assertEqual((status, out.splitlines()[0]), (0, "board: agrees (audit true)"))
+        self.assertEqual((status, counted(out)), (0, "PASS board: copper and the netlist agree"))
         self.assertIn("1 waiver of what was not looked for: the gap of A and B", out)
         self.assertEqual(self.read("again.json"), self.read("board/boardnet.json"))
 
@@ -176,8 +181,11 @@ class Necks(Waived):
         for program in self.over_both():
             status, out, _ = self.waive(waist(5), "neck-0", words=self.WORDS, program=program)
             self.assertEqual(
-                (status, out.splitlines()[0]),
-                (0, "board: agrees, with 1 waiver; 1 neck under 0.600 mm, waived (audit true)"),
+                (status, counted(out)),
+                (
+                    0,
+                    "PASS board: copper and the netlist agree, but for what is signed for, with 1 waiver; 1 neck under 0.600 mm, waived",
+                ),
             )
         (waiver,) = json.loads(self.read("board/boardnet.json"))["waivers"]
         self.assertEqual((len(waiver["places"]), waiver["parts"]), (1, 2))
@@ -236,8 +244,11 @@ class AsMade(Waived):
         for program in self.over_both():
             status, out, _ = self.waive(self.cut(5.0), "cut-0", program=program)
             self.assertEqual(
-                (status, out.splitlines()[0]),
-                (0, "board: agrees, with 1 waiver; as it is made, 1 cut, waived (audit true)"),
+                (status, counted(out)),
+                (
+                    0,
+                    "PASS board: copper and the netlist agree, but for what is signed for, with 1 waiver; as it is made, 1 cut, waived",
+                ),
             )
         self.rows(
             [

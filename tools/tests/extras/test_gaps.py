@@ -12,6 +12,7 @@ from boardnet_show.geometry.box_tree import Tree
 from boardnet_show.geometry.distances import from_line, of_lines
 from boardnet_show.geometry.segments import box_of_line
 from tests.fixtures import made
+from tests.fixtures.common import SURE
 from tests.fixtures.made import draw, flash, gerber, manifest, netlist, record, region
 
 # Discs of 1 mm at 0 and 1.3: 0.3 mm apart; a square of 1 mm at (0, 1.25): 0.25 mm above the first disc.
@@ -85,7 +86,7 @@ class Gaps(made.Case):
         self.assertEqual(status, 1)
         self.assertTrue(
             out.startswith(
-                "board: agrees; 1 gap under 0.300 mm (audit true)\ngaps: two nets on a layer whose copper is closer than 0.300 mm; exactly that is no "
+                f"FAIL board: 1 gap under 0.300 mm; copper and the netlist agree at all 2 test points. Of the netlist certain{SURE[7:]}\ngaps: two nets on a layer whose copper is closer than 0.300 mm; exactly that is no "
                 "gap here. The program's `gaps` lists what is at most that far apart: 2 pairs, of which 1 that are exactly so far\n"
             ),
             out,
@@ -133,9 +134,7 @@ class Gaps(made.Case):
         marked = minidom.parse(self.path("r.xml")).getElementsByTagName("item")
         self.assertEqual([it.getElementsByTagName("category")[0].firstChild.data for it in marked], ["gap", "gap"])
         page = self.read("p.html")
-        self.assertIn(
-            "Agrees; 2 gaps under 0.400 mm. The copper joins exactly the points that the netlist joins.", page
-        )
+        self.assertIn("FAIL: 2 gaps under 0.400 mm; copper and the netlist agree at all ", page)
         self.assertIn('<li id="gap-1">', page)
         self.assertIn("<desc>A and B are 0.300 mm apart on bottom", self.read("s.svg"))
 
@@ -178,7 +177,7 @@ class Gaps(made.Case):
             [(1, 0), (-1, 0)],
             "0.9",
             [[0], [1]],
-            "A and copper that the lower bound leaves out are joined, or apart, perhaps by nothing, on ",
+            "A and copper that is not sure are joined, or apart, perhaps by nothing, on ",
         ),
         (
             [*THIN, *flash(10, (1, 0), (-1, 0))],
@@ -193,7 +192,7 @@ class Gaps(made.Case):
             [(0, 2), (0, 2)],
             "0.51",
             [[0]],
-            "A and copper that the lower bound leaves out are at least 0.499",
+            "A and copper that is not sure are at least 0.499",
         ),
         ([*THIN, *flash(10, (0, 2))], [(0, 2), (0, 2)], "0.49", [], ""),
     ]
@@ -260,7 +259,7 @@ class Gaps(made.Case):
         self.board(CLOSE)
         status, out, _ = self.show("board", "--gaps", "0.1", STAND_IN_LACKS="gaps")
         self.assertEqual(status, 12)
-        self.assertIn("gaps are not known: `gaps` says: words not understood\n", out)
+        self.assertIn("INCOMPLETE board: gaps are not known: `gaps` says: words not understood; ", out)
 
 
 class Distances(unittest.TestCase):

@@ -133,7 +133,7 @@ class Records(made.Case):
                 self.assertTrue(any(words in line for line in lines), lines)
         self.write("r.json", json.dumps({**agreed, "program": {"version": "0"}, "date": "then"}))
         status, lines = self.verified()
-        self.assertEqual((status, lines[2][:50]), (0, "the record of then is by another program: now vers"))
+        self.assertEqual((status, lines[1][:50]), (0, "the record of then is by another program: now vers"))
 
     def test_another_file(self):
         self.recorded(MACRO)
@@ -171,7 +171,7 @@ class Records(made.Case):
             for form in ([], ["-q"]):
                 status, out, _ = self.show("board", "--verify", "r.json" if text is not None else "none.json", *form)
                 self.assertEqual(status, 12)
-                self.assertRegex(out, rf"(?m)^board: .*; not verified: .*{words}")
+                self.assertRegex(out, rf"(?m)^(INCOMPLETE board: |board: .*; )not verified: .*{words}")
 
     def test_archive_and_pages(self):
         """Of an archive the sums are those of its members; the page has the record, also where no picture is drawn."""
@@ -183,4 +183,4 @@ class Records(made.Case):
         self.assertIn(f"<td>top.gbr</td><td>copper</td><td>{sum_of(BOARD['top.gbr'])}</td>", self.read("p.html"))
         self.board(BOUNDED)
         self.show("board", "--record", "r.json", "--page", "q.html")
-        self.assertIn("<th>lower bound</th>", self.read("q.html"))
+        self.assertIn("<th>the least copper that it can mean</th>", self.read("q.html"))

@@ -62,7 +62,9 @@ class Came(made.Case):
         for program in self.over_both():
             files = shorted(macros(program), *PADS, *TRACKS)
             status, told, notes = self.told(files, program=program)
-            self.assertEqual((status, any("was flattened" in it for it in told["notes"])), (1, True), notes)
+            self.assertEqual(
+                (status, any("aperture macros were written out" in it for it in told["notes"])), (1, True), notes
+            )
             track = command_of(files["top.gbr"], "X10000000Y2000000D01")
             pieces, words = self.pieces(told)
             self.assertIn(track, [it["command"] for it in pieces])

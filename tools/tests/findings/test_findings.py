@@ -82,7 +82,7 @@ class Faults(made.Case):
             (meet["names"], self.place(meet), [p["command"] for p in meet["between"]]), (["A", "B"], (0, 2.5, 1), [21])
         )
         self.assertEqual([p["of"] for p in meet["path"]], ["A", None, "B"])
-        self.assertIn("top.gbr command 21 is one piece that could be either's", it["hints"][0])
+        self.assertIn("top.gbr command 21 could belong to either", it["hints"][0])
         self.assertEqual(it["labelled"], False)
 
     def test_track_that_touches_a_pad(self):

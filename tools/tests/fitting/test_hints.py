@@ -45,30 +45,25 @@ class Hints(Case):
                         words,
                     )
                     self.assertTrue(
-                        words[0].startswith("with the netlist ") and words[0].endswith(", `check` says: agrees"), words
+                        words[0].startswith("with the netlist ") and words[0].endswith(", the board passes"), words
                     )
         status, words, _ = self.told(with_netlist(files_of(), placement.FORMS[0][1], (12345, -678)))
-        self.assertEqual((status, words), (1, ["with the netlist moved by (-12.345, 0.678) mm, `check` says: agrees"]))
+        self.assertEqual((status, words), (1, ["with the netlist moved by (-12.345, 0.678) mm, the board passes"]))
         status, words, _ = self.told(with_netlist(files_of(), placement.FORMS[1][1], (0, 0)))
-        self.assertEqual((status, words), (1, ["with the netlist mirrored left to right, `check` says: agrees"]))
+        self.assertEqual((status, words), (1, ["with the netlist mirrored left to right, the board passes"]))
 
     def test_unit(self):
         for program in self.over_both():
             self.assertEqual(
                 self.told(files_of(unit="0"), program)[:2],
-                (1, ["with the netlist read in the other unit (0.001 mm), `check` says: agrees"]),
+                (1, ["with the netlist read in the other unit (0.001 mm), the board passes"]),
             )
 
     def test_unit_and_place(self):
         status, words, _ = self.told(with_netlist(files_of(unit="0"), placement.FORMS[0][1], (500, 40)))
         self.assertEqual(
             (status, words),
-            (
-                1,
-                [
-                    "with the netlist read in the other unit (0.001 mm), moved by (-0.500, -0.040) mm, `check` says: agrees"
-                ],
-            ),
+            (1, ["with the netlist read in the other unit (0.001 mm), moved by (-0.500, -0.040) mm, the board passes"]),
         )
 
     def test_layers(self):
@@ -81,7 +76,7 @@ class Hints(Case):
                 (
                     1,
                     [
-                        "with the layers in the order a.gbr, b.gbr (where surface points have a pad of their own), `check` says: agrees"
+                        "with the layers in the order a.gbr, b.gbr (where surface points have a pad of their own), the board passes"
                     ],
                 ),
             )
@@ -96,7 +91,7 @@ class Hints(Case):
             if program != STAND_IN:
                 self.assertEqual(
                     self.told(files, program)[:2],
-                    (3, ["with the layers in the order a.gbr, b.gbr, as the files say, `check` says: agrees"]),
+                    (3, ["with the layers in the order a.gbr, b.gbr, as the files say, the board passes"]),
                 )
         package = self.package(files)
         ((change, told),) = layer_order.as_labelled(package)
@@ -138,7 +133,7 @@ class Hints(Case):
                 1,
                 [
                     "with the layers in the order a.gbr, c.gbr, d.gbr, b.gbr (where surface points have a pad of their own; "
-                    "the netlist cannot tell the order of the inner layers), `check` says: agrees"
+                    "the netlist cannot tell the order of the inner layers), the board passes"
                 ],
             ),
         )
@@ -148,10 +143,10 @@ class Hints(Case):
         files["m.json"] = files["m.json"].replace('["a.gbr", "b.gbr"]', '["b.gbr", "a.gbr"]')
         status, words, _ = self.told(files)
         self.assertEqual((status, len(words)), (1, 2), words)
-        self.assertIn("moved by (-12.345, 0.678) mm, `check` says: differs", words[0])
+        self.assertIn("moved by (-12.345, 0.678) mm, the board fails: ", words[0])
         self.assertTrue(
             words[1].startswith("besides, with the layers in the order a.gbr, b.gbr")
-            and words[1].endswith("`check` says: agrees"),
+            and words[1].endswith("the board passes"),
             words,
         )
 
@@ -170,7 +165,7 @@ class Hints(Case):
             self.assertEqual((status, [it.kind for it in found]), (1, ["no placement"]), words)
             self.assertRegex(
                 words[0],
-                r"^no placement fits: .* leaves \d+ of 36 test points without copper; .* Of the best `check` says: differs, opens ",
+                r"^no placement fits: .* leaves \d+ of 36 test points without copper; .* Of the best the board fails: \d+ opens",
             )
 
     def test_a_program_that_fails(self):
@@ -185,7 +180,7 @@ class Hints(Case):
             self.write(f"board/{name}", text)
         status, out, _ = self.show("board")
         self.assertEqual(status, 1)
-        self.assertIn("hint: with the netlist turned by half, `check` says: agrees\n", out)
+        self.assertIn("hint: with the netlist turned by half, the board passes\n", out)
 
 
 class Decimals(Case):
@@ -204,11 +199,11 @@ class Decimals(Case):
                 self.assertEqual((status, found[0].kind), (3, "decimals"))
                 self.assertTrue(
                     words[0].startswith(
-                        f"with {decimals} implied decimals in p.drl (leading zeros left out or none; 15 of 15 holes on a through point), `check` says: "
+                        f"with {decimals} implied decimals in p.drl (leading zeros left out or none; 15 of 15 holes on a through point), the board "
                     ),
                     words,
                 )
-            self.assertTrue(words[0].endswith("`check` says: agrees"), words)
+            self.assertTrue(words[0].endswith("the board passes"), words)
 
     def test_leading_zeros_left_out(self):
         for program in self.programs():
@@ -222,7 +217,7 @@ class Decimals(Case):
                 word
                 for word in words
                 if "3 digits before the point in p.drl (trailing zeros left out" in word
-                and word.endswith("`check` says: agrees")
+                and word.endswith("the board passes")
             ]
             self.assertEqual((status, len(wanted)), (3, 1), words)
 
@@ -293,7 +288,7 @@ class Outside(Case):
         for program in [self.write("strict", STRICT, 0o755), *self.over_both()][::2]:
             status, words, _ = self.told(files, program)
             self.assertEqual(status, 3)
-            self.assertRegex(words[0], "^with 3 implied decimals in p.drl .*, `check` says of both bounds: agrees, ")
+            self.assertRegex(words[0], "^with 3 implied decimals in p.drl .*, the board passes$")
 
     def test_copper_outside_the_profile(self):
         """A board that only bounds can answer, with a netlist that is moved."""
@@ -303,10 +298,7 @@ class Outside(Case):
         for program in self.over_both():
             status, words, found = self.told(files, program)
             self.assertEqual((status, len(found), found[0].answer.status), (3, 1, 0), words)
-            self.assertEqual(
-                words[0],
-                "with the netlist moved by (-5.000, 0.000) mm, `check` says of both bounds: agrees, between two bounds",
-            )
+            self.assertEqual(words[0], "with the netlist moved by (-5.000, 0.000) mm, the board passes")
 
 
 class Parts(unittest.TestCase):

@@ -36,15 +36,13 @@ class Drills(Case):
     def test_moved(self):
         for program in self.over_both():
             status, words, found = self.told(with_drills(files_of(), 0, BY), program)
-            self.assertEqual(
-                (status, words), (1, ["with the drills moved by (-3.500, 2.250) mm, `check` says: agrees"])
-            )
+            self.assertEqual((status, words), (1, ["with the drills moved by (-3.500, 2.250) mm, the board passes"]))
             self.assertEqual((found[0].kind, found[0].answer.status, found[0].explains), ("drills", 0, True))
 
     def test_mirrored(self):
         for turn, words in ((2, "mirrored upside down"), (1, "mirrored left to right, moved by (3.500, 2.250) mm")):
             status, told, _ = self.told(with_drills(files_of(), turn, BY if turn == 1 else (0, 0)))
-            self.assertEqual((status, told), (1, [f"with the drills {words}, `check` says: agrees"]))
+            self.assertEqual((status, told), (1, [f"with the drills {words}, the board passes"]))
 
     def test_setting(self):
         """The setting of the tool that wrote the drill file; of another tool none is known."""
@@ -66,22 +64,18 @@ class Drills(Case):
         for program in self.over_both():
             for name in ("p.drl", "q.drl"):
                 words = self.told(with_drills(two_drill_files(), 0, BY, [name]), program)[1]
-                self.assertEqual(
-                    words, [f"with the drill file {name} moved by (-3.500, 2.250) mm, `check` says: agrees"]
-                )
+                self.assertEqual(words, [f"with the drill file {name} moved by (-3.500, 2.250) mm, the board passes"])
 
     def test_two_files(self):
         """Both by the same, and each by its own."""
         files = two_drill_files(24)
         self.assertEqual(
             self.told(with_drills(files, 0, BY, ["p.drl", "q.drl"]))[1],
-            ["with the drills moved by (-3.500, 2.250) mm, `check` says: agrees"],
+            ["with the drills moved by (-3.500, 2.250) mm, the board passes"],
         )
         words = self.told(with_drills(with_drills(files, 0, BY, ["p.drl"]), 0, (-70_000_000, 0), ["q.drl"]))[1]
         self.assertEqual(len(words), 2, words)
-        self.assertTrue(
-            words[1].startswith("besides, with the ") and words[1].endswith(" mm, `check` says: agrees"), words
-        )
+        self.assertTrue(words[1].startswith("besides, with the ") and words[1].endswith(" mm, the board passes"), words)
 
     def test_lost_holes(self):
         """Holes that are missing are no holes that are moved."""
@@ -103,7 +97,7 @@ class Drills(Case):
                 files["n.ipc"] = placement.moved(files["n.ipc"], FORMS[turn], by)
                 # The netlist is moved with the drills, so the copper would be moved as they were.
                 told = words.replace("-3.500, 2.250", "3.500, -2.250")
-                self.assertEqual(self.told(files, program)[:2], (1, [f"with the copper {told}, `check` says: agrees"]))
+                self.assertEqual(self.told(files, program)[:2], (1, [f"with the copper {told}, the board passes"]))
 
     def test_all_three(self):
         """Netlist, drills and copper each from an origin of its own."""
@@ -113,7 +107,7 @@ class Drills(Case):
         self.assertEqual(
             [word.split(" moved by")[0] for word in words], ["with the netlist", "besides, with the drills"], words
         )
-        self.assertTrue(words[1].endswith("`check` says: agrees"))
+        self.assertTrue(words[1].endswith("the board passes"))
 
     def test_no_suggestion(self):
         """A hint that explains most findings stands alone, also beside a track that is lost; the lost track alone has its suggestion."""
@@ -167,7 +161,7 @@ class Codes(Case):
     def test_buried_vias(self):
         wanted = (
             "with the access code of 1 record read as the first layer of the hole at their place (through records, 317, whose hole does not reach "
-            "the layer of their code; KiCad writes such codes for buried vias), `check` says: agrees"
+            "the layer of their code; KiCad writes such codes for buried vias), the board passes"
         )
         for program in self.over_both():
             self.assertEqual(self.told(buried(), program)[:2], (1, [wanted]))
@@ -199,7 +193,7 @@ class Codes(Case):
                     1,
                     [
                         "with the access codes of 5 records read as the bottom, 04 (surface records, 327, of layer 02, and no part's pad is on an "
-                        "inner layer; pcb-rnd writes 02 for every bottom), `check` says: agrees"
+                        "inner layer; pcb-rnd writes 02 for every bottom), the board passes"
                     ],
                 ),
             )
@@ -213,7 +207,7 @@ class Codes(Case):
         status, words, found = self.told(buried("09"), program)
         self.assertEqual((status, len(words), found[0].kind), (3, 1, "access codes"))
         self.assertIn("read as the first layer of the hole at their place", words[0])
-        self.assertTrue(words[0].endswith("`check` says: agrees"), words)
+        self.assertTrue(words[0].endswith("the board passes"), words)
         elsewhere = {**buried("09"), "b.drl": made.drill((11.0, 0.0))}
         self.assertEqual(self.told(elsewhere, program)[:2], (3, []))
 

@@ -2,6 +2,7 @@
 import json
 
 from tests.fixtures import made
+from tests.fixtures.common import SURE
 from tests.fixtures.made import draw, flash, gerber, label, manifest, netlist, record
 
 TOP = gerber(*label("SIG"), *flash(10, (0, 0), (10, 0)))
@@ -32,13 +33,16 @@ BOARD = {
     "n.ipc": POINTS,
 }
 
+COPY = "Judged on a copy of p.drl, rewritten to say the same in simpler words."
+ANSWER = f"PASS board: copper and the netlist agree at all 4 test points. {SURE} {COPY}"
+
 
 class Answers(made.Case):
     def test_agrees(self):
         for program in self.over_both():
             self.board(BOARD)
-            status, out, _ = self.show("board", program=program)
-            self.assertEqual((status, out), (0, f"board: agrees, after 1 mend (audit true)\nmended: {TOLD}\n"))
+            status, out, _ = self.show("board", "--all", program=program)
+            self.assertEqual((status, out), (0, f"{ANSWER}\nmended: {TOLD}\n"))
             told = json.loads(self.show("board", "--json", "-", program=program)[1])["boards"][0]
             self.assertEqual((told["line"], told["audit"]), ("agrees, after 1 mend", "audit true"))
             self.assertEqual(told["mends"], [{"file": "p.drl", "line": 3, "kind": "plating", "words": TOLD}])
@@ -50,10 +54,7 @@ class Answers(made.Case):
         for program in self.over_both():
             _, out, _ = self.show("board", "--page", "p.html", "--record", "r.json", program=program)
             page = self.read("p.html")
-            self.assertIn(
-                '<p class="verdict">Agrees, after 1 mend. The copper joins exactly the points that the netlist joins.</p>',
-                page,
-            )
+            self.assertIn(f'<p class="verdict">{ANSWER.replace(" board", "")}</p>', page)
             self.assertIn(
                 "The report was audited: it is true of these files, with copies in place of p.drl (mended). ", page
             )
@@ -65,7 +66,7 @@ class Answers(made.Case):
         self.board({**BOARD, "p.drl": DRILL.replace("MixedPlating", "Plated").replace("T2\nX5.0Y5.0\n", "")})
         self.show("board", "--page", "p.html")
         self.assertTrue(
-            '<p class="verdict">Agrees. The copper joins ' in self.read("p.html")
+            '<p class="verdict">PASS: copper and the netlist agree at all 4 test points. ' in self.read("p.html")
             and "it is true of these files. " in self.read("p.html")
         )
 
@@ -81,10 +82,7 @@ class Answers(made.Case):
             }
         )
         status, out, _ = self.show("board")
-        self.assertEqual(
-            (status, out.splitlines()[0]),
-            (1, "board: differs, opens 1, shorts 0, missing 0, after 1 mend (audit true)"),
-        )
+        self.assertEqual((status, out.splitlines()[0]), (1, f"FAIL board: 1 open. {SURE} {COPY}"))
 
     def test_nothing_to_mend(self):
         files = {**BOARD, "p.drl": DRILL.replace("MixedPlating", "Plated").replace("T2\nX5.0Y5.0\n", "")}
@@ -110,7 +108,8 @@ class Answers(made.Case):
         """Copper outside the profile beside a mend: the answer says both."""
         arc = TRACK.replace("D11*", "G75*\nD11*").replace("X10000000Y0D01", "G03X10000000Y0I5000000J0D01")
         self.board({**BOARD, "bot.gbr": arc})
-        status, out, _ = self.show("board")
+        self.assertIn(COPY, self.show("board")[1].splitlines()[0])
+        status, out, _ = self.show("board", "-q")
         self.assertEqual((status, out.splitlines()[0]), (0, "board: agrees, between two bounds, after 1 mend"))
 
     def test_refused(self):
@@ -138,7 +137,7 @@ class Answers(made.Case):
         ]
         for files, words in rows:
             self.board({**BOARD, **files})
-            status, out, _ = self.show("board", program=made.built())
+            status, out, _ = self.show("board", "-q", program=made.built())
             self.assertEqual(status, 3)
             self.assertIn(words, out.splitlines()[0])
 
@@ -155,17 +154,16 @@ class Answers(made.Case):
                 ((apart, 1, "differs, opens 1, shorts 0, missing 0"), (joined, 0, "agrees"))
             ):
                 self.board({"m.json": manifest(), "top.gbr": text, "n.ipc": points}, f"row{number}")
-                done, out, _ = self.show(f"row{number}", program=program)
-                self.assertEqual(
-                    (done, out.splitlines()[:2]), (status, [f"row{number}: {line}, after 1 mend (audit true)", told])
-                )
+                done, out, _ = self.show(f"row{number}", "-q", program=program)
+                self.assertEqual((done, out.splitlines()[0]), (status, f"row{number}: {line}, after 1 mend"))
+                self.assertIn(told, self.show(f"row{number}", "--all", program=program)[1].splitlines())
             self.assertIn("the whole name is in 2 parts", self.show("row0", program=program)[1])
         self.write("row0/n.ipc", points.replace("NNAME2  the", "NNAME1  the other"))
         self.assertEqual(
             self.show("row0")[:2],
             (
                 3,
-                "row0: n.ipc: NNAME1 stands for two names: have each name stand for one net, and each net have one name\n",
+                "NOT JUDGED row0: n.ipc: NNAME1 stands for two names: have each name stand for one net, and each net have one name.\n",
             ),
         )
 

@@ -430,7 +430,7 @@ class Asked(made.Case):
             ("AB", decided("differs", joined.replace("6000000 B", "7000000 B"))),
             ("AB", decided("differs", NONE, joined)),
         ):
-            with self.assertRaisesRegex(Stop, "NOTHING WAS JUDGED: `between` "):
+            with self.assertRaisesRegex(Stop, "^`between` "):
                 self.told(
                     Recorder(answer),
                     self.BENT,
@@ -497,7 +497,7 @@ class Asked(made.Case):
             (near, decided("undecided", NONE, bare.replace(" A", " B"))),
             (near, decided("undecided", NONE, bare.replace("1100", "1200"))),
         ):
-            with self.subTest(answer.out), self.assertRaisesRegex(Stop, "NOTHING WAS JUDGED: `between` "):
+            with self.subTest(answer.out), self.assertRaisesRegex(Stop, "^`between` "):
                 self.told(Recorder(answer), HALF, records)
 
     def test_ties(self):
@@ -521,7 +521,7 @@ class Asked(made.Case):
             decided("undecided", NONE, joined),
             decided("differs", joined.replace(" C", " E")),
         ):
-            with self.subTest(answer.out), self.assertRaisesRegex(Stop, "NOTHING WAS JUDGED: `between` "):
+            with self.subTest(answer.out), self.assertRaisesRegex(Stop, "^`between` "):
                 self.told(Recorder(answer), HALF, records, ties=ties)
 
     def test_a_bound_that_is_not_taken(self):
@@ -931,7 +931,7 @@ class Taken(made.Case):
             },
             name,
         )
-        status, out, notes = self.show(name, program=program)
+        status, out, notes = self.show(name, "-q", program=program)
         return status, re.split(", after|\n", out)[0].split(":")[1], notes
 
     def try_rows(self, rows, before=()):
@@ -972,7 +972,7 @@ class Taken(made.Case):
             self.board(
                 {"m.json": manifest(), "top.gbr": "\n".join([*HEAD, *lines, "M02*", ""]), "n.ipc": netlist(A, B)}
             )
-            _, out, _ = self.show("board", program=program)
+            _, out, _ = self.show("board", "-q", program=program)
             self.assertEqual(("between two bounds" in out, "proved" in out), (True, False), out)
 
 

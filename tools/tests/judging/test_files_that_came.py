@@ -114,7 +114,7 @@ class Asked(made.Case):
             self.agrees.out.replace(b"opens 0", b"opens 1"),
             b"",
         ):
-            with self.assertRaisesRegex(Stop, "NOTHING WAS JUDGED: `between` "):
+            with self.assertRaisesRegex(Stop, "^`between` "):
                 self.told(Listening(Answer(0, text, "")))
 
 

@@ -6,6 +6,7 @@ from xml.dom import minidom
 
 from boardnet_show.judging import net_ties
 from tests.fixtures import made
+from tests.fixtures.common import SURE
 from tests.fixtures.made import draw, flash, label, manifest, netlist, record
 
 # GND and AGND are joined by the two pads of NT1; VCC stands alone.
@@ -59,7 +60,7 @@ class Ties(made.Case):
 
     def test_declared(self):
         """By the command and by the file: nothing is found, and what was confirmed is said."""
-        line = "board: agrees, with 1 declared tie; the report itself says: differs, opens 0, shorts 1, missing 0 (audit true)\n"
+        line = f"PASS board: copper and the netlist agree at all 5 test points, with 1 declared tie. {SURE}\n"
         for program in self.over_both():
             for words, text, source in (
                 (["--tie", "GND=AGND"], None, "--tie"),
@@ -81,13 +82,15 @@ class Ties(made.Case):
             status, out, board = self.tied(SHORT, words=["--tie", "GND=AGND"], program=program)
             self.assertEqual((status, board["shorts"], len(board["findings"])), (1, 1, 1))
             found = board["findings"][0]
-            self.assertTrue(found["words"].startswith("GND=AGND and VCC are joined, it seems on the one layer (top.gbr) at 2.000, 0.000 mm: "), found["words"])
+            self.assertTrue(
+                found["words"].startswith(
+                    "GND=AGND and VCC are joined, it seems on the one layer (top.gbr) at 2.000, 0.000 mm: "
+                ),
+                found["words"],
+            )
             self.assertEqual([it["names"] for it in found["meets"]], [["AGND=GND", "VCC"]])
             self.assertNotIn("--tie", " ".join(found["hints"]))
-            self.assertIn(
-                "differs, opens 0, shorts 1, missing 0, open ties 0, with 1 declared tie; the report itself says: differs, opens 0, shorts 1, missing 0",
-                out,
-            )
+            self.assertIn("FAIL board: 1 short, with 1 declared tie. ", out)
             # The place lies on the track from VCC, not between the pads of NT1.
             self.assertLess(found["meets"][0]["x"], 3)
 
@@ -139,7 +142,7 @@ class Ties(made.Case):
                 found["words"].startswith("GND and VCC are declared to be tied (--tie) and no copper joins them: "),
                 found["words"],
             )
-            self.assertIn("differs, opens 0, shorts 0, missing 0, open ties 1, with 1 declared tie; ", out)
+            self.assertIn("FAIL board: 1 declared tie that no copper makes, with 1 declared tie. ", out)
             self.assertEqual(sorted(self.failures()), ["GND", "VCC"])
         for name in ("--page", "--svg"):
             self.assertEqual(self.show("board", "--tie", "GND=VCC", name, "out")[0], 1)
@@ -171,7 +174,9 @@ class Ties(made.Case):
     def test_pins_without_net(self):
         """A pin without net on tied copper is another's."""
         board = self.tied(points=[*POINTS, record("N/C", "U1.4", 5, 0)], words=["--tie", "GND=AGND"])[2]
-        self.assertTrue(board["findings"][0]["words"].startswith("GND=AGND and a pin without net (N/C) are joined, it seems on "))
+        self.assertTrue(
+            board["findings"][0]["words"].startswith("GND=AGND and a pin without net (N/C) are joined, it seems on ")
+        )
 
     def test_batch(self):
         self.tied()
@@ -183,10 +188,10 @@ class Ties(made.Case):
             (
                 0,
                 "".join(
-                    f"{name}: agrees, with 1 declared tie; the report itself says: differs, opens 0, shorts 1, missing 0\n"
+                    f"PASS {name}: copper and the netlist agree at all 5 test points, with 1 declared tie. {SURE}\n"
                     for name in ("board", "other")
                 )
-                + "2 boards: 2 agree\n",
+                + "2 boards: 2 pass\n",
             ),
         )
 
@@ -195,8 +200,7 @@ class Ties(made.Case):
         self.tied()
         self.assertEqual(self.show("board", "--tie", "GND=AGND", "--page", "p.html", "--rdb", "p.lyrdb")[0], 0)
         self.assertIn(
-            "Agrees, with 1 declared tie; the report itself says: differs, opens 0, shorts 1, missing 0. The copper joins exactly the points that the netlist joins or the ties do.",
-            self.read("p.html"),
+            f"PASS: copper and the netlist agree at all 5 test points, with 1 declared tie. {SURE}", self.read("p.html")
         )
         self.assertEqual(len(minidom.parseString(self.read("p.lyrdb")).getElementsByTagName("item")), 0)
 
@@ -210,14 +214,24 @@ class Ties(made.Case):
         arc = [*COPPER, "X20000000Y20000000D02*", "G75*", "G03X21000000Y21000000I0J1000000D01*", "G01*"]
         for program in self.over_both():
             for words, status, line in (
-                (["GND=AGND"], 0, "agrees, with 1 declared tie, between two bounds\n"),
-                (["GND=VCC"], 1, "differs, with 0 declared ties, between two bounds"),
-                (["GND=AGND", "GND=VCC"], 1, "differs, with 1 declared tie, between two bounds: 1 finding certain"),
+                (
+                    ["GND=AGND"],
+                    0,
+                    "PASS board: copper and the netlist agree at all 5 test points, with 1 declared tie. Certain: the same for the least and the most ",
+                ),
+                (
+                    ["GND=VCC"],
+                    1,
+                    "FAIL board: 2 faults are certain, with 0 declared ties. Certain: the same for the least and the most ",
+                ),
+                (
+                    ["GND=AGND", "GND=VCC"],
+                    1,
+                    "FAIL board: 1 fault is certain, with 1 declared tie. Certain: the same for ",
+                ),
             ):
                 told = self.tied(arc, words=[each for name in words for each in ("--tie", name)], program=program)
-                self.assertEqual(
-                    (told[0], told[1].replace(", proved", "").startswith(f"board: {line}")), (status, True), told[1]
-                )
+                self.assertEqual((told[0], told[1].startswith(line)), (status, True), told[1])
             told = self.tied(arc, words=["--tie", "GND=AGND", "--tie", "GND=AGMD"], program=program)
             self.assertEqual(
                 (told[0], "the tie GND=AGMD (--tie) is open: no test point has the name AGMD" in told[1]),

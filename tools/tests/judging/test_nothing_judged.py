@@ -9,25 +9,37 @@ class Unjudged(made.Case):
     def test_statuses(self):
         rows = [
             # records, status, what the line has
-            ([], 12, "NOTHING WAS JUDGED: the netlist has no test point"),
+            ([], 12, "NOT JUDGED {}: the netlist has no test point"),
             (
                 [record("N/C", "J1.1", 0, 0), record("N/C", "J1.2", 10, 0), record("", "J1.3", 0, 5)],
                 12,
-                "NOTHING WAS JUDGED: all test points (3) are without net (N/C), ",
+                "NOT JUDGED {}: all test points (3) are without net (N/C), ",
             ),
-            ([record("A", "J1.1", 0, 0)], 12, "NOTHING WAS JUDGED: there is one test point alone, of A, "),
+            ([record("A", "J1.1", 0, 0)], 12, "NOT JUDGED {}: there is one test point alone, of A, "),
             # Two points of one name may be parted, two of other names joined; so may one without net.
-            ([record("A", "J1.1", 0, 0), record("A", "J1.2", 10, 0)], 0, "agrees"),
-            ([record("A", "J1.1", 0, 0), record("B", "J1.3", 0, 5)], 0, "agrees"),
-            ([record("A", "J1.1", 0, 0), record("N/C", "J1.3", 0, 5)], 0, "agrees"),
+            (
+                [record("A", "J1.1", 0, 0), record("A", "J1.2", 10, 0)],
+                0,
+                "PASS {}: copper and the netlist agree at all 2 ",
+            ),
+            (
+                [record("A", "J1.1", 0, 0), record("B", "J1.3", 0, 5)],
+                0,
+                "PASS {}: copper and the netlist agree at all 2 ",
+            ),
+            (
+                [record("A", "J1.1", 0, 0), record("N/C", "J1.3", 0, 5)],
+                0,
+                "PASS {}: copper and the netlist agree at all 2 ",
+            ),
             # A point without copper is a fault all the same.
-            ([record("N/C", "J1.1", 0, 0), record("N/C", "J1.2", 3, 3)], 1, "differs, opens 0, shorts 0, missing 1"),
+            ([record("N/C", "J1.1", 0, 0), record("N/C", "J1.2", 3, 3)], 1, "FAIL {}: 1 test point without copper. "),
         ]
         for program in self.over_both():
             for number, (records, status, line) in enumerate(rows):
                 self.board({"m.json": manifest(), "top.gbr": COPPER, "n.ipc": netlist(*records)}, f"row{number}")
                 told = self.show(f"row{number}", program=program)
-                self.assertEqual((told[0], told[1].startswith(f"row{number}: {line}")), (status, True), told)
+                self.assertEqual((told[0], told[1].startswith(line.format(f"row{number}"))), (status, True), told)
 
     def test_own_names(self):
         """The same for the names of the copper."""
@@ -38,9 +50,7 @@ class Unjudged(made.Case):
         self.board({"top.gbr": gerber(*lines)})
         status, out, _ = self.show("board")
         self.assertEqual(
-            (status, out.startswith("board: NOTHING WAS JUDGED: all test points (2) are without net (N/C)")),
-            (12, True),
-            out,
+            (status, out.startswith("NOT JUDGED board: all test points (2) are without net (N/C)")), (12, True), out
         )
 
     def test_joined_pins(self):

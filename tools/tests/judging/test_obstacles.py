@@ -23,7 +23,7 @@ class Obstacles(common.Case):
         for name, text in files.items():
             self.write(os.path.join(folder, name), text)
         show = os.path.join(common.TOOLS, "show")
-        status, out, notes = self.run_words([show, folder], environment={"BOARDNET": common.program()})
+        status, out, notes = self.run_words([show, folder, "-q"], environment={"BOARDNET": common.program()})
         return status, (out + notes).split("\n")[0].split(": ", 1)[1]
 
     def test_what_stops_a_board_comes_first(self):

@@ -654,7 +654,7 @@ class Trials(Checkout):
         )
         lines, refused = (
             notes.splitlines(),
-            f"board: {FIRST}t.gbr: Gerber 4 BadWord at command 1, byte 0; line 1 of t.gbr",
+            f"{FIRST}NOT JUDGED board: t.gbr, line 1: a command that cannot be read: ",
         )
         self.assertEqual(
             lines[0], "boardnet: board: 1 copper files (t.gbr), 0 drill files, netlist n.ipc with 1 test records"

@@ -283,9 +283,9 @@ class Launcher(common.Case):
 
     def test_show_runs_the_program(self):
         status, out, _ = self.launch("show", "there", BOARDNET="")
-        self.assertEqual((status, "NOTHING WAS JUDGED: a line of the report is missing or broken" in out), (12, True))
+        self.assertEqual((status, "NOT JUDGED there: a line of the report is missing or broken" in out), (12, True))
         status, out, _ = self.launch("show", "there", BOARDNET="", STAND_IN_STATUS="6")
-        self.assertEqual((status, out), (6, "there: asked for\n"))
+        self.assertEqual((status, out), (6, "NOT JUDGED there: asked for.\n"))
 
     def test_tools_want_python(self):
         tools = self.path("bin")

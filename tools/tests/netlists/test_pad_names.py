@@ -7,10 +7,11 @@ from boardnet_show.formats import ipc356 as read
 from boardnet_show.geometry.pieces import Area, Capsule
 from boardnet_show.netlists import pad_names, pad_places, pin_names
 from tests.fixtures import made
+from tests.fixtures.common import SURE
 from tests.fixtures.made import draw, drill, flash, gerber, label, manifest, netlist, record, region
 
 LONG = "Net-(R1-Pad2) of sheet 2"
-FIRST = "by the copper's own names, so that only opens and shorts against those are known: "
+FIRST = "there is no netlist, so the names of its own pads alone are asked: "
 
 
 def pin(component, number, name, *rest):
@@ -71,7 +72,10 @@ class Labels(made.Case):
     def test_agrees(self):
         for program in self.over_both():
             status, out, board = self.told(FILES, program=program)
-            self.assertEqual((status, out.splitlines()[0]), (0, f"board: {FIRST}agrees (audit true)"))
+            self.assertEqual(
+                (status, out.splitlines()[0]),
+                (0, f"PASS board: {FIRST}copper and their own names agree at all 6 test points. {SURE}"),
+            )
             self.assertEqual((board["points"], board["own_names"], board["netlist"]), (6, True, "names.ipc"))
             self.assertIn("names: 6 test points of 3 nets by the attributes of top.gbr and bot.gbr ", out)
         self.assertEqual(sorted(os.listdir(self.path("board"))), sorted(FILES))
@@ -79,7 +83,10 @@ class Labels(made.Case):
     def test_kept(self):
         """The kept package says the same again, and names pins and nets whole."""
         self.told(FILES, "--keep", "kept")
-        self.assertEqual(self.show("kept")[:2], (0, f"kept: {FIRST}agrees (audit true)\n"))
+        self.assertEqual(
+            self.show("kept")[:2],
+            (0, f"PASS kept: {FIRST}copper and their own names agree at all 6 test points. {SURE}\n"),
+        )
         self.assertEqual(
             sorted(os.listdir(self.path("kept"))), ["bot.gbr", "m.json", "names.ipc", "p.drl", "report.txt", "top.gbr"]
         )
@@ -99,7 +106,7 @@ class Labels(made.Case):
         joined = {**FILES, "bot.gbr": layer(2, "Bot", *BOTTOM, *draw(11, (5, 0), (5, 5)))}
         for program in self.over_both():
             status, out, board = self.told(cut, program=program)
-            self.assertEqual((status, out.startswith(f"board: {FIRST}differs, opens 1")), (1, True), out)
+            self.assertEqual((status, out.startswith(f"FAIL board: {FIRST}1 open. ")), (1, True), out)
             self.assertEqual(board["findings"][0]["names"], [LONG])
             self.assertIn("J1000001 pin GATE1 (top, 10.000, 5.000 mm) is not joined to R1 pin 2", out)
             status, out, board = self.told(joined, program=program)
@@ -131,11 +138,7 @@ class Labels(made.Case):
                 }
             )
             status, out, _ = self.show("board", "--no-drills", program=made.built())
-            self.assertEqual(
-                (status, out.splitlines()[0]),
-                (1, f"board: {FIRST}differs, opens 0, shorts 1, missing 0 (audit true)"),
-                (one, other),
-            )
+            self.assertEqual((status, out.splitlines()[0]), (1, f"FAIL board: {FIRST}1 short. {SURE}"), (one, other))
 
     def test_a_character_by_its_number(self):
         """A name that spells a character by its number is the name that has it: two pads of it that stand apart are an open."""
@@ -166,9 +169,7 @@ class Labels(made.Case):
             {"top.gbr": layer(1, "Top", *lines), "bot.gbr": layer(2, "Bot", *pin("U2", "1", "VCC"), *flash(10, (9, 9)))}
         )
         status, out, _ = self.show("board", "--no-drills", program=made.built())
-        self.assertEqual(
-            (status, out.splitlines()[0]), (1, f"board: {FIRST}differs, opens 1, shorts 0, missing 0 (audit true)")
-        )
+        self.assertEqual((status, out.splitlines()[0]), (1, f"FAIL board: {FIRST}1 open. {SURE}"))
 
     def test_no_holes(self):
         """Pins on several layers and no drill file: refused, unless it is said that there is none."""
@@ -210,7 +211,16 @@ class Labels(made.Case):
         ]
         for program in self.over_both():
             status, out, board = self.told({"one.gbr": layer(1, "Top", *lines)}, program=program)
-            self.assertEqual((status, out.startswith(f"board: {FIRST}agrees, between two bounds\n")), (0, True), out)
+            self.assertEqual(
+                (
+                    status,
+                    out.startswith(
+                        f"PASS board: {FIRST}copper and their own names agree at all 3 test points. Certain: the same for the least and the most "
+                    ),
+                ),
+                (0, True),
+                out,
+            )
             self.assertEqual((board["points"], "its copper" in out), (3, False), out)
 
     def test_blocks_and_modal_flashes(self):
@@ -341,28 +351,16 @@ class Labels(made.Case):
 
     def test_several_nets(self):
         """A pad of several nets is a point of each and declares their tie: what is lost of either is told."""
-        tied = "with 1 declared tie; the report itself says: "
+        tied, agree = ", with 1 declared tie", "copper and their own names agree at all 4 test points"
         both, one = draw(11, (0, 0), (10, 0)), draw(11, (0, 0), (5, 0))
         rows = [
-            ("GND,AGND", both, "AGND", 0, f"agrees, {tied}differs, opens 0, shorts 1, missing 0"),
-            (
-                "GND,AGND",
-                one,
-                "AGND",
-                1,
-                f"differs, opens 1, shorts 0, missing 0, open ties 0, {tied}differs, opens 1, shorts 1, missing 0",
-            ),
-            ("GND,AGND", one, "VCC", 0, f"agrees, {tied}differs, opens 0, shorts 1, missing 0"),
-            (
-                "GND,AGND",
-                both,
-                "VCC",
-                1,
-                f"differs, opens 0, shorts 1, missing 0, open ties 0, {tied}differs, opens 0, shorts 1, missing 0",
-            ),
-            ("GND", both, "AGND", 1, "differs, opens 0, shorts 1, missing 0"),
-            ("GND,GND,", one, "AGND", 0, "agrees"),
-            ("N/C,GND", one, "AGND", 0, "agrees"),
+            ("GND,AGND", both, "AGND", 0, f"{agree}{tied}"),
+            ("GND,AGND", one, "AGND", 1, f"1 open{tied}"),
+            ("GND,AGND", one, "VCC", 0, f"{agree}{tied}"),
+            ("GND,AGND", both, "VCC", 1, f"1 short{tied}"),
+            ("GND", both, "AGND", 1, "1 short"),
+            ("GND,GND,", one, "AGND", 0, "copper and their own names agree at all 3 test points"),
+            ("N/C,GND", one, "AGND", 0, "copper and their own names agree at all 3 test points"),
         ]
         for program in self.over_both():
             for names, track, other, status, line in rows:
@@ -377,7 +375,10 @@ class Labels(made.Case):
                     *track,
                 ]
                 told, out, board = self.told({"one.gbr": layer(1, "Top", *lines)}, program=program)
-                self.assertEqual((told, out.splitlines()[0]), (status, f"board: {FIRST}{line} (audit true)"))
+                self.assertEqual(
+                    (told, out.splitlines()[0]),
+                    (status, f"{'FAIL' if status else 'PASS'} board: {FIRST}{line}. {SURE}"),
+                )
                 self.assertEqual(
                     [(it["names"], it["source"]) for it in board["ties"]],
                     [(["GND", "AGND"], "one.gbr, NT1 pin 1 (the one layer)")] * (names == "GND,AGND"),
@@ -413,7 +414,14 @@ class Labels(made.Case):
             status, out, board = self.told(
                 {"one.gbr": layer(1, "Top", *lines)}, "--keep", f"kept{program == made.STAND_IN}", program=program
             )
-            self.assertEqual((status, out.startswith(f"board: {FIRST}agrees (audit true)\n")), (0, True), out)
+            self.assertEqual(
+                (
+                    status,
+                    out.startswith(f"PASS board: {FIRST}copper and their own names agree at all ") and SURE in out,
+                ),
+                (0, True),
+                out,
+            )
         self.assertEqual(
             [it.x for it in read.records(self.read("keptTrue/names.ipc").encode())], [8_000_000, 108_000_000]
         )
@@ -444,18 +452,27 @@ class Labels(made.Case):
                 status, out, board = self.told(
                     {**FILES, "n.ipc": netlist(*records)}, "--labels", program=program, folder=f"row{number}"
                 )
-                self.assertEqual((status, out.startswith(f"row{number}: {FIRST}agrees")), (0, True), out)
+                self.assertEqual(
+                    (status, out.startswith(f"PASS row{number}: {FIRST}copper and their own names agree at ")),
+                    (0, True),
+                    out,
+                )
                 self.assertEqual([note for note in board["notes"] if note.startswith("the netlist")], wanted)
 
     def test_in_a_manifest(self):
         files = {**FILES, "n.ipc": netlist(*POINTS[:4]), "m.json": manifest(["top.gbr", "bot.gbr"], [("p.drl", 1, 2)])}
-        self.assertEqual(self.told(files)[1], "board: agrees (audit true)\n")
+        self.assertEqual(
+            self.told(files)[1], f"PASS board: copper and the netlist agree at all 5 test points. {SURE}\n"
+        )
         self.assertIn("it has no record of U1 pin 2", self.told(files, "--labels")[1])
         os.remove(self.path("board/n.ipc"))
         status, out, _ = self.show("board", "--labels")
         self.assertEqual((status, "the netlist n.ipc cannot be read" in out), (0, True))
         os.remove(self.path("board/bot.gbr"))
-        self.assertEqual(self.show("board", "--labels")[:2], (4, "board: bot.gbr: cannot be read\n"))
+        self.assertEqual(
+            self.show("board", "--labels")[:2],
+            (4, "NOT JUDGED board: bot.gbr is not there, or the system does not let it be read.\n"),
+        )
 
 
 class Pairs(unittest.TestCase):

@@ -1,5 +1,6 @@
 """Names that a netlist cuts and respells, told whole by the copper's own labels."""
 import json
+import re
 import unittest
 
 from boardnet_show.formats import ipc356
@@ -155,7 +156,9 @@ class Told(made.Case):
         self.assertEqual(self.show("board")[0], 1)
         for tie in (f"{SHORT}=GND", f"{LONG}=GND", f"{LONG}=gnd", f"gnd={SHORT}"):
             status, out, _ = self.show("board", "--tie", tie)
-            self.assertEqual((status, out.startswith("board: agrees, with 1 declared tie")), (0, True), (tie, out))
+            self.assertEqual(
+                (status, bool(re.match(r"PASS board: .* points, with 1 declared tie\. ", out))), (0, True), (tie, out)
+            )
         self.board({**self.files(**{"top.gbr": joined}), "ties.txt": f"{SHORT}=GND\n"})
         self.assertEqual(self.show("board")[0], 0)
         self.assertEqual(self.show("board", "--tie", f"{SHORT}=VCC")[0], 1)

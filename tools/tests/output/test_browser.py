@@ -326,10 +326,12 @@ class InABrowser(common.Case):
         """The board with so many notes, a flood and many findings."""
         shown = pages.many(self.shown, 400)
         notes = [
-            f"file {k}.gbr has macros and was flattened, which --keep keeps; commands are those of the file that came"
+            f"file {k}.gbr is not sure in a way that takes a note of some length, which is told here once more"
             for k in range(count)
         ]
-        long = mock.patch.object(page, "flood_words", return_value="397 of 400 test points lie beside the copper. " * 20)
+        long = mock.patch.object(
+            page, "flood_words", return_value="397 of 400 test points lie beside the copper. " * 20
+        )
         long.start()
         self.addCleanup(long.stop)
         return shown._replace(seen=shown.seen._replace(notes=notes, flood=Flood(397, 400)))

@@ -38,7 +38,7 @@ class Recipes(made.Case):
 
     def test_makefile(self):
         status, out, notes = self.run_make("two_layer")
-        self.assertEqual((status, "fab: agrees" in out), (0, True), out + notes)
+        self.assertEqual((status, "PASS " in out), (0, True), out + notes)
         asked = self.read("work/asked.txt").splitlines()
         self.assertEqual(
             [line.split()[:3] for line in asked], [["pcb", "export", what] for what in ("gerbers", "drill", "ipcd356")]
@@ -76,7 +76,7 @@ class Forms(made.Case):
         os.makedirs(self.path("::a,b%:"))
         status, out, _ = self.shown("::a,b%:", "--format", "github")
         self.assertEqual(status, 10)
-        self.assertTrue(out.startswith("::error title=board::::a,b%25:: "), out)
+        self.assertTrue(out.startswith("::error title=board::NOT JUDGED ::a,b%25:: "), out)
         self.assertTrue(
             all(line.startswith(("::error title=", "::notice title=boardnet::")) for line in out.splitlines()), out
         )

@@ -62,7 +62,7 @@ class Files(made.Case):
             (IDS, IDS),
         )
         self.assertEqual(head["findings"][1]["sides"], ["GND", "VCC"])
-        self.assertIn("Differs, opens 1, shorts 1, missing 1", text)
+        self.assertIn("FAIL: 1 open, 1 short and 1 test point without copper. ", text)
         self.assertEqual(
             self.show("board", "--svg", "f.svg", "--at", "open-7")[::2],
             (2, "boardnet: --at open-7: there is no such finding\n"),

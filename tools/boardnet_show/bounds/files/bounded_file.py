@@ -113,7 +113,7 @@ class Copper(Settings, Definitions, Operations, Regions, Machine):
 
     def lose(self, what: str) -> None:
         """What LOWER leaves out, or what a clear object does not take away from UPPER."""
-        what = what if self.is_dark else f"what {what} takes away, which the upper bound has,"
+        what = what if self.is_dark else f"what {what} takes away, as far as that is not sure,"
         self.lost.append(f"{what} at command {self.number}")
 
     def polarity(self, is_dark: bool) -> None:

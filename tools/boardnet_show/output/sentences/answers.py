@@ -1,4 +1,5 @@
-"""An answer in words: its first word, what stands behind it, and what was made or looked for besides."""
+"""An answer in the words of the program and of the rules, in one line: what `-q`, JSON and a record have, and `--explain`
+tells. `verdicts` says the same for people."""
 from typing import Iterable, List
 
 from boardnet_show.base.refusals import Refusal
@@ -7,6 +8,7 @@ from boardnet_show.base.wording import counted, spoken
 from boardnet_show.judging.answers import BETWEEN, Answer, Both, Counts
 
 OWN_NAMES = "by the copper's own names, so that only opens and shorts against those are known: "
+NOTHING = "NOTHING WAS JUDGED: "
 TRIAL = "NOT PROVED YET (trial build): "
 WORDS = {0: "agrees", 1: "differs", UNDECIDED: "undecided"}
 
@@ -55,7 +57,7 @@ def bare_line(answer: Answer) -> str:
         return f"{WORDS[answer.status]}{conditions(answer)}, between two bounds{proved}{found_words(answer.both)}"
     if answer.counts:
         return f"{counts_words(answer.counts, answer.ties is not None)}{conditions(answer)}; the report itself says: {answer.said}"
-    return answer.said + conditions(answer)
+    return (NOTHING if answer.status == UNJUDGED else "") + answer.said + conditions(answer)
 
 
 def files_words(answer: Answer) -> str:
@@ -73,7 +75,9 @@ def behind_words(refusal: Refusal) -> str:
 
 def line(answer: Answer) -> str:
     """The answer on the netlist."""
-    text = bare_line(answer) + (f"; no bounds: {answer.no_bounds}" if answer.no_bounds else "")
+    text = "; ".join([bare_line(answer), *answer.rows]) + (
+        f"; no bounds: {answer.no_bounds}" if answer.no_bounds else ""
+    )
     if answer.mends and answer.status != UNJUDGED:
         text += f", after {counted(answer.mends, 'mend')}{files_words(answer)}"
     if answer.advice.line and answer.refusal:

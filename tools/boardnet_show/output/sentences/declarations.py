@@ -10,6 +10,7 @@ from boardnet_show.fitting.declared_changes import Declaration
 from boardnet_show.intake.package import Drilled, Taken
 
 from . import changes
+from .findings import heading
 
 
 def what_words(declared: Declaration) -> str:
@@ -41,7 +42,7 @@ def signed(waiver: Waiver) -> str:
 
 def waived_words(waived: Waived) -> str:
     finding = waived.finding
-    return f"{doubt(finding)}{finding.id} of {finding.name}, {signed(waived.waiver)}"
+    return f"{doubt(finding)}{finding.id} of {heading(finding)}, {signed(waived.waiver)}"
 
 
 def stale_words(waiver: Waiver) -> str:

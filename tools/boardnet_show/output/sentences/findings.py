@@ -28,8 +28,8 @@ from boardnet_show.formats.ipc356 import NO_NET
 
 # What stands before a clue, by why it is told.
 LEADS = {SUGGESTED: "Suggestion: ", LABELLED: "By the files' labels: ", KNOWN: ""}
-LEFT_OUT = "copper that the lower bound leaves out"
-ABOVE_ALONE = "on the upper board alone"
+LEFT_OUT = "copper that is not sure"
+ABOVE_ALONE = "only if the copper is the most that the files can mean"
 # As many are told of a list.
 FEW, FEW_NAMES, FEW_TOUCHES, FEW_SOURCES = 4, 2, 3, 8
 
@@ -254,11 +254,9 @@ def meets_at(fact: facts.MeetsAt) -> str:
     first, second = map(source_words, fact.ends)
     if not fact.between:
         return f"{first} of {one} touches {second} of {other} on {copper_words(fact.place)}."
-    many = fact.pieces
-    are = "is one piece" if many == 1 else f"are {many} pieces" if len(fact.between) > 1 else f"makes {many} pieces"
     ends = f", between {first} and {second}" if first != second else ""
     sources = spoken(map(source_words, fact.between), FEW)
-    return f"{one} and {other} meet on {copper_words(fact.place)}; {sources} {are} that could be either's{ends}."
+    return f"{one} and {other} meet on {copper_words(fact.place)}; {sources} could belong to either{ends}."
 
 
 def more_places(fact: facts.MorePlaces) -> str:
@@ -330,7 +328,7 @@ def sentence(finding: Finding) -> str:
 def flood_words(flood: facts.Flood) -> str:
     """What is told where most points have no copper, so that what follows has one cause."""
     return (
-        f"{flood.bare} of {flood.points} test points lie beside the copper. Such a flood has one cause: the netlist and the "
+        f"{flood.bare} of {flood.points} test points lie beside the copper. That has one cause: the netlist and the "
         "copper count from other origins or in other units, layers are in another order, or the netlist is of another "
         "board. See to that first."
     )

@@ -1,17 +1,19 @@
 """Hints in words: what was changed, and what `check` says of that copy."""
 from boardnet_show.fitting.changes import NowherePlaced
 from boardnet_show.fitting.hints import Hint, Rival
-from boardnet_show.judging.answers import BETWEEN, Answer
+from boardnet_show.judging.answers import STOPPED, Answer
 
-from . import changes
-from .answers import bare_line
+from . import answers, changes, verdicts
+
+SAYS = {0: "the board passes", 1: "the board fails", 11: "the board is undecided"}
 
 
 def answer_words(answer: Answer) -> str:
-    """What is said of a copy."""
-    whose = " of both bounds" if answer.kind == BETWEEN else ""
-    return f"`check` says{whose}: {bare_line(answer)}" + (
-        f"; no bounds: {answer.no_bounds}" if answer.no_bounds else ""
+    """What is said of a copy that was tried."""
+    if answer.kind == STOPPED or answer.status not in SAYS:
+        return f"the board is not judged: {verdicts.counted_words(answer, 0, ()).rstrip('.')}"
+    return SAYS[answer.status] + (
+        f": {verdicts.on_netlist(answer, 0)}" if answer.status else answers.conditions(answer)
     )
 
 

@@ -192,7 +192,7 @@ def other_placed(note: notes.OtherPlaced) -> str:
 def likened_line(note: notes.Likened) -> str:
     rows = ((note.parted, "parted net"), (note.joined, "joined net"), (note.missing, "missing pad"))
     counts = ", ".join(counted(count, word) for count, word in rows if count)
-    line = counts or f"joins what {'it' if note.is_whole else 'its lower bound'} joins"
+    line = counts or f"joins what {'it' if note.is_whole else 'its sure copper'} joins"
     return line + (f"; not compared: {note.untouched}" if note.untouched else "")
 
 

@@ -12,7 +12,7 @@ from boardnet_show.netlists.tester_records import Netlist, Row
 from .findings import source_words, spot_words
 
 FEW = 6  # nets and pads that are named in a line
-LOWER = "it is of the lower of two bounds: what that leaves out has no record"
+LOWER = "it is of the least copper that the files can mean: what else they may mean has no record"
 
 
 def pad_words(place: Place) -> str:
@@ -124,5 +124,5 @@ def lines(tester: Tester) -> List[str]:
     told = [f"{first}; {confirmed_words(tester.below)}", *rest]
     if tester.above:
         meaning = "so the board itself agrees" if tester.is_whole else "so some of its nets may be one on the board"
-        told += [LOWER, f"on the upper bound {confirmed_words(tester.above)}, {meaning}"]
+        told += [LOWER, f"on the most copper that the files can mean {confirmed_words(tester.above)}, {meaning}"]
     return told

@@ -4,6 +4,7 @@ import random
 
 from tests.extras.as_made.raster import CELL, Raster, cell_of
 from tests.fixtures import made
+from tests.fixtures.common import SURE
 from tests.fixtures.made import draw, drill, flash, gerber, manifest, netlist, record, region
 
 # A track of 0.2 mm from a disc of 1 mm at 0 to one at 10 mm.
@@ -76,7 +77,7 @@ class AsMade(made.Case):
             (
                 1,
                 [
-                    "board: agrees; as it is made, 1 cut (audit true)",
+                    f"FAIL board: as it is made, 1 cut; copper and the netlist agree at all 2 test points. Of the netlist certain{SURE[7:]}",
                     "A",
                     "  cut-0: " + PARTED.format(y="0.000", line=7),
                 ],
