@@ -98,7 +98,7 @@ def sentences() -> List[Tuple[str, str]]:
     rows = []
     for room in ROOMS:
         with open(os.path.join(HOME, *room.split("."), "__init__.py"), encoding="utf-8") as file:
-            rows.append((room, ast.get_docstring(ast.parse(file.read())) or ""))
+            rows.append((room, " ".join((ast.get_docstring(ast.parse(file.read())) or "").split())))
     return rows
 
 

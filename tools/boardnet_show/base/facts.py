@@ -1,4 +1,5 @@
-"""What is found on a board and where to look, as values: one type for each sentence, of which `output.sentences.findings` makes the words.
+"""What is found on a board and where to look, as values: one type for each sentence, of which
+`output.sentences.findings` makes the words.
 
 They speak of test points, places of copper and what made a piece.
 """
@@ -10,7 +11,8 @@ Place = Tuple[int, int, int]
 
 
 class Pin(NamedTuple):
-    """A test point by its part and pin, else by its record, which is 0 where the part names it; `is_via` where that is one."""
+    """A test point by its part and pin, else by its record, which is 0 where the part names it; `is_via` where that is
+    one."""
 
     component: str = ""
     pin: str = ""
@@ -42,8 +44,8 @@ class CopperAt(NamedTuple):
 
 
 class Source(NamedTuple):
-    """Which command of the file that came, or which line of a drill file, made a piece, 0 where that is not known; and which copy of it, from 1
-    where it is repeated."""
+    """Which command of the file that came, or which line of a drill file, made a piece, 0 where that is not known; and
+    which copy of it, from 1 where it is repeated."""
 
     file: str
     number: int
@@ -122,8 +124,8 @@ class UnnamedJoined(NamedTuple):
 
 
 class NotJoined(NamedTuple):
-    """Two parts of a name by their nearest points, how far these are apart in u where that is known, how many parts there are, and the pins
-    of both."""
+    """Two parts of a name by their nearest points, how far these are apart in u where that is known, how many parts
+    there are, and the pins of both."""
 
     here: PointAt
     there: PointAt
@@ -170,7 +172,8 @@ class HoleAt(NamedTuple):
 
 
 class PartedWhenMade(NamedTuple):
-    """Points that the made board parts, or one that loses its copper, and what takes it away: holes, and None for the board's edge."""
+    """Points that the made board parts, or one that loses its copper, and what takes it away: holes, and None for the
+    board's edge."""
 
     cutters: Tuple[Optional[HoleAt], ...]
     name: str
@@ -258,7 +261,8 @@ class AllLabelled(NamedTuple):
 
 
 class MeetsAt(NamedTuple):
-    """Where two names meet: what made the copper of each, what made that which could be either's, and how many pieces that is."""
+    """Where two names meet: what made the copper of each, what made that which could be either's, and how many pieces
+    that is."""
 
     names: Tuple[str, str]
     ends: Tuple[Source, Source]

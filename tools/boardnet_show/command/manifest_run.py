@@ -4,14 +4,15 @@
 
 Copper layers are known by their attribute TF.FileFunction,Copper,L<n>, plated drill files by the comment
 TF.FileFunction,Plated,<from>,<to>, the netlist by its IPC-D-356A records. Copper and drill files without attributes are
-taken by other evidence (Layer_Physical_Order, %LN, their names, ;TYPE=), which is told; it counts only with --yes. Every other file is left out,
-and the script says why. It writes no manifest, and ends with 1, where the board would not be whole. An archive's files go to
-a folder of its name beside it, also then.
+taken by other evidence (Layer_Physical_Order, %LN, their names, ;TYPE=), which is told; it counts only with --yes.
+Every other file is left out, and the script says why. It writes no manifest, and ends with 1, where the board would not
+be whole. An archive's files go to a folder of its name beside it, also then.
 
   --netlist FILE  the netlist, where the folder has several
   --yes           what is taken by other evidence than attributes is right
   --no-drills     the board has no plated hole, although the netlist has records of through holes
-  --mend          writes mended copies beside files that `check` would refuse and that say otherwise what is meant, and a manifest of these
+  --mend          writes mended copies beside files that `check` would refuse and that say otherwise what is meant,
+                  and a manifest of these
 """
 import argparse
 import os
@@ -69,18 +70,21 @@ def write(asked):
         say(f"{'taken' if asked.yes else 'would be taken'} as {what}: {shown(name)}: {why}")
     if plan.guessed and not asked.yes:
         raise Refused(
-            "the attributes do not say all of this: if it is right, say --yes; else export Gerber X2 and XNC files with attributes, or write m.json by hand"
+            "the attributes do not say all of this: if it is right, say --yes; else export Gerber X2 and XNC files with"
+            " attributes, or write m.json by hand"
         )
     plan.manifest = mended(folder, plan.manifest, asked)
     path = os.path.join(folder, "m.json")
     writing.write(path, plan.manifest_text())
     if not plan.has_points:
         say(
-            f"manifest: {plan.netlist} HAS NO TEST POINTS (no 317 and no 327 record): `check` will judge nothing and agree"
+            f"manifest: {plan.netlist} HAS NO TEST POINTS (no 317 and no 327 record): `check` will judge nothing and"
+            " agree"
         )
     manifest = plan.manifest
     print(
-        f"{shown(path)}: {len(manifest['copper'])} copper, {len(manifest['drills'])} drill files, netlist {manifest['netlist']}"
+        f"{shown(path)}: {len(manifest['copper'])} copper, {len(manifest['drills'])} drill files, netlist"
+        f" {manifest['netlist']}"
     )
 
 
@@ -109,7 +113,8 @@ def mended(folder, manifest, asked):
         writing.write(os.path.join(folder, copies[name]), made[name])
     if copies and not asked.mend:
         say(
-            "manifest: `boardnet show` makes these mends; `boardnet manifest FOLDER --mend` writes mended copies, which `check` takes"
+            "manifest: `boardnet show` makes these mends; `boardnet manifest FOLDER --mend` writes mended copies, which"
+            " `check` takes"
         )
     return mends.renamed(manifest, copies)
 

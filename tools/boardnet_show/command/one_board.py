@@ -317,7 +317,7 @@ def show(path, asked, program, scratch):
 
 def shown_once(path, asked, program, scratch, taken):
     """The same by hints that are taken."""
-    shown = blank = Shown(path, Explained(title_of(path), answers.Answer(0, answers.EXACT, "")))
+    shown = nothing_yet(path)
     try:
         os.makedirs(scratch)
         read = declarations_of(path, asked, taken)
@@ -350,9 +350,16 @@ def shown_once(path, asked, program, scratch, taken):
     except BrokenPipeError:
         raise
     except Exception as fault:
-        stop = fault_of(path, fault)
-        shown = blank if stop.status == FAULT else shown
-        shown = shown._replace(
-            seen=shown.seen._replace(answer=answers.stopped(stop)), requested=shown.requested._replace(besides=())
-        )
+        shown = stopped(fault_of(path, fault), shown)
     return shown
+
+
+def nothing_yet(path: str) -> Shown:
+    return Shown(path, Explained(title_of(path), answers.Answer(0, answers.EXACT, "")))
+
+
+def stopped(stop: Stop, shown: Shown) -> Shown:
+    """What is told where something ended it: of a fault nothing that was known before."""
+    shown = nothing_yet(shown.path) if stop.status == FAULT else shown
+    seen = shown.seen._replace(answer=answers.stopped(stop))
+    return shown._replace(seen=seen, requested=shown.requested._replace(besides=()))

@@ -1,7 +1,7 @@
 """A board against another one: the other one's netlist for a tester, checked on this board, with places on both.
 
-The netlist is that of `tester`. Where this board is a moved, turned or mirrored copy, or a panel of it, the origin is found as for
-hints, and what is told is what `check` says of the moved netlist.
+The netlist is that of `tester`. Where this board is a moved, turned or mirrored copy, or a panel of it, the origin is
+found as for hints, and what is told is what `check` says of the moved netlist.
 """
 import os
 from typing import NamedTuple, Optional, Sequence
@@ -132,7 +132,8 @@ def difference(board, other, finding):
 
 
 def differences(program, shapes, answer, made, other_text):
-    """What the check of the other one's netlist finds. `shapes` are those of this board, or of the lower one of two, where they are known."""
+    """What the check of the other one's netlist finds. `shapes` are those of this board, or of the lower one of two,
+    where they are known."""
     after = ipc356.records(answer.package.read(answer.package.manifest.netlist))
     other, bounded = Other(made, Move(ipc356.records(other_text), after)), answer.package.between
     told, sources = (bounded[1], bounded[0].sides[0]) if bounded else (answer, {})

@@ -53,8 +53,8 @@ class Nets:
 
 
 def finding(nets, number, spacing, apart=None, sure=None, others=()):
-    """Two nets on a layer that are too close, and the pins near the place. Between bounds a net and a piece that the lower board lacks are
-    None, with the piece's source among the `others`."""
+    """Two nets on a layer that are too close, and the pins near the place. Between bounds a net and a piece that the
+    lower board lacks are None, with the piece's source among the `others`."""
     board, known = nets.board, [net for net in spacing.nets if net is not None]
     sources = [others[k] if piece is None else board.source(piece) for k, piece in enumerate(spacing.pieces)]
     pins = [point for point in (nets.near(net, spacing.place) for net in known) if point is not None]

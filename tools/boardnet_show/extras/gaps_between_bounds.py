@@ -1,9 +1,9 @@
 """Nets that are too close on a board between two: the gaps that are certain, and those that may be.
 
-The board's copper lies in the upper board's and holds the lower one's. Nets that are too close below and on two nets above are too
-close for certain. Nets that are farther apart above are not. What one net above holds may be several on the board: lower nets, and
-copper that the lower board leaves out. It is joined or apart, by as little as may be, so each two such parts that come too close
-above are told as possible gaps.
+The board's copper lies in the upper board's and holds the lower one's. Nets that are too close below and on two nets
+above are too close for certain. Nets that are farther apart above are not. What one net above holds may be several on
+the board: lower nets, and copper that the lower board leaves out. It is joined or apart, by as little as may be, so
+each two such parts that come too close above are told as possible gaps.
 """
 from collections import defaultdict
 
@@ -40,7 +40,8 @@ class Layers:
 
 
 class Parts:
-    """What each net of the upper board is made of: nets of the lower one, by their numbers, and commands that it leaves out, by their keys."""
+    """What each net of the upper board is made of: nets of the lower one, by their numbers, and commands that it leaves
+    out, by their keys."""
 
     def __init__(self, low, high):
         self.low, self.high, self.below, self.above = low, high, Layers(low), Layers(high)
@@ -136,8 +137,8 @@ def joined(both, low_lines, u):
 
 
 def gaps(program, low, high, u):
-    """(sure, spacing, how far apart, sources of both pieces) of each gap. Spacings are of the lower board, with None for the net
-    and the piece of what it leaves out."""
+    """(sure, spacing, how far apart, sources of both pieces) of each gap. Spacings are of the lower board, with None
+    for the net and the piece of what it leaves out."""
     both, low_lines = Parts(low, high), Lines(low)
     upper = {(it.layer, it.nets): it for it in spacings(program, high, u)[0]}
     certain = {}

@@ -1,7 +1,8 @@
-"""A record to keep with an order: which files were judged and how, by which program, and the reports whole; and its verification.
+"""A record to keep with an order: which files were judged and how, by which program, and the reports whole; and its
+verification.
 
-docs/using/testhouse.md has the form. What a record says is never trusted: its files are compared with those that are there,
-its reports are audited again, and its answer is compared with today's.
+docs/using/testhouse.md has the form. What a record says is never trusted: its files are compared with those that are
+there, its reports are audited again, and its answer is compared with today's.
 """
 import datetime
 import hashlib
@@ -225,14 +226,20 @@ def report_differences(program, told, record):
             yield f"its report of the {it.get('of')} has not the SHA-256 that the record says"
         known = ours.get(str(it.get("of")))
         if known and (it.get("line"), it.get("audit")) != (known.line, known.audit):
-            yield f"the answer on the {it.get('of')} was {it.get('line')} ({it.get('audit')}), and is {known.line} ({known.audit})"
+            yield (
+                f"the answer on the {it.get('of')} was {it.get('line')} ({it.get('audit')}), and is"
+                f" {known.line} ({known.audit})"
+            )
     for word, text in said.items():
         if word not in ours:
             yield f"its report of the {word} is of no board here"
             continue
         answer = program.audit(ours[word].package, text.encode("utf-8", "replace"))
         if answer.status != 0:
-            yield f"its report of the {word} does not pass the audit on these files: {answer.out.decode('ascii', 'replace').strip() or answer.line}"
+            yield (
+                f"its report of the {word} does not pass the audit on these files:"
+                f" {answer.out.decode('ascii', 'replace').strip() or answer.line}"
+            )
         elif text.encode("utf-8", "replace") != ours[word].text:
             yield f"its report of the {word} is another text than today's, though the audit confirms it"
     yield from (f"the record has no report of the {word}" for word in ours if said and word not in said)

@@ -1,4 +1,5 @@
-"""What is made beside the findings, where it is asked for: gaps, the comparison with another board, a netlist for a tester, a record.
+"""What is made beside the findings, where it is asked for: gaps, the comparison with another board, a netlist for a
+tester, a record.
 
 Modules are loaded where they are wanted: most boards want none of them, and loading takes longer than a small board.
 """

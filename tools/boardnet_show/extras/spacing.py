@@ -1,6 +1,8 @@
-"""Nets whose copper is closer than a distance, each pair with its least distance on a layer, exact to u and rounded down.
+"""Nets whose copper is closer than a distance, each pair with its least distance on a layer, exact to u and rounded
+down.
 
-The program's `gaps` names the pairs, so that none is missed; here is how far apart they are, and where, among all pieces of both.
+The program's `gaps` names the pairs, so that none is missed; here is how far apart they are, and where, among all
+pieces of both.
 """
 import heapq
 from collections import defaultdict
@@ -39,7 +41,8 @@ class Spacing(NamedTuple):
 
 
 def asked_width(text):
-    """A width as u: a number of millimetres, or with its unit (`6mil`, `0.15mm`, `0.006in`); None where it is none that can be asked for."""
+    """A width as u: a number of millimetres, or with its unit (`6mil`, `0.15mm`, `0.006in`); None where it is none that
+    can be asked for."""
     unit = next((it for it in UNITS if text.endswith(it)), "")
     head, _, tail = text[: len(text) - len(unit)].partition(".")
     if not (head + tail).isascii() or not (head + tail).isdigit() or len(tail) > 7 or len(head) > 3:
@@ -54,7 +57,8 @@ def asked_distance(text):
 
 
 def listed(program, package, u):
-    """What the program's `gaps` lists at that distance, or at the next whole nanometre: (layer, low, high, first, second)."""
+    """What the program's `gaps` lists at that distance, or at the next whole nanometre: (layer, low, high, first,
+    second)."""
     answer = program.gaps(package, -(-u // 10))
     if answer.status not in (0, 1):
         raise Stop(answer.status, f"`gaps` says: {answer.line}")
@@ -62,8 +66,8 @@ def listed(program, package, u):
 
 
 class Lines:
-    """The lines of each net on each layer: (line, radius, piece), with their boxes, and a tree of those where there are many. In place
-    of nets other groups may be given, as those of each piece."""
+    """The lines of each net on each layer: (line, radius, piece), with their boxes, and a tree of those where there are
+    many. In place of nets other groups may be given, as those of each piece."""
 
     def __init__(self, board, groups=None):
         self.board, self.pieces = board, board.pieces_of
@@ -102,7 +106,8 @@ def measured(a, b):
 
 
 def least(lines, layer, low, high, most=None):
-    """(distance, row, row) of the two nearest lines of two nets on a layer, which are at most so far apart where that is given."""
+    """(distance, row, row) of the two nearest lines of two nets on a layer, which are at most so far apart where that
+    is given."""
     (ours, our_boxes), (theirs, their_boxes) = lines.of(low, layer), lines.of(high, layer)
     if len(ours) * len(theirs) > FEW:
         return by_trees(lines.tree(low, layer), lines.tree(high, layer), ours, theirs, most)
@@ -139,7 +144,8 @@ def by_trees(first, second, ours, theirs, most):
 
 
 def nearer(boxes, node, box, limit):
-    """Of the boxes below a node of a tree those that are nearer to a box than a limit, with how far they are, squared."""
+    """Of the boxes below a node of a tree those that are nearer to a box than a limit, with how far they are,
+    squared."""
     left, low, right, high = box
     found = []
     for k in range(node * FAN, min(node * FAN + FAN, len(boxes))):

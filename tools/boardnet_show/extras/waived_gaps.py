@@ -1,8 +1,10 @@
-"""Gaps that somebody has signed for: each place where both nets are closer than asked lies near one of the waiver's, and is no narrower.
+"""Gaps that somebody has signed for: each place where both nets are closer than asked lies near one of the waiver's,
+and is no narrower.
 
-A gap is told once for two nets on a layer, at its narrowest place. So that a waiver hides no other place, lines of both are walked along
-where they are too close, in steps; between two of these a place moves no farther than the step, and the distance is that of one of them
-at least, since the nearest place of two lines is among them. Between two bounds the upper board is looked at, whose nets come nearest.
+A gap is told once for two nets on a layer, at its narrowest place. So that a waiver hides no other place, lines of both
+are walked along where they are too close, in steps; between two of these a place moves no farther than the step, and
+the distance is that of one of them at least, since the nearest place of two lines is among them. Between two bounds the
+upper board is looked at, whose nets come nearest.
 """
 from math import ceil, hypot
 from typing import Any, Iterator, List, NamedTuple, Optional, Sequence, Tuple

@@ -13,8 +13,8 @@ Detail = Tuple[str, Any, Any]
 
 
 class Beside(NamedTuple):
-    """What was asked for beside the netlist: its name in lists of cases, its own status, what became of it, and (name, what, places) of
-    each thing that was found. What became of it and each thing are notes."""
+    """What was asked for beside the netlist: its name in lists of cases, its own status, what became of it, and (name,
+    what, places) of each thing that was found. What became of it and each thing are notes."""
 
     what: str
     status: int
@@ -29,8 +29,8 @@ class Beside(NamedTuple):
 
 
 class Requested(NamedTuple):
-    """What became of it: findings and notes for the board's, of which kinds all are known, what is told besides in lines, and what there
-    is of each kind."""
+    """What became of it: findings and notes for the board's, of which kinds all are known, what is told besides in
+    lines, and what there is of each kind."""
 
     besides: Sequence[Beside] = ()
     findings: Sequence[Finding] = ()
@@ -82,7 +82,8 @@ def found(what: str, findings: Sequence[Finding], said: Any) -> Beside:
 
 
 def status_with(status: int, besides: Sequence[Beside]) -> int:
-    """The status of a board with what was asked for besides: what is not known counts where all else is right, findings where no board differs."""
+    """The status of a board with what was asked for besides: what is not known counts where all else is right, findings
+    where no board differs."""
     for it in besides:
         if it.status == UNJUDGED:
             status = status or UNJUDGED

@@ -1,4 +1,5 @@
-"""A board between two bounds, shown over the lower one: its findings with suggestions, and where the upper board is wider."""
+"""A board between two bounds, shown over the lower one: its findings with suggestions, and where the upper board is
+wider."""
 from collections import Counter, defaultdict
 
 from boardnet_show.bounds.polarity.sweep import Sweep
@@ -87,8 +88,8 @@ class Findings:
 
 
 def wider(low, shapes, sources):
-    """[(layer, corners)]: what the upper board has beyond the lower one by more than a micrometre, command by command; of the upper one
-    the pieces that may be other ones, with their sources."""
+    """[(layer, corners)]: what the upper board has beyond the lower one by more than a micrometre, command by command;
+    of the upper one the pieces that may be other ones, with their sources."""
     below, above, found = defaultdict(list), defaultdict(list), []
     for piece, source in enumerate(sources):
         above[source[:3]].append(piece)
@@ -106,7 +107,8 @@ def wider(low, shapes, sources):
 
 
 def beyond(low, high):
-    """Areas of the one that lie further than a micrometre from the other, most of whose pieces have their like at the same place."""
+    """Areas of the one that lie further than a micrometre from the other, most of whose pieces have their like at the
+    same place."""
     left = [piece for k, piece in enumerate(high) if not any(near(piece, other) for other in (*low[k : k + 1], *low))]
     if not left:
         return []

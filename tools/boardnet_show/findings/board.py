@@ -16,9 +16,8 @@ Spot = Tuple[int, int]
 
 
 def touching(shapes: "Shapes", report: Report) -> Any:
-    from boardnet_show.geometry.touching import (  # a board that agrees wants none of it, and loading takes longer than a small board
-        Touching,
-    )
+    # a board that agrees wants none of it, and loading takes longer than a small board
+    from boardnet_show.geometry.touching import Touching
 
     return Touching(shapes, [source[3:] for source in report.sources])
 

@@ -1,7 +1,7 @@
 """Which command or line of the file that came a piece of a judged copy is from; nothing where that cannot be known.
 
-A flattened file has its pieces in the order of the objects that made them. Mends keep the numbers of commands and lines but for a few,
-of which it is known which they move.
+A flattened file has its pieces in the order of the objects that made them. Mends keep the numbers of commands and lines
+but for a few, of which it is known which they move.
 """
 from typing import Any, Dict, List, Optional, Sequence, Tuple
 

@@ -1,8 +1,8 @@
 """A net without what touches within some places: whether copper still joins two of its names. It says no only where
 that is sure.
 
-A touch of pieces of one name stays, wherever it is. A touch of two names, or of what could be either's, goes where all of it lies within a
-place; a stroke that could be either's is parted where a place has its whole width.
+A touch of pieces of one name stays, wherever it is. A touch of two names, or of what could be either's, goes where all
+of it lies within a place; a stroke that could be either's is parted where a place has its whole width.
 """
 from typing import Dict, Iterator, List, Sequence, Set, Tuple
 

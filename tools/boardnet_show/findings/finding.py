@@ -20,10 +20,11 @@ class Finding(NamedTuple):
     """kind and number are its name for good; `name` is the net name that it is listed under, `what` is so, `clues` say
     where to look.
 
-    `points` are the test points that it speaks of, the first one leads; `nets` those of the copper, `names` those of the netlist, by their
-    numbers; `parts` the points on both parts of an open and `gap` their nearest copper, `meets` the places where a short's names meet,
-    `sides` the name of each piece on it. Between two bounds `sure` says whether both boards have it, else it is None.
-    `places` (x, y, layer) are those of all that parts a net when the board is made, `bare` the points that lose their copper.
+    `points` are the test points that it speaks of, the first one leads; `nets` those of the copper, `names` those of
+    the netlist, by their numbers; `parts` the points on both parts of an open and `gap` their nearest copper, `meets`
+    the places where a short's names meet, `sides` the name of each piece on it. Between two bounds `sure` says whether
+    both boards have it, else it is None. `places` (x, y, layer) are those of all that parts a net when the board is
+    made, `bare` the points that lose their copper.
     """
 
     kind: str

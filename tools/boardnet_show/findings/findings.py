@@ -54,7 +54,8 @@ class Opens:
         return [self.finding(number, *it) for number, it in enumerate(self.board.report.opens)]
 
     def parted(self):
-        """The declared ties that the copper does not have, numbered behind the report's opens; those without a point are no findings."""
+        """The declared ties that the copper does not have, numbered behind the report's opens; those without a point
+        are no findings."""
         names = {}
         for point, (_, _, name, _) in enumerate(self.board.report.points):
             names.setdefault(self.board.name(name), []).append(point)

@@ -1,4 +1,5 @@
-"""Where names part on one net: the fewest touches whose cutting sets the copper of a name apart from that of all others.
+"""Where names part on one net: the fewest touches whose cutting sets the copper of a name apart from that of all
+others.
 
 A flow from the copper of one name to that of the others, one unit for each touch, finds them (the theorem of Ford and
 Fulkerson). Touches in which the ends of two pieces lie at one place look meant and count more.
@@ -63,7 +64,8 @@ def push(graph, flow, before, end):
 
 
 def side_of(graph, starts, is_end, budget):
-    """The least set of pieces round `starts` that as few touches as can be join to an end, or None where this was too much."""
+    """The least set of pieces round `starts` that as few touches as can be join to an end, or None where this was too
+    much."""
     flow, sent = {}, 0
     while True:
         before, end = path(graph, flow, starts, is_end, budget)
@@ -105,7 +107,8 @@ def components(graph, pieces):
 
 
 def way(graph, starts, wanted, allowed):
-    """A shortest chain from one of some pieces to one of the wanted, over allowed pieces; the first start alone where there is none."""
+    """A shortest chain from one of some pieces to one of the wanted, over allowed pieces; the first start alone where
+    there is none."""
     before, queue = dict.fromkeys(starts), deque(starts)
     while queue:
         piece = queue.popleft()

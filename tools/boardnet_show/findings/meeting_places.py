@@ -14,15 +14,16 @@ SAME_PIN = 8
 class Meet(namedtuple("Meet", "names between touch place layer chain near far")):
     """Copper of `names[0]` and of `names[1]` meets at a place, over the pieces `between`, which could be either's.
 
-    `chain` leads from a piece with a point of the one to such a piece of the other; its pieces up to `near` are the one's, those
-    from `far` on the other's. `touch` are the pieces of the one and of the other at the place.
+    `chain` leads from a piece with a point of the one to such a piece of the other; its pieces up to `near` are the
+    one's, those from `far` on the other's. `touch` are the pieces of the one and of the other at the place.
     """
 
     __slots__ = ()
 
 
 def rank(board, piece, spot):
-    """How likely a piece is one that a point was made for: pads and holes centred on it, then ends of strokes, the least first."""
+    """How likely a piece is one that a point was made for: pads and holes centred on it, then ends of strokes, the
+    least first."""
     left, low, right, high = board.touching.box(piece)
     places = board.shapes.places(piece) if not board.shapes.is_area(piece) else []
     is_centred = (left + right, low + high) == (2 * spot[0], 2 * spot[1])
@@ -30,7 +31,8 @@ def rank(board, piece, spot):
 
 
 def likely(ranks):
-    """The pieces that a point was made for: pads and holes of one centre, but no pour about it; else the one most likely."""
+    """The pieces that a point was made for: pads and holes of one centre, but no pour about it; else the one most
+    likely."""
     first, least, piece = min(ranks)
     return [piece] if first else [it for found, size, it in sorted(ranks) if found == 0 and size <= SAME_PIN * least]
 
@@ -64,7 +66,8 @@ def graph_of(board, pieces):
 
 
 class Net:
-    """A net that joins several names: its touches, which names are known of its pieces, and by what (labels or points)."""
+    """A net that joins several names: its touches, which names are known of its pieces, and by what (labels or
+    points)."""
 
     def __init__(self, board, net):
         self.board, self.pieces = board, board.pieces_of[net]
@@ -77,7 +80,8 @@ class Net:
         self.sides, self.of_name, self.with_points, self.count = {}, {}, {}, 0
 
     def tied(self, labels):
-        """Labels of pieces, tied ones as one. Ties name the netlist's names: a label is the name that most points on its pieces have."""
+        """Labels of pieces, tied ones as one. Ties name the netlist's names: a label is the name that most points on
+        its pieces have."""
         names = {}
         for point, pieces in self.carriers.items() if self.board.ties.ties else ():
             for piece in pieces:
@@ -125,7 +129,8 @@ class Net:
         return found
 
     def over(self, part):
-        """Where names meet over pieces that could be either's: for each name but the first, the nearest of those before it."""
+        """Where names meet over pieces that could be either's: for each name but the first, the nearest of those before
+        it."""
         exits, inside, found, earlier = self.exits(part), set(part), [], {}
         for name in sorted(exits):
             if earlier:
@@ -147,7 +152,8 @@ class Net:
         return found
 
     def footprint(self, meet):
-        """(component, point, point) where both names of a place come to it from pins of one component, between which it lies, or None."""
+        """(component, point, point) where both names of a place come to it from pins of one component, between which it
+        lies, or None."""
         ours, theirs = self.pins_on(meet.chain[0]), self.pins_on(meet.chain[-1])
         for component in sorted(ours.keys() & theirs.keys()):
             for one in ours[component]:
@@ -182,7 +188,8 @@ class Net:
         return found
 
     def meet(self, names, first, second, part):
-        """A place: `first` and `second` are each a piece of the name and the piece that it touches towards the other."""
+        """A place: `first` and `second` are each a piece of the name and the piece that it touches towards the
+        other."""
         (p, into), (q, out) = first, second
         head = least_cuts.way(self.graph, [p], self.with_points.get(names[0], ()), self.of_name.get(names[0], ()))[::-1]
         tail = least_cuts.way(self.graph, [q], self.with_points.get(names[1], ()), self.of_name.get(names[1], ()))
@@ -201,8 +208,8 @@ class Net:
         )
 
     def meeting_place(self, p, q, inner, names):
-        """Where to look: the middle of where the one piece between them touches both, or where two pieces touch; of one piece alone between
-        points of both names on it."""
+        """Where to look: the middle of where the one piece between them touches both, or where two pieces touch; of one
+        piece alone between points of both names on it."""
         touching, shapes = self.board.touching, self.board.shapes
         if len(inner) == 1 and inner[0] not in (p, q) and not shapes.is_area(inner[0]):
             ends = touching.touching_place(p, inner[0]), touching.touching_place(inner[0], q)

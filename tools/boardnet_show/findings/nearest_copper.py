@@ -1,4 +1,5 @@
-"""The nearest two test points of two nets, and where the copper of two nets comes nearest: suggestions where a join is missing."""
+"""The nearest two test points of two nets, and where the copper of two nets comes nearest: suggestions where a join is
+missing."""
 from bisect import bisect_left
 from collections import defaultdict, namedtuple
 

@@ -1,4 +1,5 @@
-"""What is told of a board beside its findings, as values: one type for each sentence that `output.sentences.notes` makes."""
+"""What is told of a board beside its findings, as values: one type for each sentence that `output.sentences.notes`
+makes."""
 from typing import Any, NamedTuple, Optional, Sequence, Tuple, Union
 
 from boardnet_show.base.facts import CopperAt, Pin, Place, PointAt, Source, Spot
@@ -25,7 +26,8 @@ class ThinJoin(NamedTuple):
 
 
 class CutsNotAsked(NamedTuple):
-    """That nobody looked at what unplated holes and the edge take away: how many holes the drill files of such have, None where there is none."""
+    """That nobody looked at what unplated holes and the edge take away: how many holes the drill files of such have,
+    None where there is none."""
 
     holes: Optional[int]
     has_edge: bool
@@ -99,7 +101,8 @@ class LargerHoles(NamedTuple):
 
 
 class GapRule(NamedTuple):
-    """What is counted as a gap, in u, and how many pairs the program lists and how many of them count, where there is one list."""
+    """What is counted as a gap, in u, and how many pairs the program lists and how many of them count, where there is
+    one list."""
 
     under: int
     listed: Optional[int] = None
@@ -179,8 +182,8 @@ class HasIt(NamedTuple):
 
 
 class Difference(NamedTuple):
-    """What the other board's netlist finds here, and what is there; places are (x, y, layer) on either, in u. It is `sure` but between
-    bounds."""
+    """What the other board's netlist finds here, and what is there; places are (x, y, layer) on either, in u. It is
+    `sure` but between bounds."""
 
     id: str
     kind: str
@@ -202,7 +205,8 @@ class OtherPlaced(NamedTuple):
 
 
 class Likened(NamedTuple):
-    """How many differences of each kind there are, whether all of the other board is known, and what of it was not compared."""
+    """How many differences of each kind there are, whether all of the other board is known, and what of it was not
+    compared."""
 
     path: str
     parted: int

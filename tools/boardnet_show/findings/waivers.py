@@ -1,9 +1,10 @@
 """Findings that somebody has signed for: told and counted, and no failure.
 
-A waiver is of one finding alone: of an open by the pins that stand apart, of a point without copper by its pin and place, of a short by the
-place where its names meet. A short is waived where, without what touches within that place, no copper joins two of its names: else there
-is another one. What a waiver does not find is told as stale. Of what is found beside the netlist, the pins and places are compared here,
-and copper where that is found (`extras.waived_gaps`, `extras.as_made.waived_necks`).
+A waiver is of one finding alone: of an open by the pins that stand apart, of a point without copper by its pin and
+place, of a short by the place where its names meet. A short is waived where, without what touches within that place, no
+copper joins two of its names: else there is another one. What a waiver does not find is told as stale. Of what is found
+beside the netlist, the pins and places are compared here, and copper where that is found (`extras.waived_gaps`,
+`extras.as_made.waived_necks`).
 """
 from collections import Counter
 from typing import Dict, FrozenSet, List, NamedTuple, Optional, Sequence, Set, Tuple

@@ -88,7 +88,8 @@ def read_codes(package: Package, change: CodesRead) -> Tuple[Change, Files]:
 def in_order(package: Package, change: LayersOrdered) -> Manifest:
     if sorted(change.order) != sorted(package.manifest.copper):
         raise unfit(
-            f"the copper files are {', '.join(package.manifest.copper)}, and the order of {', '.join(change.order)} is declared"
+            f"the copper files are {', '.join(package.manifest.copper)}, and the order of {', '.join(change.order)} is"
+            " declared"
         )
     return package.manifest.changed(copper=list(change.order))
 

@@ -75,7 +75,8 @@ class Holes:
         ]
 
     def candidates(self, names):
-        """(share of the votes, form, shift in u) that bring most holes of these files onto pads, the likeliest first."""
+        """(share of the votes, form, shift in u) that bring most holes of these files onto pads, the likeliest
+        first."""
         holes = sorted({hole for name in names for hole in self.of[name]})
         sample, centres, found = holes[:: max(1, len(holes) // SAMPLE)][:SAMPLE], sorted(self.pads), []
         for turn, (_, form) in enumerate(FORMS if len(centres) <= MANY else FORMS[:1]):

@@ -1,7 +1,7 @@
 """Hints on a board whose files do not fit together: each one is what `check` says of a changed copy.
 
-A hint says what was changed and the answer; nothing is told that was not tried, the user's files are not touched, and the board's
-status stays what it is.
+A hint says what was changed and the answer; nothing is told that was not tried, the user's files are not touched, and
+the board's status stays what it is.
 """
 from fractions import Fraction as Q
 from functools import partial

@@ -1,4 +1,5 @@
-"""JSON as the standard library writes it with an indent of 1, whose encoder with an indent is slow: in a third of its time."""
+"""JSON as the standard library writes it with an indent of 1, whose encoder with an indent is slow: in a third of its
+time."""
 import json
 from json.encoder import encode_basestring_ascii as quoted
 from typing import Any

@@ -235,8 +235,8 @@ def fields(data: bytes) -> Fields:
 
 
 def has_other_names(data: bytes) -> bool:
-    """Whether its tool may have written names otherwise: KiCad does, in capitals, and a name that fills its columns may be
-    cut."""
+    """Whether its tool may have written names otherwise: KiCad does, in capitals, and a name that fills its columns may
+    be cut."""
     return KICAD in data[:HEAD] or FULL_NAME.search(data) is not None
 
 

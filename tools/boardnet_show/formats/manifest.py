@@ -4,7 +4,8 @@ from typing import Any, Dict, List, Mapping, Optional
 
 
 class Manifest:
-    """Files by their names; `files` are the copper files and then the drill files, numbered as in a report's sources."""
+    """Files by their names; `files` are the copper files and then the drill files, numbered as in a report's
+    sources."""
 
     def __init__(self, told: Mapping[str, Any]) -> None:
         self.copper = [str(name) for name in told["copper"]]

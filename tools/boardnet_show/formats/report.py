@@ -11,7 +11,8 @@ class BadReport(Exception):
 class Report:
     """The lists of a report. Nets, pieces, points and names count from 0, records and layers from 1, as they do there.
 
-    `points` are (record, layer, name, net), with net -1 for none; `spots` are (x, y) in u, `sources` (file, command, copy, top, bottom).
+    `points` are (record, layer, name, net), with net -1 for none; `spots` are (x, y) in u, `sources` (file, command,
+    copy, top, bottom).
     """
 
     def __init__(self, text):
@@ -68,7 +69,8 @@ class Report:
         return net, [(name, point, pieces) for name, point, *pieces in branches]
 
 
-# What follows is kept for the reports that were read last: copper that is judged anew with another netlist has the same nets and sources.
+# What follows is kept for the reports that were read last: copper that is judged anew with another netlist has the same
+# nets and sources.
 
 
 @lru_cache(maxsize=2)

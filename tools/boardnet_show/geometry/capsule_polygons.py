@@ -114,8 +114,8 @@ def ring(centre: Spot, chain: Corners, high: int) -> Optional[Tuple[List[Corners
 
 
 def band_within(centre: Spot, fine: Corners, links: Corners, low: int, is_open: bool) -> Optional[Corners]:
-    """What lies within `low` of the links of a chain, beside which a finer one goes; to the centre where it is not open.
-    None where a corner would be further off."""
+    """What lies within `low` of the links of a chain, beside which a finer one goes; to the centre where it is not
+    open. None where a corner would be further off."""
     off = [(x - centre[0], y - centre[1]) for x, y in (out_from(centre, p, low - 2) for p in fine)]
     if any(dot((0, 0), p, p) > low * low for p in off):
         return None
@@ -126,7 +126,8 @@ def band_within(centre: Spot, fine: Corners, links: Corners, low: int, is_open: 
 
 
 def band_round(centre: Spot, fine: Corners, wide: int, slim: int) -> Optional[Corners]:
-    """What goes round all from `slim` to `wide` away from the centre; None where a corner or an edge would be within."""
+    """What goes round all from `slim` to `wide` away from the centre; None where a corner or an edge would be
+    within."""
     step = max(dot(p, q, q) for p, q in zip(fine, fine[1:]))
     tops = [out_from(centre, p, wide + step // (4 * wide) + 8) for p in fine]
     feet = [out_from(centre, p, slim - 2) if slim > 2 else centre for p in fine]

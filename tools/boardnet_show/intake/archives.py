@@ -59,8 +59,8 @@ def link_files(path: str, folder: str) -> Dict[str, str]:
 
 
 def is_damage(error):
-    """Whether an archive is at fault, and not the system: each way of packing raises errors of its own, bzip2 a system's one without
-    a number, and a place before the file's beginning is a wrong argument."""
+    """Whether an archive is at fault, and not the system: each way of packing raises errors of its own, bzip2 a
+    system's one without a number, and a place before the file's beginning is a wrong argument."""
     return (
         error.errno in (None, errno.EINVAL)
         if isinstance(error, OSError)
@@ -69,7 +69,8 @@ def is_damage(error):
 
 
 def extract(path, folder):
-    """Writes the archive's files to a new folder, and answers the folder of each in it; where that fails, there is none."""
+    """Writes the archive's files to a new folder, and answers the folder of each in it; where that fails, there is
+    none."""
     import zipfile  # most boards come in no archive, and loading takes long
 
     try:
@@ -98,7 +99,8 @@ def write(archive, found, folder):
 
 
 def unpack(path):
-    """Writes the archive's files to the folder of the archive's name without its ending; that folder, and those of the files."""
+    """Writes the archive's files to the folder of the archive's name without its ending; that folder, and those of the
+    files."""
     folder = os.path.splitext(path)[0]
     if folder == path or os.path.exists(folder):
         raise Refused(f"{shown(folder)} is there already: move it away, or give the folder itself")

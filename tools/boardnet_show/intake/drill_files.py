@@ -8,20 +8,22 @@ from .file_names import Refused, shown
 UNPLATED_NAME = re.compile(r"npth|non?[._ -]?plated|un[._ -]?plated", re.I)
 PLATED_NAME = re.compile(r"pth|plated|(?:^|[._ -])via", re.I)
 APART = (
-    "write plated and unplated holes to files of their own "
-    "(KiCad: Generate Drill Files, 'PTH and NPTH in single file' off; kicad-cli: --excellon-separate-th), or the unplated ones would join layers"
+    "write plated and unplated holes to files of their own (KiCad: Generate Drill Files, 'PTH and NPTH in single file'"
+    " off; kicad-cli: --excellon-separate-th), or the unplated ones would join layers"
 )
 
 
 class Drills:
-    """A drill file of plated holes: its span, nothing where it is all layers, and why it is taken so (nothing where it says so)."""
+    """A drill file of plated holes: its span, nothing where it is all layers, and why it is taken so (nothing where it
+    says so)."""
 
     def __init__(self, name, span, why=""):
         self.name, self.span, self.why = name, span, why
 
 
 def need_told(name, data, said):
-    """Refuses a file of both kinds of holes where it does not say of each tool which it is; else `show` takes the plated ones alone."""
+    """Refuses a file of both kinds of holes where it does not say of each tool which it is; else `show` takes the
+    plated ones alone."""
     plating = Plating(data)
     if not plating.is_told():
         unsaid = "".join(f", and does not say which T{number} is" for number in plating.unsaid()[:1])
@@ -40,7 +42,8 @@ def of_attribute(name, function, data):
         return None, f"its function is {function}"
     if len(fields) < 3 or not all(re.fullmatch("[0-9]{1,9}", field) for field in fields[1:3]):
         raise Refused(
-            f"{name} says that its holes are plated and not which layers they span: its comment is to be `; #@! TF.FileFunction,Plated,<from>,<to>`"
+            f"{name} says that its holes are plated and not which layers they span: its comment is to be `; #@!"
+            " TF.FileFunction,Plated,<from>,<to>`"
         )
     return Drills(name, (int(fields[1]), int(fields[2]))), ""
 
@@ -50,7 +53,8 @@ def need_one_kind(name, data):
     found = in_both_ways(data)
     if found:
         raise Refused(
-            f"{name}: line {found.line}, `{shown(found.words)}`, says that holes are plated and that they are not: {APART}"
+            f"{name}: line {found.line}, `{shown(found.words)}`, says that holes are plated and that they are not:"
+            f" {APART}"
         )
 
 
@@ -60,7 +64,8 @@ def of(name, data):
     plating, line = Plating(data), unplated_hole(data)
     if line and not plating.is_unplated_alone():
         raise Refused(
-            f"{name}: line {line} makes a hole that the file itself calls unplated, and what it says of the others does not fit or is missing: {APART}"
+            f"{name}: line {line} makes a hole that the file itself calls unplated, and what it says of the others does"
+            f" not fit or is missing: {APART}"
         )
     said = list(dict.fromkeys(",".join(fields) for _, fields, _ in plating.functions))
     if len(said) > 1:
@@ -95,9 +100,12 @@ def by_other_evidence(name, plating):
             else "its tools say whether they are plated, and nothing which layers the holes span"
         )
     if True in tools:
-        return None, (
-            f"it says of some of its tools that they are plated, nothing of others (T{plating.unsaid()[0]}), "
-            "and not which layers the holes span"
+        return (
+            None,
+            (
+                f"it says of some of its tools that they are plated, nothing of others (T{plating.unsaid()[0]}), "
+                "and not which layers the holes span"
+            ),
         )
     if UNPLATED_NAME.search(name):
         return (0, 0), "its name says that its holes are not plated"
@@ -114,7 +122,8 @@ def judge(drills, layers):
         first, last = it.span = it.span or (1, layers)
         if not 1 <= first <= last <= layers:
             raise Refused(
-                f"{it.name} spans layers {first} to {last} of {layers}: export every copper layer, or the drill file anew"
+                f"{it.name} spans layers {first} to {last} of {layers}: export every copper layer, or the drill file"
+                " anew"
             )
     if len(drills) > 64:
         raise Refused(f"there are {len(drills)} drill files, and `check` takes 64")

@@ -1,4 +1,5 @@
-"""What to export otherwise where a file is refused, in words of the tool that wrote it, where the file says which it is."""
+"""What to export otherwise where a file is refused, in words of the tool that wrote it, where the file says which it
+is."""
 from typing import Callable, Optional
 
 from boardnet_show.base.refusals import Advice, Refusal

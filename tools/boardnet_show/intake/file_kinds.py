@@ -24,7 +24,8 @@ OTHERS = (
 
 
 class Look:
-    """What a file looks like: kind is gerber, drill, netlist, empty or other; word says why it is another; mark is a byte order mark."""
+    """What a file looks like: kind is gerber, drill, netlist, empty or other; word says why it is another; mark is a
+    byte order mark."""
 
     def __init__(self, kind, data=b"", word="", mark=""):
         self.kind, self.data, self.word, self.mark = kind, data, word, mark

@@ -108,24 +108,31 @@ class Package:
             for name, _, why in self.guesses:
                 if not self.is_whole(layers):
                     raise Refused(
-                        f"{name} looks like copper ({why}) and has no attribute, while other layers have one: export all as Gerber X2"
+                        f"{name} looks like copper ({why}) and has no attribute, while other layers have one: export"
+                        " all as Gerber X2"
                     )
                 self.leave_out(
                     name,
-                    f"it looks like copper ({why}), but the layers that say what they are make a whole board without it",
+                    (
+                        f"it looks like copper ({why}), but the layers that say what they are make a whole board"
+                        " without it"
+                    ),
                 )
         if self.board_layers not in (None, len(layers)):
             raise Refused(
-                f"the job file speaks of {self.board_layers} copper layers, and there are {len(layers)}: export every copper layer"
+                f"the job file speaks of {self.board_layers} copper layers, and there are {len(layers)}: export every"
+                " copper layer"
             )
         if len([it for it in self.origins if it is not None]) > 1:
             raise Refused(
-                f"{' and '.join(self.origins.values())} count from different origins (TF.SameCoordinates): export all layers at once"
+                f"{' and '.join(self.origins.values())} count from different origins (TF.SameCoordinates): export all"
+                " layers at once"
             )
         return layers
 
     def is_whole(self, layers):
-        """Whether layers that say what they are leave no place for another: they end with a bottom one, or are as many as the job file says."""
+        """Whether layers that say what they are leave no place for another: they end with a bottom one, or are as many
+        as the job file says."""
         return self.board_layers == len(layers) or len(layers) > 1 and layers[-1].side == "Bot"
 
     def declare(self, drilled):
@@ -136,7 +143,8 @@ class Package:
                 raise Refused(f"{name} is declared to have plated holes, and is no drill file here that may have some")
             if not found.why and found.span != (first, last):
                 raise Refused(
-                    f"{name} is declared to span layers {first} to {last}, and says itself that it spans {found.span[0]} to {found.span[1]}"
+                    f"{name} is declared to span layers {first} to {last}, and says itself that it spans"
+                    f" {found.span[0]} to {found.span[1]}"
                 )
             if found.span == (0, 0):
                 raise Refused(f"{name} is declared to have plated holes, and {found.why}")
@@ -151,15 +159,17 @@ class Package:
         """Refuses a board of several layers without holes where the netlist speaks of some."""
         if layers > 1 and not plated and netlist.through and not may_lack:
             raise Refused(
-                f"{netlist.name} has {netlist.through} records of through holes (317), and there is no drill file of plated holes, which join the layers: "
-                "export it in the Excellon format; where the board truly has no plated hole, say --no-drills"
+                f"{netlist.name} has {netlist.through} records of through holes (317), and there is no drill file of"
+                " plated holes, which join the layers: export it in the Excellon format; where the board truly has no"
+                " plated hole, say --no-drills"
             )
 
     def need_names(self, names):
         for name in names:
             if not is_name(name):
                 raise Refused(
-                    f"the name {shown(name)} is not 1 to 200 printable ASCII characters, and `check` takes no other: rename the file"
+                    f"the name {shown(name)} is not 1 to 200 printable ASCII characters, and `check` takes no other:"
+                    " rename the file"
                 )
             if name in self.amiss:
                 raise Refused(f"{name}: {self.amiss[name]}")
@@ -168,8 +178,8 @@ class Package:
 class Plan:
     """The manifest that would be written, what is guessed in it, and what else is to be said.
 
-    With `may_lack_netlist` a folder without one gets a plan all the same, where its copper has names: the netlist is "", and who
-    asks makes one.
+    With `may_lack_netlist` a folder without one gets a plan all the same, where its copper has names: the netlist is
+    "", and who asks makes one.
     """
 
     def __init__(self, package, wanted, may_lack_holes, may_lack_netlist=False, drilled=()):
@@ -192,7 +202,8 @@ class Plan:
             if not it.why and len({package.home_of(each.name) for each in files}) > 1
         ]
         if not package.is_whole(layers):
-            # A name may say that a file is no copper where names say what is; where attributes do, and may lack one, it does not.
+            # A name may say that a file is no copper where names say what is; where attributes do, and may lack one, it
+            # does not.
             whys = (NO_COPPER,) if layers[0].why else (NO_COPPER, OTHERWISE)
             doubtful = [it for it in package.left_out if it[1] in whys or it in package.doubtful]
             self.guessed += [(name, "no copper, left out", why) for name, why in doubtful]

@@ -14,8 +14,9 @@ from .package import Taken
 
 
 def mend(package, progress, is_yes=False, said=()):
-    """Rewrites what `check` refuses and the files say otherwise, in the package's folder; what was mended is noted in it. What
-    the board alone says of a file is taken where that was said to be right, or is among what is `said` to be taken."""
+    """Rewrites what `check` refuses and the files say otherwise, in the package's folder; what was mended is noted in
+    it. What the board alone says of a file is taken where that was said to be right, or is among what is `said` to be
+    taken."""
     if not package.manifest:
         return
     progress.begin("looking for what to mend")
@@ -122,7 +123,10 @@ def need_one_kind(name, data):
         way = cad_tools.way("MixedPlating", cad_tools.tool_of(data))
         raise Stop(
             REFUSED,
-            f"{name}: line {found.line}, `{found.words}`, says that holes are plated and that they are not; to export: {way}",
+            (
+                f"{name}: line {found.line}, `{found.words}`, says that holes are plated and that they are not; to"
+                f" export: {way}"
+            ),
         )
 
 
@@ -136,8 +140,11 @@ def need_plated(package, drills):
 
             raise Stop(
                 REFUSED,
-                f"{name}: line {line} makes a hole that the file itself calls unplated, and what it says of the others does not fit or is "
-                f"missing, so that hole would join layers; to export: {cad_tools.way('MixedPlating', cad_tools.tool_of(data))}",
+                (
+                    f"{name}: line {line} makes a hole that the file itself calls unplated, and what it says of the"
+                    " others does not fit or is missing, so that hole would join layers; to export:"
+                    f" {cad_tools.way('MixedPlating', cad_tools.tool_of(data))}"
+                ),
             )
 
 

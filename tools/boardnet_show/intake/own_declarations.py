@@ -1,7 +1,7 @@
 """What the copper files say of themselves: each file as it came, whatever has been done to it, also by comments.
 
-`check` judges the attributes that it reads. It comes to none where a macro stands before them, `flatten` drops them, and those in
-comments are passed over: so they are judged here, by the rule that `check` has.
+`check` judges the attributes that it reads. It comes to none where a macro stands before them, `flatten` drops them,
+and those in comments are passed over: so they are judged here, by the rule that `check` has.
 """
 import re
 from typing import List, Optional, Tuple
@@ -30,8 +30,9 @@ def refusal(name: str, data: bytes, kind: Tuple[int, str], attribute: gerber_att
 
 
 def amiss(package) -> Optional[Refusal]:
-    """The refusal of the first copper file that says that it is no layer of its place, else of the first that says that it is negative; None where
-    none does. The layers come first: where a file is negative, the board is judged by copies that have no comments."""
+    """The refusal of the first copper file that says that it is no layer of its place, else of the first that says that
+    it is negative; None where none does. The layers come first: where a file is negative, the board is judged by copies
+    that have no comments."""
     negative = None
     for place, name in enumerate(package.manifest.copper if package.manifest else (), 1):
         data, wanted = came(package, name), [b"Copper", b"L%d" % place]

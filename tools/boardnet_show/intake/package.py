@@ -1,4 +1,5 @@
-"""A board's files in a scratch folder, from a folder, a zip archive or a manifest. Nothing is written beside the user's files."""
+"""A board's files in a scratch folder, from a folder, a zip archive or a manifest. Nothing is written beside the user's
+files."""
 import errno
 import os
 import stat
@@ -57,7 +58,8 @@ class Package:
         self.lines = {}
         # The package that this one is a changed copy of.
         self.base = None
-        # What was left out and what was guessed, in words, where the manifest was made here, and what was taken as what.
+        # What was left out and what was guessed, in words, where the manifest was made here, and what was taken as
+        # what.
         self.left_out, self.guessed, self.taken = [], [], []
         # What was rewritten before `check`, as mends/mend.py says.
         self.mends = []
@@ -72,8 +74,8 @@ class Package:
         self.home, self.is_made = "", False
         # The folder where they lie with all that is beside them, of a zip archive that of what was in it.
         self.around = folder
-        # The netlist of the copper's own names, where they are judged by one, and the one that it stands for, or nothing; the ties
-        # that pads of several nets declare.
+        # The netlist of the copper's own names, where they are judged by one, and the one that it stands for, or
+        # nothing; the ties that pads of several nets declare.
         self.own, self.theirs, self.ties = "", "", []
         # Whole names by those that the netlist has in their place.
         self.whole = {}
@@ -188,7 +190,8 @@ def room(scratch, names):
 
 
 def beside(package, word):
-    """A folder for a changed copy of a package, in a folder of its own beside that of the package; it is not there yet."""
+    """A folder for a changed copy of a package, in a folder of its own beside that of the package; it is not there
+    yet."""
     number = 0
     while os.path.exists(f"{package.folder}.{word}{number}"):
         number += 1
@@ -196,8 +199,8 @@ def beside(package, word):
 
 
 def need_plain(home, names, inside=None):
-    """Refuses names that lead elsewhere than to plain files of at most as many bytes as `check` takes; with a folder, than into it.
-    Nothing is read before; what is not there is left to `check`."""
+    """Refuses names that lead elsewhere than to plain files of at most as many bytes as `check` takes; with a folder,
+    than into it. Nothing is read before; what is not there is left to `check`."""
     for name in names:
         path = os.path.join(home, name)
         if inside and not os.path.realpath(path).startswith(os.path.realpath(inside) + os.sep):
@@ -322,8 +325,8 @@ def of_sorted_files(path, asked, scratch, declared):
 
 
 def opened(path, asked, scratch, inside=None, declared: Callable[[str], Sorted] = nothing_declared, homes=None):
-    """The package of a folder, a zip archive or a manifest; with a folder the files are to lie there. `declared` says what is declared of the
-    files of a folder, and `homes` in which folders they came, where they were laid together."""
+    """The package of a folder, a zip archive or a manifest; with a folder the files are to lie there. `declared` says
+    what is declared of the files of a folder, and `homes` in which folders they came, where they were laid together."""
     if not path:
         raise Stop(NOT_UNDERSTOOD, "PATH is empty: it is a folder, a zip archive or a manifest")
     try:
@@ -353,8 +356,8 @@ def need_netlist(package, asked):
 
 
 def keep(package, report, folder, asked=""):
-    """Copies the package as it was judged, and its report, to a folder that must not be there yet; with what `between` was asked on, where
-    it was."""
+    """Copies the package as it was judged, and its report, to a folder that must not be there yet; with what `between`
+    was asked on, where it was."""
     if os.path.exists(folder):
         raise Stop(UNWRITABLE, f"{folder} is there already: --keep wants a new folder")
     import shutil  # loading takes long, as above

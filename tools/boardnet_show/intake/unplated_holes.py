@@ -33,7 +33,8 @@ DRILLS_AGAIN = b"G05"
 
 
 class UnplatedHoles(NamedTuple):
-    """The unplated holes of a drill file, each with its line and its capsule; none where the file's numbers are not known."""
+    """The unplated holes of a drill file, each with its line and its capsule; none where the file's numbers are not
+    known."""
 
     file: str
     lines: List[int]
@@ -117,7 +118,8 @@ def is_unplated(name: str, data: bytes) -> bool:
 
 
 def sources(package: Package) -> Iterator[Source]:
-    """The drill files that may have unplated holes: those of the manifest as they came, and those that it leaves out."""
+    """The drill files that may have unplated holes: those of the manifest as they came, and those that it leaves
+    out."""
     for name in dict.fromkeys(name for name, _, _ in package.manifest.drills):
         data = read_plain(package.came.get(name, package.path(name)))
         yield Source(name, data, False, drill_numbers.plated_beside(name, data, package.around))

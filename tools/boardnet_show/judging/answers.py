@@ -30,7 +30,8 @@ class Both(NamedTuple):
 
 
 class AskedOn(NamedTuple):
-    """What `between` was asked on: the folder, the words behind the command there, and the name of the file with its text."""
+    """What `between` was asked on: the folder, the words behind the command there, and the name of the file with its
+    text."""
 
     folder: str = ""
     words: Tuple[str, ...] = ()
@@ -38,8 +39,8 @@ class AskedOn(NamedTuple):
 
 
 class OfFiles(NamedTuple):
-    """Whether the program says the same of the files as they came, where copies of them were judged: of those that are `read`. Those of `but_for`
-    it has read as their copies; `why` is its line where it takes the copies not."""
+    """Whether the program says the same of the files as they came, where copies of them were judged: of those that are
+    `read`. Those of `but_for` it has read as their copies; `why` is its line where it takes the copies not."""
 
     is_proved: bool
     read: Tuple[str, ...] = ()

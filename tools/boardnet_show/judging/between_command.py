@@ -1,9 +1,10 @@
 """Whether the program takes both boards of a board as its bounds: its command `between`, where it reads all copper
 outside the profile.
 
-It reads the user's files with their arcs and macros, and tests of each piece of the board that it lies between those that stand for
-it. A file of counts says how many stand for each; nothing trusts it. What it finds is compared with the reports on both boards, line
-by line. Of regions with arcs it wants smaller areas: the board is judged by these too, and where they find the same, they are shown.
+It reads the user's files with their arcs and macros, and tests of each piece of the board that it lies between those
+that stand for it. A file of counts says how many stand for each; nothing trusts it. What it finds is compared with the
+reports on both boards, line by line. Of regions with arcs it wants smaller areas: the board is judged by these too, and
+where they find the same, they are shown.
 """
 import re
 from itertools import groupby
@@ -161,7 +162,8 @@ def proved(bounds, its):
 
 
 def exact(program, judged, answer, ties, declared=()):
-    """The answer on a board of whose files copies were judged, with whether the program says the same of the files as they came."""
+    """The answer on a board of whose files copies were judged, with whether the program says the same of the files as
+    they came."""
     package = judged.package
     copies = package.rewritten()
     if answer.status not in (0, 1) or not copies:

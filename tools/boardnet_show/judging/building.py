@@ -30,7 +30,8 @@ def known(package):
         return [f"{package.name} is no manifest"]
     missing = [name for name in told.names() if not os.path.exists(package.path(name))]
     lines = [
-        f"{len(told.copper)} copper files ({', '.join(told.copper)}), {len(told.drills)} drill files, netlist {told.netlist}"
+        f"{len(told.copper)} copper files ({', '.join(told.copper)}), {len(told.drills)} drill files, netlist"
+        f" {told.netlist}"
     ]
     if told.netlist not in missing:
         lines[0] += f" with {len(ipc356.records(package.read(told.netlist)))} test records"

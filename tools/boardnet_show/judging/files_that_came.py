@@ -1,8 +1,9 @@
 """Whether the program says of the very files that came what it says of the copies that were judged.
 
-`show` judges copies of files: mended, flattened, between bounds. The command `between` reads the files as they came, and takes the
-copies as boards between which the board lies only where each piece stands for what it read, and where names, points and layers are
-the same. So its answer is about the bytes that the user has. A file that it does not read stands as its copy, and is told.
+`show` judges copies of files: mended, flattened, between bounds. The command `between` reads the files as they came,
+and takes the copies as boards between which the board lies only where each piece stands for what it read, and where
+names, points and layers are the same. So its answer is about the bytes that the user has. A file that it does not read
+stands as its copy, and is told.
 """
 import copy
 import os
@@ -28,7 +29,8 @@ class Side(NamedTuple):
 
 
 class Asked(NamedTuple):
-    """What `between` answers, which of the files that have copies it has read as they came and which as copies, and on what."""
+    """What `between` answers, which of the files that have copies it has read as they came and which as copies, and on
+    what."""
 
     answer: Answer
     read: Tuple[str, ...]
@@ -49,7 +51,8 @@ def named_anew(manifest: Manifest, names: Dict[str, str]) -> Manifest:
 
 
 def with_side(real: Package, side: Side) -> str:
-    """The name of the manifest of a judged board among the files of the board, with links to those that it has of its own."""
+    """The name of the manifest of a judged board among the files of the board, with links to those that it has of its
+    own."""
     names = {}
     for name in side.copies:
         names[name] = real.free_name(side.word, os.path.splitext(name)[1])
@@ -60,8 +63,8 @@ def with_side(real: Package, side: Side) -> str:
 
 
 def ask(program: Program, package: Package, sides: Sequence[Side], counts: str, declared: Sequence[str] = ()) -> Asked:
-    """What `between` answers on the files as they came. `declared` are those that a declaration changes, which stand as they are judged,
-    as does each that it does not read otherwise."""
+    """What `between` answers on the files as they came. `declared` are those that a declaration changes, which stand as
+    they are judged, as does each that it does not read otherwise."""
     its = package.rewritten()
     own = [name for name in its if name not in declared]
     while True:

@@ -1,8 +1,8 @@
 """Net ties that are declared: names that the copper is meant to join, as `--tie A=B`, lines of ties.txt and pads of
 several nets say.
 
-A short whose names are all tied together is such a tie and no finding. A tie that no copper makes is an open. What `check` says
-is not changed: its report has each tie as a short, and `audit` confirms that report.
+A short whose names are all tied together is such a tie and no finding. A tie that no copper makes is an open. What
+`check` says is not changed: its report has each tie as a short, and `audit` confirms that report.
 """
 import re
 from typing import Any, Dict, Iterator, List, NamedTuple, Tuple

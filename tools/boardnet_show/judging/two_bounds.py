@@ -1,11 +1,12 @@
 """A board with copper outside the profile between two boards within it: what holds of both holds of the board.
 
-Each piece of the lower board lies in copper of the board, joined in itself, and the board's copper in pieces of the upper one;
-drills, netlist and names are the same. So what is joined below is joined on the board, and what is joined there is joined above
-(the law `verdicts_decide` of the crate `covers`): no opens and no missing points below and no shorts above make the board agree;
-shorts below, and opens and missing points above, are the board's (a point of such an open may be missing there). Other opens and
-missing points below, and other shorts above, are undecided. That the two boards are such bounds is not proved, but where the program
-says so (`between_command`): this script makes them, by whole numbers, and its tests compare them with fractions.
+Each piece of the lower board lies in copper of the board, joined in itself, and the board's copper in pieces of the
+upper one; drills, netlist and names are the same. So what is joined below is joined on the board, and what is joined
+there is joined above (the law `verdicts_decide` of the crate `covers`): no opens and no missing points below and no
+shorts above make the board agree; shorts below, and opens and missing points above, are the board's (a point of such an
+open may be missing there). Other opens and missing points below, and other shorts above, are undecided. That the two
+boards are such bounds is not proved, but where the program says so (`between_command`): this script makes them, by
+whole numbers, and its tests compare them with fractions.
 """
 import copy
 import hashlib

@@ -1,7 +1,8 @@
 """Where a tester may touch a board: each pad of an outer layer, and each plated hole, with what the files say of it.
 
 A pad is what one flash makes, whatever its shape, or a region that the file gives to a pin (`TO.P`); of a flash whose
-copper is on two nets there is one for each. A pad whose middle lies in a plated hole of its layer is told with the hole.
+copper is on two nets there is one for each. A pad whose middle lies in a plated hole of its layer is told with the
+hole.
 """
 from collections import defaultdict
 from typing import Any, Dict, Iterable, List, Mapping, Optional, Sequence, Set, Tuple
@@ -35,8 +36,8 @@ Objects = List[Optional[Object]]
 
 
 class Place:
-    """A pad or a hole: its pieces, net and layers (first and last), its middle and size in u, and `hole`, the piece of a
-    hole. `aim` is where it is best touched."""
+    """A pad or a hole: its pieces, net and layers (first and last), its middle and size in u, and `hole`, the piece of
+    a hole. `aim` is where it is best touched."""
 
     def __init__(
         self,
@@ -101,8 +102,8 @@ def between(board: Board, package: Package, name: str, pieces: Sequence[int]) ->
 
 
 def origins(board: Board, base: Optional[Package]) -> Objects:
-    """The object of each piece of copper. Between bounds `base` is the package of the user's files, and the board has their
-    commands."""
+    """The object of each piece of copper. Between bounds `base` is the package of the user's files, and the board has
+    their commands."""
     package, sources = base or board.package, board.report.sources
     found: Objects = []
     by_file: Dict[int, List[int]] = defaultdict(list)

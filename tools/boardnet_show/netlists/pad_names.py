@@ -28,7 +28,10 @@ from . import pad_places
 from .own_names import MADE
 from .pad_parts import parts
 
-NO_NAMES = "the copper files do not say of which pins or nets their pads are (TO.P, TO.N): export Gerber X2 with net attributes"
+NO_NAMES = (
+    "the copper files do not say of which pins or nets their pads are (TO.P, TO.N): export Gerber X2 with net"
+    " attributes"
+)
 
 
 class Label(NamedTuple):
@@ -288,7 +291,7 @@ def all_points(package: Package) -> List[Point]:
             found += points_of(texts[name], layer, wants_pins) if "TO." in texts[name] else []
         except Refused as why:
             raise Stop(
-                UNCLEAR, f"{name}: its pads cannot be read ({why}), " "so their own names cannot be judged"
+                UNCLEAR, f"{name}: its pads cannot be read ({why}), so their own names cannot be judged"
             ) from None
     return found
 
@@ -358,7 +361,8 @@ def notes_of(package, found, lost, unit, places):
     for why in dict.fromkeys(it.why for it in lost):
         some = [it for it in lost if it.why == why]
         told.append(
-            f"names: {counted(len(some), 'labelled object')}, first {pin_of(package, some[0])}: {why}, and is no test point"
+            f"names: {counted(len(some), 'labelled object')}, first {pin_of(package, some[0])}: {why}, and is no test"
+            " point"
         )
     return told
 
@@ -389,9 +393,11 @@ def need_holes(package: Package, found: Sequence[Point]) -> None:
     if through and not package.manifest.drills:
         raise Stop(
             UNCLEAR,
-            f"{counted(through, 'pin')} of the copper files stand on several layers, and there is no "
-            "drill file of plated holes, which join them: "
-            "export it in the Excellon format; where the board truly has no plated hole, say --no-drills",
+            (
+                f"{counted(through, 'pin')} of the copper files stand on several layers, and there is no "
+                "drill file of plated holes, which join them: "
+                "export it in the Excellon format; where the board truly has no plated hole, say --no-drills"
+            ),
         )
 
 

@@ -21,7 +21,8 @@ FEW = 8  # of as many places that will do the nearest is taken
 
 
 class Pad(NamedTuple):
-    """Copper with a place where a point is wanted; what lies in one of `gone` is not taken, as where copper is erased again."""
+    """Copper with a place where a point is wanted; what lies in one of `gone` is not taken, as where copper is erased
+    again."""
 
     middle: tuple
     pieces: list

@@ -1,4 +1,5 @@
-"""Where a prober should aim at a pad: its middle, or where that has too little copper about it, a place well within the pad."""
+"""Where a prober should aim at a pad: its middle, or where that has too little copper about it, a place well within the
+pad."""
 from boardnet_show.geometry.distances import from_line
 
 LATTICE = 16  # steps across a piece in which a place is looked for

@@ -1,4 +1,5 @@
-"""The netlist for a tester: of a judged board, or of the lower one of two bounds, given out where `check` confirms it."""
+"""The netlist for a tester: of a judged board, or of the lower one of two bounds, given out where `check` confirms
+it."""
 from typing import Any, Iterable, NamedTuple, Optional, Sequence, Tuple
 
 from boardnet_show.base.statuses import BadCopper, Stop
@@ -45,8 +46,8 @@ def with_copper(program: Program, told: Judged, sources: Iterable[Any] = (), kno
 
 
 def copper_of(program: Program, told: Judged, board: Optional[Board], known: Any = None) -> Board:
-    """The board whose copper is told of, the lower one of two; `board` where its copper is known already, `known` as for
-    shapes."""
+    """The board whose copper is told of, the lower one of two; `board` where its copper is known already, `known` as
+    for shapes."""
     if board and board.shapes:
         return board
     if told.report:
@@ -58,7 +59,8 @@ def copper_of(program: Program, told: Judged, board: Optional[Board], known: Any
 
 
 def confirmed(program: Program, package: Package, text: str) -> Confirmed:
-    """Whether `check` agrees with the netlist, mended where it has forms of its own, and `audit` confirms that report."""
+    """Whether `check` agrees with the netlist, mended where it has forms of its own, and `audit` confirms that
+    report."""
     data, _ = netlist_mends.mended(text.encode("latin-1"), package.manifest.layers)
     copy = package.changed(beside(package, "tester"), {package.manifest.netlist: data})
     answer = program.check(copy)

@@ -1,4 +1,5 @@
-"""Whole names of nets that a netlist cuts and respells, where the copper's own labels, read by pins, say which they are.
+"""Whole names of nets that a netlist cuts and respells, where the copper's own labels, read by pins, say which they
+are.
 
 KiCad writes a name in capitals, other signs than those of ASCII as `?`, of a long one the last 14, and of two that are
 then alike the second with a number (`NAME#1`). A name is taken where all pins of it that have a label have the same

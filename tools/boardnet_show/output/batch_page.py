@@ -8,8 +8,10 @@ from .sentences import verdicts
 from .shown import Shown
 
 STYLE = (
-    "body{font:15px/1.5 'DejaVu Sans',sans-serif;margin:2em;max-width:75em;color:#16191d}table{border-collapse:collapse;width:100%}"
-    "td,th{text-align:left;vertical-align:top;padding:.4em .8em;border-bottom:1px solid #c9ced6}.agrees{color:#0a6b3d}.other{color:#a0006b}"
+    "body{font:15px/1.5 'DejaVu Sans',sans-serif;margin:2em;max-width:75em;color:#16191d}"
+    "table{border-collapse:collapse;width:100%}"
+    "td,th{text-align:left;vertical-align:top;padding:.4em .8em;border-bottom:1px solid #c9ced6}"
+    ".agrees{color:#0a6b3d}.other{color:#a0006b}"
 )
 
 
@@ -25,7 +27,8 @@ def row(shown: Shown, link: Optional[str]) -> str:
     linked = f'<a href="{in_html(os.path.basename(link))}">{name}</a>' if link else name
     hint = text_lines.first_hint(shown)
     told = in_html(verdicts.before(shown.answer) + shown.verdict) + (f"<br>hint: {in_html(hint)}" if hint else "")
-    return f'<tr><td>{linked}</td><td class="{"agrees" if shown.status == 0 else "other"}">{shown.word}</td><td>{told}</td></tr>'
+    kind = "agrees" if shown.status == 0 else "other"
+    return f'<tr><td>{linked}</td><td class="{kind}">{shown.word}</td><td>{told}</td></tr>'
 
 
 def page_html(all_shown: Sequence[Shown], links: Dict[str, str]) -> str:
@@ -33,8 +36,8 @@ def page_html(all_shown: Sequence[Shown], links: Dict[str, str]) -> str:
     rows = "\n".join(row(shown, links.get(shown.path)) for shown in all_shown)
     total = in_html(text_lines.total(all_shown))
     return (
-        f'<!DOCTYPE html>\n<html lang="en">\n<head>\n<meta charset="utf-8">\n'
-        f"<meta http-equiv=\"Content-Security-Policy\" content=\"default-src 'none'; style-src 'unsafe-inline'\">\n"
+        '<!DOCTYPE html>\n<html lang="en">\n<head>\n<meta charset="utf-8">\n'
+        "<meta http-equiv=\"Content-Security-Policy\" content=\"default-src 'none'; style-src 'unsafe-inline'\">\n"
         f"<title>{total}: boardnet</title>\n<style>{STYLE}</style>\n</head>\n<body>\n<h1>{total}</h1>\n"
         f"<table>\n<tr><th>Board</th><th>Answer</th><th>In full</th></tr>\n{rows}\n</table>\n</body>\n</html>\n"
     )

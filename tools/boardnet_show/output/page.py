@@ -1,8 +1,8 @@
 """The page: one HTML file with all that it needs, and nothing fetched.
 
-The board's data are one block: a head in JSON, then columns of whole numbers, little endian, packed by zlib and written in
-base64. Lengths in it are nanometres. The browser unpacks it; the findings stand in the HTML itself, so that they can be read,
-searched and printed without it.
+The board's data are one block: a head in JSON, then columns of whole numbers, little endian, packed by zlib and written
+in base64. Lengths in it are nanometres. The browser unpacks it; the findings stand in the HTML itself, so that they can
+be read, searched and printed without it.
 """
 import base64
 import hashlib
@@ -30,8 +30,9 @@ from .shown import Shown
 from .text_lines import cut
 
 BETWEEN_BOUNDS = (
-    "Some of the copper is not known exactly, as arcs and turned shapes are. Shown is the least that the files can mean; where "
-    "the most is over a micrometre wider, that is outlined by dashes. What is not certain is called undecided."
+    "Some of the copper is not known exactly, as arcs and turned shapes are. Shown is the least that the files can"
+    " mean; where the most is over a micrometre wider, that is outlined by dashes. What is not certain is called"
+    " undecided."
 )
 Place = Tuple[float, float]
 HERE = os.path.join(os.path.dirname(os.path.abspath(__file__)), "page_assets")
@@ -246,7 +247,10 @@ def rows(findings: Sequence[Finding], is_hinted: bool) -> str:
 
 def fold(kind: str, findings: Sequence[Finding]) -> str:
     """Rows that a browser with scripts reads as text, until they are wanted."""
-    return f"<details><summary>{kind} {findings[0].number} to {findings[-1].number}</summary><noscript>{rows(findings, False)}</noscript></details>\n"
+    return (
+        f"<details><summary>{kind} {findings[0].number} to"
+        f" {findings[-1].number}</summary><noscript>{rows(findings, False)}</noscript></details>\n"
+    )
 
 
 def list_of(kind: str, findings: Sequence[Finding]) -> str:
@@ -276,7 +280,10 @@ def audited(shown: Shown) -> str:
         ", and what is waived as a finding" if any(it.finding.kind in OF_NETLIST for it in shown.seen.waived) else ""
     )
     of = f"these files, with copies in place of {spoken(words, FEW)}" if words else "these files"
-    return f"The report was audited: it is true of {of}{', and has each declared tie as a short' if shown.seen.ties.ties else ''}{waived}."
+    return (
+        "The report was audited: it is true of"
+        f" {of}{', and has each declared tie as a short' if shown.seen.ties.ties else ''}{waived}."
+    )
 
 
 def facts(shown: Shown) -> str:
@@ -325,7 +332,10 @@ def page_html(shown: Shown) -> str:
     style, code = asset("page.css"), script()
     lists = "".join(list_of(kind, [f for f in shown.findings if f.kind == kind]) for kind in TITLES)
     fills = {
-        "POLICY": f"default-src 'none'; script-src {source_hash(code)}; style-src {source_hash(style)}; base-uri 'none'; form-action 'none'",
+        "POLICY": (
+            f"default-src 'none'; script-src {source_hash(code)}; style-src {source_hash(style)}; base-uri 'none';"
+            " form-action 'none'"
+        ),
         "TITLE": in_html(shown.title),
         "STYLE": style,
         "SCRIPT": code,
@@ -333,8 +343,10 @@ def page_html(shown: Shown) -> str:
         "VERDICT": in_html(verdict(shown)),
         "FOLDED": folded(shown),
         "ADVICE": advice(shown),
-        "FINDINGS": lists
-        or f'<p class="none">{"No finding" if shown.status else "No open, no short, no point without copper"}.</p>',
+        "FINDINGS": (
+            lists
+            or f'<p class="none">{"No finding" if shown.status else "No open, no short, no point without copper"}.</p>'
+        ),
         "DATA": block(shown.board, shown.findings, wider_data(shown)),
         "RECORD": record_page.section(shown.requested.record),
     }

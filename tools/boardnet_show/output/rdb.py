@@ -63,7 +63,8 @@ def quoted(words: str) -> str:
 def item(kind: str, name: str, marked: Iterable[str]) -> str:
     told = "".join(f"<value>{escaped(value)}</value>" for value in marked)
     return (
-        f"  <item><tags/><category>{kind}</category><cell>board</cell><visited>false</visited><multiplicity>1</multiplicity>"
+        f"  <item><tags/><category>{kind}</category><cell>board</cell><visited>false</visited>"
+        "<multiplicity>1</multiplicity>"
         f"<comment>{escaped(name)}</comment><image/><values>{told}</values></item>"
     )
 

@@ -55,7 +55,8 @@ def page(shown: Shown) -> str:
         f"<p>{in_html(words)}</p>\n" for words in [shown.sentence(), *shown.notes, *text_lines.extra_lines(shown)]
     )
     return (
-        f'<!DOCTYPE html>\n<html lang="en">\n<head>\n<meta charset="utf-8">\n'
-        f'<meta http-equiv="Content-Security-Policy" content="default-src \'none\'">\n<title>{in_html(shown.title)}: boardnet</title>\n</head>\n'
+        '<!DOCTYPE html>\n<html lang="en">\n<head>\n<meta charset="utf-8">\n'
+        f'<meta http-equiv="Content-Security-Policy" content="default-src \'none\'">\n<title>{in_html(shown.title)}:'
+        " boardnet</title>\n</head>\n"
         f"<body>\n<h1>{in_html(shown.title)}</h1>\n{told}{section(shown.requested.record)}</body>\n</html>\n"
     )

@@ -78,7 +78,10 @@ class Shown(NamedTuple):
     @property
     def brief(self) -> str:
         """What counts alone."""
-        return f"{verdicts.before(self.answer)}{self.word}: {verdicts.counted_words(self.answer, self.points, self.asked_besides)}"
+        return (
+            f"{verdicts.before(self.answer)}{self.word}:"
+            f" {verdicts.counted_words(self.answer, self.points, self.asked_besides)}"
+        )
 
     @property
     def points(self) -> int:

@@ -17,12 +17,16 @@ Place = Tuple[int, int]
 Box = Tuple[int, int, int, int]
 # Room round a finding, the least side of what is shown, both in u, and the width of the picture in pixels.
 ROOM, LEAST, WIDTH = 10_000_000, 60_000_000, 1000
-STYLE = """
-.copper { fill: #c9ced6; stroke: #c9ced6; } .a { fill: #0072b2; stroke: #0072b2; } .b { fill: url(#stripes); stroke: url(#stripes); }
-.c { fill: #f5d000; stroke: #f5d000; } .area { stroke: none; fill-rule: evenodd; } .line { fill: none; stroke-linecap: round; }
-.hole { fill: #ffffff; stroke: #16191d; } .slot { stroke: #ffffff; } .wider { fill: none; stroke: #a0006b; } .mark { fill: none; stroke: #a0006b; } .path { fill: none; stroke: #000000; }
-text { font-family: "DejaVu Sans", sans-serif; fill: #16191d; stroke: #ffffff; stroke-width: 0.25em; paint-order: stroke; }
-""".strip()
+STYLE = (
+    ".copper { fill: #c9ced6; stroke: #c9ced6; } .a { fill: #0072b2; stroke: #0072b2; } "
+    ".b { fill: url(#stripes); stroke: url(#stripes); }\n"
+    ".c { fill: #f5d000; stroke: #f5d000; } .area { stroke: none; fill-rule: evenodd; } "
+    ".line { fill: none; stroke-linecap: round; }\n"
+    ".hole { fill: #ffffff; stroke: #16191d; } .slot { stroke: #ffffff; } .wider { fill: none; stroke: #a0006b; } "
+    ".mark { fill: none; stroke: #a0006b; } .path { fill: none; stroke: #000000; }\n"
+    'text { font-family: "DejaVu Sans", sans-serif; fill: #16191d; stroke: #ffffff; stroke-width: 0.25em; '
+    "paint-order: stroke; }"
+)
 STRIPES = (
     '<pattern id="stripes" patternUnits="userSpaceOnUse" width="{0}" height="{0}" patternTransform="rotate(45)">'
     '<rect width="{0}" height="{0}" fill="#d55e00"/><rect width="{1}" height="{0}" fill="#ffe2cc"/></pattern>'
@@ -134,7 +138,10 @@ class Picture:
         dash = micrometres(3 * self.pixel)
         for of, corners in self.shown.seen.wider:
             if of == layer:
-                yield f'<path class="wider" stroke-width="{micrometres(self.pixel)}" stroke-dasharray="{dash}" d="M{"L".join(map(point, corners))}Z"/>'
+                yield (
+                    f'<path class="wider" stroke-width="{micrometres(self.pixel)}" stroke-dasharray="{dash}"'
+                    f' d="M{"L".join(map(point, corners))}Z"/>'
+                )
 
     def hole(self, piece: int) -> Iterator[str]:
         """A hole with a dark rim, of a slot by a wider stroke below."""
@@ -157,13 +164,18 @@ class Picture:
             yield f'<path stroke-dasharray="{dash} {dash}" d="M{point(spots[0])}L{point(spots[1])}"/>'
         elif finding.kind == "missing":
             x, y = spots[0]
-            yield f'<path d="M{point((x - size, y))}L{point((x + size, y))}M{point((x, y - size))}L{point((x, y + size))}"/>' + ring(
-                spots[0], size
+            yield (
+                "<path"
+                f' d="M{point((x - size, y))}L{point((x + size, y))}M{point((x, y - size))}L{point((x, y + size))}"/>'
+                + ring(spots[0], size)
             )
         if finding.gap:
             yield ring(finding.gap.place, size)
         for x, y in [found.place for found in finding.meets]:
-            yield f'<path d="M{point((x - size, y))}L{point((x, y + size))}L{point((x + size, y))}L{point((x, y - size))}Z"/>'
+            yield (
+                "<path"
+                f' d="M{point((x - size, y))}L{point((x, y + size))}L{point((x + size, y))}L{point((x, y - size))}Z"/>'
+            )
 
     def labels(self) -> Iterator[str]:
         """The pins of the finding's points, and what the picture is of."""
@@ -192,7 +204,10 @@ class Picture:
             f'<svg xmlns="http://www.w3.org/2000/svg" width="{WIDTH}" height="{height}" role="img" '
             f'viewBox="{point((left, high))} {micrometres(right - left)} {micrometres(high - low)}">'
         )
-        yield f"<title>{escaped(self.finding.id if self.finding else self.shown.title)}</title>\n<desc>{escaped(told)}</desc>\n<style>{STYLE}</style>"
+        yield (
+            f"<title>{escaped(self.finding.id if self.finding else self.shown.title)}</title>\n"
+            f"<desc>{escaped(told)}</desc>\n<style>{STYLE}</style>"
+        )
         yield STRIPES.format(micrometres(10 * self.pixel), micrometres(4 * self.pixel))
         yield f'<rect x="{micrometres(left)}" y="{micrometres(-high)}" width="100%" height="100%" fill="#ffffff"/>'
         yield from self.copper()

@@ -1,4 +1,5 @@
-"""Apertures of a copper file as what both sides write for them: passed on, or as pieces within the shape and pieces round it."""
+"""Apertures of a copper file as what both sides write for them: passed on, or as pieces within the shape and pieces
+round it."""
 from fractions import Fraction as Q
 from math import cos, pi, sin
 from typing import Dict, List, Optional, Sequence, Tuple, Union
@@ -20,9 +21,9 @@ MOST_FRAMES = 1_000  # flashes of rectangles with a hole in a file that have man
 
 
 class Shape:
-    """A flash: its pieces on both sides, and what the lower side leaves out. One that is a pen has one convex piece a side. Where
-    `between` reads it, `rows` has for each of its own pieces how many those of both sides are; `smaller` is one that it takes in its place,
-    and `plainer` one of few pieces."""
+    """A flash: its pieces on both sides, and what the lower side leaves out. One that is a pen has one convex piece a
+    side. Where `between` reads it, `rows` has for each of its own pieces how many those of both sides are; `smaller` is
+    one that it takes in its place, and `plainer` one of few pieces."""
 
     def __init__(self, lower, upper, lost=None, is_pen=False, rows=None):
         self.both, self.lost, self.is_pen, self.rows, self.smaller, self.plainer = (
@@ -36,8 +37,8 @@ class Shape:
 
 
 class Pen:
-    """A passed on aperture: half the diameter of a circle, else None; for each side its even sizes. Where these are unlike, `is_read`
-    says whether `between` reads it."""
+    """A passed on aperture: half the diameter of a circle, else None; for each side its even sizes. Where these are
+    unlike, `is_read` says whether `between` reads it."""
 
     lost, is_pen = None, True
 
@@ -90,9 +91,9 @@ def even_up(length: Q) -> int:
 
 
 def even_sizes(name: str, lengths: Sequence[Q]) -> Tuple[List[int], List[int], bool]:
-    """Sizes of a shape within and round one, and whether `between` takes these: of an obround whose longer side alone is odd the other is
-    2 less and more, so that the ends of its middle line are no further off than the radii are. Where that leaves nothing, or is too wide, it
-    is as it was."""
+    """Sizes of a shape within and round one, and whether `between` takes these: of an obround whose longer side alone
+    is odd the other is 2 less and more, so that the ends of its middle line are no further off than the radii are.
+    Where that leaves nothing, or is too wide, it is as it was."""
     low, high = [even_down(v) for v in lengths], [even_up(v) for v in lengths]
     short, is_read = lengths.index(min(lengths)), all(v.denominator == 1 for v in lengths)
     if name != OBROUND or low == high or low[short] != high[short]:
@@ -160,7 +161,8 @@ def is_frame(w: Q, h: Q, hole: Q) -> bool:
 
 
 def frame_shape(w: int, h: int, hole: int) -> Shape:
-    """A rectangle with a round hole: above a region with a cut-in, below an area with a cut; the smaller one keeps off its border."""
+    """A rectangle with a round hole: above a region with a cut-in, below an area with a cut; the smaller one keeps off
+    its border."""
     x, y, r = w // 2, h // 2, hole // 2
     around = rounded_contour(
         ((r, 0), ((0, 0), (r, 0), False), (x, 0), (x, y), (-x, y), (-x, -y), (x, -y), (x, 0), (r, 0)), False, True
@@ -177,8 +179,8 @@ def framed(lower, upper):
 
 
 def clear_frame(x, y, r):
-    """Corners within a rectangle that keep off its sides, off a cut at the right, and off draws along eighth turns of a hole; None where
-    these leave too little. Floats only choose places, which the program tests."""
+    """Corners within a rectangle that keep off its sides, off a cut at the right, and off draws along eighth turns of a
+    hole; None where these leave too little. Floats only choose places, which the program tests."""
     turns, keep = eighth_chain((0, 0), (r, 0), (r, 0)), eighth_radius((0, 0), (r, 0))
     far = (r + keep + 2) * 203 // 202 + 2  # an edge of 32 is nearer by less than a 200th
     if far > min(x, y) - 2 or r < 100 or leaves((0, 0), turns, r, r) > keep:
@@ -199,12 +201,14 @@ def clear_frame(x, y, r):
 
 
 def is_pierced(lengths: Sequence[Q], hole: Q) -> bool:
-    """Whether a shape has a round hole as `between` reads it where that is no draw and no region: all sizes are whole."""
+    """Whether a shape has a round hole as `between` reads it where that is no draw and no region: all sizes are
+    whole."""
     return all(v.denominator == 1 for v in (*lengths, hole)) and 0 < hole < min(lengths) and hole <= MOST_WIDE
 
 
 def pierced(name, lengths, sizes, hole):
-    """A circle or rectangle with another round hole: above without it, below clear of it by 1 u where `between` reads it."""
+    """A circle or rectangle with another round hole: above without it, below clear of it by 1 u where `between` reads
+    it."""
     is_read = is_pierced(lengths, hole)
     lower, upper = holed(name, sizes[0], even_up(hole) + 2 if is_read else hole), solid(name, sizes[1])
     return Shape(
@@ -232,8 +236,8 @@ def holed_shape(figures, hole):
 
 
 def holed(name, sizes, hole):
-    """Within a circle or rectangle with a round hole: a ring is what a pen leaves on a circle; of a rectangle an area with a cut to
-    a polygon that lies round the hole, as even-odd means it."""
+    """Within a circle or rectangle with a round hole: a ring is what a pen leaves on a circle; of a rectangle an area
+    with a cut to a polygon that lies round the hole, as even-odd means it."""
     if hole >= min(sizes):
         return []
     if name == CIRCLE:
@@ -272,8 +276,8 @@ def macro(name: str, body: Sequence[str], values: Sequence[Q], scale: int) -> Ap
 
 
 def swept(piece: Piece, a: Spot, b: Spot) -> List[Piece]:
-    """What a convex piece covers along a line: the hull of the piece at both ends, or for a round one the hull of its middle line
-    with draws round it."""
+    """What a convex piece covers along a line: the hull of the piece at both ends, or for a round one the hull of its
+    middle line with draws round it."""
     moved = lambda spots: [(x + p, y + q) for p, q in (a, b) for x, y in spots]
     if isinstance(piece, Area):
         return [Area(hull(moved(piece.corners)))]

@@ -1,4 +1,5 @@
-"""Apertures that are mirrored, then turned, then sized about their origin: pieces within and pieces round the changed shape."""
+"""Apertures that are mirrored, then turned, then sized about their origin: pieces within and pieces round the changed
+shape."""
 from fractions import Fraction as Q
 from functools import lru_cache
 from typing import Any, List, NamedTuple, Optional, Sequence
@@ -48,7 +49,8 @@ class Change(NamedTuple):
         return Shape(lower, upper, " and ".join(told) or None, made.is_pen)
 
     def lost(self, before: Sequence[Piece], left: int) -> Optional[str]:
-        """What is lost of pieces of which so many are left; None for nothing. Areas that abut where they are cut do so no more."""
+        """What is lost of pieces of which so many are left; None for nothing. Areas that abut where they are cut do so
+        no more."""
         if left < len(before):
             return f"{len(before) - left} of the {len(before)} parts of" if left else "all of"
         return f"the join of the {left} parts of" if not self.is_square() and abut(before) else None

@@ -34,8 +34,8 @@ def vector_line(w: Q, x1: Q, y1: Q, x2: Q, y2: Q) -> List[Point]:
 
 
 def line(w: Q, x1: Q, y1: Q, x2: Q, y2: Q, degrees: Q) -> Figure:
-    """Along an axis a rectangle from its lower left corner on, where the width is even or it is turned; else by its ends, where these are whole, and
-    so is the width."""
+    """Along an axis a rectangle from its lower left corner on, where the width is even or it is turned; else by its
+    ends, where these are whole, and so is the width."""
     if (x1 == x2 or y1 == y2) and (w % 2 != 1 or degrees % 90):
         aside = (w / 2, 0) if x1 == x2 else (0, w / 2)
         (left, right), (low, high) = sorted((x1, x2)), sorted((y1, y2))
@@ -60,9 +60,10 @@ COUNTS = {1: (5, 6), 2: (8,), 20: (8,), 21: (7,), 22: (7,), 5: (7,)}
 
 
 def figures(body: Sequence[str], parameters: Sequence[Q], scale: int) -> List[Figure]:
-    """The real shapes of a macro's body, turned, in u: ("disc", centre, radius), ("line", start, end, width), ("turned", corners, angle)
-    ("turned disc", centre, radius, angle), ("turned outline", corners, angle) and ("regular", corners, diameter in parts, angle, centre, turn) of whole numbers,
-    ("convex", corners) or ("outline", corners)."""
+    """The real shapes of a macro's body, turned, in u: ("disc", centre, radius), ("line", start, end, width),
+    ("turned", corners, angle) ("turned disc", centre, radius, angle), ("turned outline", corners, angle) and
+    ("regular", corners, diameter in parts, angle, centre, turn) of whole numbers, ("convex", corners) or ("outline",
+    corners)."""
     variables = {k + 1: value for k, value in enumerate(parameters)}
     for word in body:
         word = compact(word)
@@ -178,7 +179,8 @@ BOUNDS = {
 
 
 def without(figures_in_order):
-    """Pieces of LOWER and UPPER of figures, some of which take away from those before, and how many LOWER leaves out."""
+    """Pieces of LOWER and UPPER of figures, some of which take away from those before, and how many LOWER leaves
+    out."""
     objects, lost = [], 0
     for n, figure in enumerate(figures_in_order):
         low, high = bounds_of(figure[1] if figure[0] == "off" else figure)
@@ -188,7 +190,8 @@ def without(figures_in_order):
 
 
 def rows(figures_in_order):
-    """Of figures that `between` reads, as they stand, as slanted lines, turned or regular, how many pieces of both sides each has; else None."""
+    """Of figures that `between` reads, as they stand, as slanted lines, turned or regular, how many pieces of both
+    sides each has; else None."""
     told = [row(*figure) for figure in figures_in_order]
     return None if None in told else told
 

@@ -1,5 +1,6 @@
-"""Contours that go round a place an even number of times, as one that crosses itself can: bare by even and odd, our rule, and copper in a
-reader that counts turns. A place is sought beside the edges that meet others: each area that is gone round twice has such a one."""
+"""Contours that go round a place an even number of times, as one that crosses itself can: bare by even and odd, our
+rule, and copper in a reader that counts turns. A place is sought beside the edges that meet others: each area that is
+gone round twice has such a one."""
 from fractions import Fraction
 from typing import Dict, List, NamedTuple, Optional, Set, Tuple
 

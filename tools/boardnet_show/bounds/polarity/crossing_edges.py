@@ -1,10 +1,10 @@
 """Strands that cross between a line and the next whole y, a unit above: straight ones stand there in their place.
 
-The strands of a bundle are some that lie side by side, and none of them crosses another. The greatest of straight lines bends
-outwards, so its chord lies beyond all of them, and the least likewise. Strands of the bundle that do not cross each other cut it
-into columns. One is dark or clear where it is that at every height, by all orders that the strands have on the way; where both occur
-it is clear for LOWER and dark for UPPER. So what is wrong is a unit high, and as wide as the most level strand goes in a unit: where that
-is far, upright columns stand there instead (upright).
+The strands of a bundle are some that lie side by side, and none of them crosses another. The greatest of straight lines
+bends outwards, so its chord lies beyond all of them, and the least likewise. Strands of the bundle that do not cross
+each other cut it into columns. One is dark or clear where it is that at every height, by all orders that the strands
+have on the way; where both occur it is clear for LOWER and dark for UPPER. So what is wrong is a unit high, and as wide
+as the most level strand goes in a unit: where that is far, upright columns stand there instead (upright).
 """
 from collections import Counter
 from fractions import Fraction as Q
@@ -145,8 +145,8 @@ def under(left, old, top):
 
 
 def columns(sweep, left, old, y):
-    """The strands that stay as walls, the steepest first, and for the columns between them whether dark, clear or both occur. Those
-    of areas under the last one that covers all of the bundle do not matter."""
+    """The strands that stay as walls, the steepest first, and for the columns between them whether dark, clear or both
+    occur. Those of areas under the last one that covers all of the bundle do not matter."""
     last = max(set(left).difference(e.item for e in old), default=-1)
     old = [e for e in old if e.item > last]
     if not old:

@@ -1,9 +1,9 @@
 """Two strands that cross each other alone between a line and the next whole y: they change places there.
 
-Four gaps meet where they cross. Where one is dark, or all but one beside the strands, a side of one piece goes from one strand to
-the other. The least of two straight lines bends outwards: a chord lies beyond both. Where the other side of them is asked for, the
-side stands upright at the farthest place that it comes to. Either way each place between it and the strands has one of these
-within a unit above or below it, however level they are.
+Four gaps meet where they cross. Where one is dark, or all but one beside the strands, a side of one piece goes from one
+strand to the other. The least of two straight lines bends outwards: a chord lies beyond both. Where the other side of
+them is asked for, the side stands upright at the farthest place that it comes to. Either way each place between it and
+the strands has one of these within a unit above or below it, however level they are.
 """
 from fractions import Fraction as Q
 

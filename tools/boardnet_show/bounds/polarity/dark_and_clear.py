@@ -1,8 +1,9 @@
 """Dark and clear objects of a layer in their order: the copper that is left, between two bounds.
 
-The copper is what each dark object has outside all clear ones after it. Below it are the dark objects' pieces within them without
-the clear objects' pieces round them; above it are the pieces round without the pieces within. At a border between dark and clear
-either is allowed; where pieces of one object abut is no border. Dark objects that no later clear one comes near stay as they are.
+The copper is what each dark object has outside all clear ones after it. Below it are the dark objects' pieces within
+them without the clear objects' pieces round them; above it are the pieces round without the pieces within. At a border
+between dark and clear either is allowed; where pieces of one object abut is no border. Dark objects that no later clear
+one comes near stay as they are.
 """
 from collections import Counter
 from math import gcd
@@ -19,8 +20,9 @@ CELLS = 64  # to each side
 
 
 class Object(NamedTuple):
-    """What a command makes: pieces within it and pieces round it; `tag` is the command's number. `areas` are corners of areas within
-    it and round it, where they are known and fewer than those of the pieces. It `joins` its pieces where they abut, unless it is several contours.
+    """What a command makes: pieces within it and pieces round it; `tag` is the command's number. `areas` are corners of
+    areas within it and round it, where they are known and fewer than those of the pieces. It `joins` its pieces where
+    they abut, unless it is several contours.
     """
 
     dark: bool
@@ -88,8 +90,9 @@ def chosen(objects: Sequence[Object], also: Collection[int]) -> Tuple[Set[int], 
 
 
 def cut(objects, also=(), sides=(0, 1)):
-    """(tags, LOWER, UPPER): the tags of dark objects that are written otherwise, and what is written for them, as (piece, tag).
-    Objects of the tags `also` are written otherwise in any case; of another side than `sides` there is nothing."""
+    """(tags, LOWER, UPPER): the tags of dark objects that are written otherwise, and what is written for them, as
+    (piece, tag). Objects of the tags `also` are written otherwise in any case; of another side than `sides` there is
+    nothing."""
     tags, swept = chosen(objects, set(also))
     apart, out = set(swept), []
     for side in (0, 1):
@@ -126,8 +129,8 @@ def whole(objects: Sequence[Object]) -> Both:
 
 
 def corners_of(item, side):
-    """(corners, whether they lie within the object's border) of areas, for UPPER of the dark ones round and the clear ones within,
-    and the other way for LOWER."""
+    """(corners, whether they lie within the object's border) of areas, for UPPER of the dark ones round and the clear
+    ones within, and the other way for LOWER."""
     outer = bool(side) == item.dark
     if item.areas:
         yield from ((corners, not outer) for corners in item.areas[1 if outer else 0])
@@ -141,8 +144,9 @@ def corners_of(item, side):
 
 
 def caps(corners):
-    """A unit beyond all corners at which a contour turns upwards or downwards, and round level edges and corners where it runs along
-    itself or comes twice: with these and the sweep's distance to both sides LOWER has nothing of a clear area's border.
+    """A unit beyond all corners at which a contour turns upwards or downwards, and round level edges and corners where
+    it runs along itself or comes twice: with these and the sweep's distance to both sides LOWER has nothing of a clear
+    area's border.
     """
     spots = [p for k, p in enumerate(corners) if p != corners[k - 1]]
     often = {p for p, times in Counter(spots).items() if times > 1} | doubled(spots)

@@ -1,8 +1,9 @@
-"""Dark runs between two strands, from line to line, as contours: their sides are rounded inwards for LOWER and outwards for UPPER.
+"""Dark runs between two strands, from line to line, as contours: their sides are rounded inwards for LOWER and outwards
+for UPPER.
 
-A side is straight between two corners, and all lines are at whole y, so what is rounded at both ends is on the right side all along.
-A corner on a straight side is left out where the run is so wide there that its sides cannot cross: a side stays within a unit of its
-strand. What is rounded past the other side is no part of LOWER.
+A side is straight between two corners, and all lines are at whole y, so what is rounded at both ends is on the right
+side all along. A corner on a straight side is left out where the run is so wide there that its sides cannot cross: a
+side stays within a unit of its strand. What is rounded past the other side is no part of LOWER.
 """
 from operator import mul
 
@@ -15,9 +16,9 @@ APART = 4  # a run is wide where it is wider all along
 
 
 class Piece:
-    """A dark run since a line; `lefts` and `rights` are corners of its contour, None where it has none yet. A side is moved by
-    `left_by` and `right_by`, inwards for LOWER and outwards for UPPER. Where it is `tight` at its last line, both sides want
-    corners there."""
+    """A dark run since a line; `lefts` and `rights` are corners of its contour, None where it has none yet. A side is
+    moved by `left_by` and `right_by`, inwards for LOWER and outwards for UPPER. Where it is `tight` at its last line,
+    both sides want corners there."""
 
     __slots__ = ("left", "right", "since", "item", "lefts", "rights", "left_by", "right_by", "tight")
 
@@ -71,7 +72,8 @@ class Runs:
         piece.tight, piece.since = r1 - l1 < 2, y
 
     def thin(self, piece, y, starts):
-        """At an end of the trapezoid the sides round past each other: what is of it where they are so far apart that they do not."""
+        """At an end of the trapezoid the sides round past each other: what is of it where they are so far apart that
+        they do not."""
         a, b = piece.left, piece.right
         need = 2 if piece.left_by and piece.right_by else 1
         width = (b.x1 * b.dy - b.dx * b.y1) * a.dy - (a.x1 * a.dy - a.dx * a.y1) * b.dy - need * a.dy * b.dy
@@ -105,8 +107,8 @@ class Runs:
         piece.since = y
 
     def narrow(self, piece, y, left, right):
-        """A side keeps off its strand at a line. Where it would cross the other, the contour ends before; where that was settled
-        already, in a run of a unit's width, it is left out."""
+        """A side keeps off its strand at a line. Where it would cross the other, the contour ends before; where that
+        was settled already, in a run of a unit's width, it is left out."""
         if piece.since < y:
             self.pin(piece)
         was = piece.left_by, piece.right_by
@@ -121,8 +123,8 @@ class Runs:
             piece.left_by, piece.right_by = now
 
     def change(self, piece, y, left, right, left_by, right_by):
-        """Other strands from a settled line on; None where a side goes on. What is below it and above it is one contour where both
-        share a place of the line."""
+        """Other strands from a settled line on; None where a side goes on. What is below it and above it is one contour
+        where both share a place of the line."""
         l0, r0 = self.sides(piece, y)
         piece.take(left, right, left_by, right_by)
         if piece.lefts is None:

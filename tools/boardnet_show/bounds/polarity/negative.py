@@ -1,4 +1,5 @@
-"""Copper files that say where there is none: dark and clear are exchanged within the board's outline. Outside it nothing is dark.
+"""Copper files that say where there is none: dark and clear are exchanged within the board's outline. Outside it
+nothing is dark.
 
 Where the outline is not known (`profiles`), LOWER has nothing of such a file, and UPPER all that may be.
 """
@@ -35,8 +36,8 @@ def rectangle(b: Box, by: int) -> List[Spot]:
 
 
 def exchanged(objects, outline, tag):
-    """The objects of a negative file as those of a positive one: the board's inside, then all with dark and clear exchanged, then nothing
-    outside it."""
+    """The objects of a negative file as those of a positive one: the board's inside, then all with dark and clear
+    exchanged, then nothing outside it."""
     inside, turned = [it._replace(tag=tag) for it in outline.objects], [it._replace(dark=not it.dark) for it in objects]
     seen = around([outline.box, *(box(piece) for it in objects for piece in it.both[1])])
     if not inside:

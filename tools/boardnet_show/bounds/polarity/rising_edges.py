@@ -5,7 +5,8 @@ from math import gcd
 
 
 class Place(Q):
-    """A place on a line that is not whole: a fraction that is compared and found in tables faster, with its like and whole numbers."""
+    """A place on a line that is not whole: a fraction that is compared and found in tables faster, with its like and
+    whole numbers."""
 
     __slots__ = ()
 
@@ -44,9 +45,9 @@ def quotient(above, below):
 
 
 class Strand:
-    """A part of a contour that rises, by its edge at the line, from (x1, y1) to (x2, y2) between `low` and `high`, and the `rest` of
-    its corners, the next one last. `cover` are the areas right of it, `opens` and `ends` the piece whose left or right side it is,
-    `before` and `after` its neighbours on the line while it is `active`."""
+    """A part of a contour that rises, by its edge at the line, from (x1, y1) to (x2, y2) between `low` and `high`, and
+    the `rest` of its corners, the next one last. `cover` are the areas right of it, `opens` and `ends` the piece whose
+    left or right side it is, `before` and `after` its neighbours on the line while it is `active`."""
 
     __slots__ = (
         "x1",
@@ -161,8 +162,8 @@ def toggled(cover, item):
 
 
 def beneath(left, below, under):
-    """The strands of a window below its line with those that came into a bundle in place of what stood for them: each with its place,
-    what covers the gap right of all at that place, and its area."""
+    """The strands of a window below its line with those that came into a bundle in place of what stood for them: each
+    with its place, what covers the gap right of all at that place, and its area."""
     if not under:
         return below
     found, cover = [], left

@@ -1,13 +1,13 @@
 """Areas dark and clear in their order, as contours of whole corners: within what is left dark, or round it.
 
-A line goes upwards over all edges. Between two lines with ends or crossings the edges have one order, and of each gap between
-neighbours the last area that covers it tells whether it is dark. A run of dark gaps between two lines is a trapezoid. All lines
-are at whole y; edges that cross between two of them are straightened there (bundles). What runs share a line's part is one
-contour as far as it goes up (runs).
+A line goes upwards over all edges. Between two lines with ends or crossings the edges have one order, and of each gap
+between neighbours the last area that covers it tells whether it is dark. A run of dark gaps between two lines is a
+trapezoid. All lines are at whole y; edges that cross between two of them are straightened there (bundles). What runs
+share a line's part is one contour as far as it goes up (runs).
 
-The border of a clear area may be dark or not. LOWER keeps a unit off it to both sides; level edges and their ends are not
-looked at for that, so who wants them out makes the area larger. UPPER has it, also where two areas share an edge and
-nothing else is left, but for areas of one object: what is in its areas on all sides is no border of it.
+The border of a clear area may be dark or not. LOWER keeps a unit off it to both sides; level edges and their ends are
+not looked at for that, so who wants them out makes the area larger. UPPER has it, also where two areas share an edge
+and nothing else is left, but for areas of one object: what is in its areas on all sides is no border of it.
 """
 from bisect import bisect_right
 from heapq import heappop, heappush
@@ -21,8 +21,8 @@ from .rising_edges import beneath, crossing, ordered, slope, strands_of, toggled
 
 
 class Sweep:
-    """`items` are (dark, corners) in order; `out` are (corners, item) of the contours. Of clear ones whose numbers are `closed` the
-    border is theirs for certain. `objects` are those that the items are of."""
+    """`items` are (dark, corners) in order; `out` are (corners, item) of the contours. Of clear ones whose numbers are
+    `closed` the border is theirs for certain. `objects` are those that the items are of."""
 
     def __init__(self, items, upper, closed=(), objects=None):
         self.upper, self.status, self.runs, self.seeds, self.count, self.touched = upper, [], Runs(upper), [], 0, ()
@@ -230,7 +230,8 @@ class Sweep:
         return True
 
     def is_marked(self, y, left, right):
-        """Whether the sides of what is dark beside a place may be touched on the same line: corners there are not known yet."""
+        """Whether the sides of what is dark beside a place may be touched on the same line: corners there are not known
+        yet."""
         return left.at(y) in self.marks or right.at(y) in self.marks
 
     def find(self, y, x):
@@ -271,7 +272,8 @@ class Sweep:
             after.before = before
 
     def around(self, y, low, high, started):
-        """Of a window its place among the strands, those below and above its line, what covers the gap left of it, and the gaps."""
+        """Of a window its place among the strands, those below and above its line, what covers the gap left of it, and
+        the gaps."""
         status = self.status
         i = j = self.find(y, low)
         while j < len(status) and status[j].side(high, y) <= 0:
@@ -317,7 +319,8 @@ class Sweep:
         return found
 
     def keep_off(self, y, old, left, below, above):
-        """For LOWER the places of a window at which the last area that comes up to them is clear: runs keep off these."""
+        """For LOWER the places of a window at which the last area that comes up to them is clear: runs keep off
+        these."""
         last = {}
         for side in (below, above):
             cover = left
@@ -331,8 +334,8 @@ class Sweep:
                     self.runs.narrow(piece, y, e is piece.left, e is piece.right)
 
     def keep_points(self, y, left, below, under, above, real):
-        """For UPPER the places of a window that are left alone where clear areas do not have their borders, as small squares. `under`
-        are the strands that come back from bundles, `real` all below the line."""
+        """For UPPER the places of a window that are left alone where clear areas do not have their borders, as small
+        squares. `under` are the strands that come back from bundles, `real` all below the line."""
         near = {}
         for side in (below, above):
             cover = left
@@ -359,7 +362,8 @@ class Sweep:
         return bool(cover) and self.dark[cover[-1]]
 
     def meet(self, a, b, y):
-        """Notes where neighbours change places: a line there, or at the whole y below, or a bundle from this line on."""
+        """Notes where neighbours change places: a line there, or at the whole y below, or a bundle from this line
+        on."""
         if a.high < b.low:
             return
         top = min(a.y2, b.y2)
@@ -394,7 +398,8 @@ class Sweep:
         return found
 
     def above(self, y, i, new):
-        """The dark runs above a line: [left, right, left strand, right strand, cover, left_by, right_by]. Strands in one line are one."""
+        """The dark runs above a line: [left, right, left strand, right strand, cover, left_by, right_by]. Strands in
+        one line are one."""
         cover = self.status[i - 1].cover if i else ()
         found, first, before = [[None, None, None, None, cover, 0, 0]] if self.is_dark(cover) else [], 0, cover
         for k, e in enumerate(new):
@@ -418,12 +423,14 @@ class Sweep:
         )
 
     def hair(self, one, two, items):
-        """The dark area that is left on a border of some between two gaps, where clear areas do not have their borders, or None."""
+        """The dark area that is left on a border of some between two gaps, where clear areas do not have their borders,
+        or None."""
         last = self.last_of({*one, *two, *items} - {None}, (one, two))
         return last if self.dark[last] else None
 
     def last_of(self, items, gaps):
-        """The last of the areas at a border between some gaps that is dark, or has the border for certain: since its object has all of the gaps."""
+        """The last of the areas at a border between some gaps that is dark, or has the border for certain: since its
+        object has all of the gaps."""
         every = None
         for k in sorted(items, reverse=True):
             if self.dark[k] or k in self.closed:

@@ -1,8 +1,10 @@
-"""Strands that cross between a line and the next whole y, some of them nearly level: upright columns stand there in their place.
+"""Strands that cross between a line and the next whole y, some of them nearly level: upright columns stand there in
+their place.
 
-An upright line over a place meets the strands in their order there. Where all on it is dark the place's column is dark, where nothing
-is it is clear; where both occur it is clear for LOWER and dark for UPPER. So what is told wrong of a place is right at most a unit
-above or below it, however level the strands are. The columns fill a box that no other strand comes into.
+An upright line over a place meets the strands in their order there. Where all on it is dark the place's column is dark,
+where nothing is it is clear; where both occur it is clear for LOWER and dark for UPPER. So what is told wrong of a
+place is right at most a unit above or below it, however level the strands are. The columns fill a box that no other
+strand comes into.
 """
 from bisect import bisect_right
 from fractions import Fraction as Q
@@ -77,7 +79,8 @@ def stacks(rows, left, xs):
 
 
 class Column:
-    """Between two places: the gaps upwards, each with the rows at its foot, and whether `some` or `every` place of it is dark."""
+    """Between two places: the gaps upwards, each with the rows at its foot, and whether `some` or `every` place of it
+    is dark."""
 
     def __init__(self, sweep, cover, stack=()):
         self.gaps = [(cover, [])]
@@ -113,7 +116,8 @@ def is_hair(sweep, before, after, x, items):
 
 
 def hairs(sweep, rows, xs, made):
-    """A unit to both sides of what is left of upright borders. `made` are the columns before, between and after the places."""
+    """A unit to both sides of what is left of upright borders. `made` are the columns before, between and after the
+    places."""
     items = {}
     for row in rows:
         if row.foot == row.head:

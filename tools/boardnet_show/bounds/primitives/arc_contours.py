@@ -7,9 +7,10 @@ from boardnet_show.geometry.segments import Bands, Segments, edges, place_beside
 
 
 def contour_bound(parts: Sequence[Any], upper: bool) -> Optional[List[Spot]]:
-    """parts: spots (the next corner of a straight edge) and Arcs, in order, closed. Corners of an area within the real one, or
-    round it, or None. Between a chain and its arc lies a sliver; what the two areas do not share lies in slivers. Where no other
-    edge enters a sliver and one place of it is outside the new area, or for UPPER in it, all of it is."""
+    """parts: spots (the next corner of a straight edge) and Arcs, in order, closed. Corners of an area within the real
+    one, or round it, or None. Between a chain and its arc lies a sliver; what the two areas do not share lies in
+    slivers. Where no other edge enters a sliver and one place of it is outside the new area, or for UPPER in it, all of
+    it is."""
     arcs = [p for p in parts if isinstance(p, Arc)]
     if not all(arc.sound for arc in arcs):
         return None
@@ -55,8 +56,9 @@ def meets_sliver(arc: Arc, chain: Corners, span: Any, segments: Sequence[Any], g
 
 
 def enters(arc: Arc, chain: Corners, far: Spot, at_first: bool) -> bool:
-    """Does the neighbour's edge, from the shared end to far, go into the cone that holds the first sliver? Inside the disc that
-    is the one between chord and tangent, outside the one between the chain and a chord as long as two tangents."""
+    """Does the neighbour's edge, from the shared end to far, go into the cone that holds the first sliver? Inside the
+    disc that is the one between chord and tangent, outside the one between the chain and a chord as long as two
+    tangents."""
     at_start = at_first == arc.ccw
     o, p = (chain[0], chain[1]) if at_start else (chain[-1], chain[-2])
     u, v, g = (p[0] - o[0], p[1] - o[1]), arc.tangent(at_start), (far[0] - o[0], far[1] - o[1])

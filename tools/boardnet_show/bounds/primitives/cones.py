@@ -1,6 +1,8 @@
-"""Turns by about an angle, by whole numbers: the rule of the crate `slants`, by which `between` tests bounds of turned figures.
+"""Turns by about an angle, by whole numbers: the rule of the crate `slants`, by which `between` tests bounds of turned
+figures.
 
-An angle is a whole number of parts of a degree, below a right angle. A turn is told by a whole way: it is by twice its angle.
+An angle is a whole number of parts of a degree, below a right angle. A turn is told by a whole way: it is by twice its
+angle.
 """
 from typing import Sequence, Tuple
 

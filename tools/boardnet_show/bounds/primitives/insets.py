@@ -1,5 +1,5 @@
-"""Contours within regions with arcs, as `between` takes them: clear of the straight edges, and of draws along chains of eighth turns for arcs; and
-within turned outlines, clear of draws along their edges.
+"""Contours within regions with arcs, as `between` takes them: clear of the straight edges, and of draws along chains of
+eighth turns for arcs; and within turned outlines, clear of draws along their edges.
 
 How the corners were found does not matter: they are tested.
 """
@@ -25,7 +25,8 @@ def eighth_turns(centre: Spot, first: Spot) -> List[Spot]:
 
 
 def eighth_chain(centre: Spot, first: Spot, last: Spot) -> List[Spot]:
-    """A chain of eighth turns from one place to another, counterclockwise, and of what is left; equal places are a whole turn apart."""
+    """A chain of eighth turns from one place to another, counterclockwise, and of what is left; equal places are a
+    whole turn apart."""
     chain = [first]
     for spot in eighth_turns(centre, first):
         if cross(centre, chain[-1], last) > 0 and cross(centre, spot, last) <= dot(centre, last, last) // 64:
@@ -56,8 +57,9 @@ def inset(corners: Corners, keeps: Sequence[int]) -> Optional[List[Spot]]:
 
 
 def moved(corners, keeps, k, order, more):
-    """The lines that stand for an edge, each by a place, its way, how far it is moved to the left, times its length and 2^20, and how long it
-    is: the edge moved inwards, and with steps across, by more near ends where a neighbour is kept further off."""
+    """The lines that stand for an edge, each by a place, its way, how far it is moved to the left, times its length and
+    2^20, and how long it is: the edge moved inwards, and with steps across, by more near ends where a neighbour is kept
+    further off."""
     a, b, keep = corners[k], corners[(k + 1) % len(corners)], keeps[k]
     way, length = (b[0] - a[0], b[1] - a[1]), isqrt(dot(a, b, b) << 40)
     first, last = (max(keep, keeps[at % len(keeps)]) for at in (k - 1, k + 1))
@@ -74,7 +76,8 @@ def moved(corners, keeps, k, order, more):
 
 
 def met(lines: List[Any]) -> Optional[List[Spot]]:
-    """The corners where neighbours of a ring of lines meet. Of lines in a row that would run the other way then the shortest is left out."""
+    """The corners where neighbours of a ring of lines meet. Of lines in a row that would run the other way then the
+    shortest is left out."""
     for _ in range(ROUNDS):
         tips = [tip(lines[k - 1], lines[k]) for k in range(len(lines))]
         runs = [(q[0] - p[0]) * line[1][0] + (q[1] - p[1]) * line[1][1] > 0 for line, (p, q) in zip(lines, edges(tips))]

@@ -1,7 +1,7 @@
 """Discs and polygons with real corners between pieces with whole ones.
 
-Of each shape two lists of pieces: those that lie in it, and those that hold it. An area is filled by even-odd. Corners are places of
-intervals.
+Of each shape two lists of pieces: those that lie in it, and those that hold it. An area is filled by even-odd. Corners
+are places of intervals.
 """
 from fractions import Fraction as Q
 from math import isqrt
@@ -24,7 +24,8 @@ def whole_corners(points):
 
 
 def mitred(spots: Corners, by: Q) -> List[Spot]:
-    """Corners moved to the left of their edges by about `by` (to the inside where they run counterclockwise). A guess."""
+    """Corners moved to the left of their edges by about `by` (to the inside where they run counterclockwise). A
+    guess."""
     return [(round(x), round(y)) for x, y in mitres(spots, by)]
 
 
@@ -45,8 +46,8 @@ def unit_normal(a, b):
 
 
 def convex_bounds(points: Sequence[Point]) -> Both:
-    """For a convex polygon of points of intervals, counterclockwise. LOWER: all corners lie left of all real edges. UPPER:
-    its corners lie in convex order, and all real corners lie left of all its edges."""
+    """For a convex polygon of points of intervals, counterclockwise. LOWER: all corners lie left of all real edges.
+    UPPER: its corners lie in convex order, and all real corners lie left of all its edges."""
     spots, whole = whole_corners(points)
     if whole:
         return [Area(spots)], [Area(spots)]
@@ -75,7 +76,8 @@ def convex_upper(points, spots):
 
 
 def polygon_upper(spots: Corners) -> List[Piece]:
-    """Each real corner lies within 1 u of its spot, so what lies in one area alone is within 1 u of an edge of the spots."""
+    """Each real corner lies within 1 u of its spot, so what lies in one area alone is within 1 u of an edge of the
+    spots."""
     return [Area(spots)] + [Capsule(a, b, 1) for a, b in edges(spots)]
 
 
@@ -120,7 +122,8 @@ def polygon_lower(spots):
 
 
 def simple(spots: Corners, grid: Segments, apart: int = 2) -> bool:
-    """No two edges that are not neighbours come within 2 u or another distance, and no edge folds back on its neighbour."""
+    """No two edges that are not neighbours come within 2 u or another distance, and no edge folds back on its
+    neighbour."""
     n = len(spots)
     for i, (a, b) in enumerate(grid.segments):
         for j in grid.near(a, b, 4):

@@ -19,8 +19,8 @@ ORIGIN = (0, 0)
 
 
 def figure_of(n: int, centre: Point, diameter: Q, degrees: Q) -> Optional[Figure]:
-    """("regular", n, diameter in parts, angle, whole centre after the quarter turns, by what it is turned still) where `between` may read the polygon
-    and takes bounds of it, else None."""
+    """("regular", n, diameter in parts, angle, whole centre after the quarter turns, by what it is turned still) where
+    `between` may read the polygon and takes bounds of it, else None."""
     angle, parts = degrees % 360 * DEGREE, diameter * PARTS
     if (
         parts.denominator != 1
@@ -38,7 +38,8 @@ def figure_of(n: int, centre: Point, diameter: Q, degrees: Q) -> Optional[Figure
 
 
 def direction(n: int, angle: int, steps: int, spot: Spot) -> Tuple[Spot, int]:
-    """A spot about the middle after the right angles to a direction, half steps from corner to corner on; and what is left of that, rounded down."""
+    """A spot about the middle after the right angles to a direction, half steps from corner to corner on; and what is
+    left of that, rounded down."""
     quarters, rest = divmod(angle + steps * 2 * RIGHT_ANGLE // n, RIGHT_ANGLE)
     for _ in range(quarters % 4):
         spot = -spot[1], spot[0]
@@ -98,7 +99,8 @@ def near(n: int, diameter: int, angle: int, by: int) -> List[Spot]:
 
 
 def regular_bounds(n: int, diameter: int, angle: int, centre: Spot = ORIGIN, turn: int = 0) -> Optional[Both]:
-    """The pieces within and round the polygon about the centre, which is turned about the origin; None where there is none round it."""
+    """The pieces within and round the polygon about the centre, which is turned about the origin; None where there is
+    none round it."""
     spot, far = (turned_spots([centre], turn)[0], radius_of([centre])) if turn else (centre, 0)
     found = (
         bounds_about_0(n, diameter, angle, far) if not turn or stays_near(centre, *cone_of(turn), spot, far) else None

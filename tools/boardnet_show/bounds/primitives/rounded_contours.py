@@ -1,8 +1,9 @@
 """A contour with arcs between contours of whole corners.
 
-Between a chain of chords and every curve that its arc may be lie the draws along the chain, as wide as they are apart. What the
-chords' area and the real one do not share lies in them: so the area with these draws holds the real one, and the area without
-them lies in it. Where all arcs are exact, contours within or round it that need no draws are tried first.
+Between a chain of chords and every curve that its arc may be lie the draws along the chain, as wide as they are apart.
+What the chords' area and the real one do not share lies in them: so the area with these draws holds the real one, and
+the area without them lies in it. Where all arcs are exact, contours within or round it that need no draws are tried
+first.
 """
 from functools import lru_cache
 from typing import Any, List, NamedTuple, Optional, Sequence
@@ -22,7 +23,8 @@ MOST_FAR = 5 * 10**9  # u that `between` looks at to each side of a contour's fi
 
 
 class Rounded(NamedTuple):
-    """Corners of areas within a contour with arcs, corners round it, draws that widen these, whether it is closed and `between` reads it."""
+    """Corners of areas within a contour with arcs, corners round it, draws that widen these, whether it is closed and
+    `between` reads it."""
 
     inner: tuple
     outer: list
@@ -32,9 +34,9 @@ class Rounded(NamedTuple):
 
 
 class Walked:
-    """The parts of a contour, with chains in place of arcs: `outline`, `spots` of that without edges of no length; `coarse` with chains of
-    eighth turns, and how far each of its edges is from its part at most; `is_told` says that no arc may be none or a whole turn, `is_kept` that
-    the coarse chains are as near to their arcs as that."""
+    """The parts of a contour, with chains in place of arcs: `outline`, `spots` of that without edges of no length;
+    `coarse` with chains of eighth turns, and how far each of its edges is from its part at most; `is_told` says that no
+    arc may be none or a whole turn, `is_kept` that the coarse chains are as near to their arcs as that."""
 
     def __init__(self, contour):
         self.outline, self.spots, self.coarse, self.parts = ([contour[0]] for _ in range(4))
@@ -74,7 +76,8 @@ class Walked:
         self.parts.append((centre, start, end, anticlockwise))
 
     def bound(self, upper: bool) -> Optional[List[Spot]]:
-        """The corners of an area within the contour, or round it, where its arcs are exact; None where none is found."""
+        """The corners of an area within the contour, or round it, where its arcs are exact; None where none is
+        found."""
         return (
             contour_bound([Arc(*part) if len(part) == 4 else part for part in self.parts], upper)
             if self.is_exact

@@ -1,4 +1,5 @@
-"""Slanted lines of macros: rectangles about lines along no axis, between contours of four whole corners, as the crate `slants` takes them.
+"""Slanted lines of macros: rectangles about lines along no axis, between contours of four whole corners, as the crate
+`slants` takes them.
 
 How the corners were found does not matter: they are tested.
 """

@@ -11,7 +11,8 @@ STRIPS = 64  # at most, above the middle of the hole, and below
 
 
 def slot_draws(width: int, height: int, hole: Q) -> List[Capsule]:
-    """Draws with round pens, of even sizes; none where the hole leaves no room. They go round the hole, along the border, and between both."""
+    """Draws with round pens, of even sizes; none where the hole leaves no room. They go round the hole, along the
+    border, and between both."""
     far, round_, clear = abs(width - height) // 2, min(width, height) // 2, -(-hole // 2) + 1
     pen = (round_ - clear) // 2
     if pen < 1:

@@ -1,5 +1,5 @@
-"""Convex figures and discs of macros that are turned by no quarter turn, between contours of whole corners and discs about whole spots, as the crate
-`slants` takes them.
+"""Convex figures and discs of macros that are turned by no quarter turn, between contours of whole corners and discs
+about whole spots, as the crate `slants` takes them.
 
 How these were found does not matter: they are tested, at each turn of the cone of the angle.
 """
@@ -22,7 +22,8 @@ ORIGIN = (0, 0)
 
 
 def placed(kind: str, corners: Sequence[Point], degrees: Q) -> Figure:
-    """A figure about the origin of a macro, turned: ("turned", whole corners, angle) where the check takes bounds of it, else its corners."""
+    """A figure about the origin of a macro, turned: ("turned", whole corners, angle) where the check takes bounds of
+    it, else its corners."""
     return figure_of(corners, degrees) or (kind, [turned(p, cos_sin(degrees)) for p in corners])
 
 
@@ -40,7 +41,8 @@ def placed_disc(centre: Point, radius: Q, degrees: Q) -> Figure:
 
 
 def figure_of(corners: Sequence[Point], degrees: Q) -> Optional[Figure]:
-    """Its corners after the whole quarter turns, and what is left; None where nothing is left, or the check takes no bounds of it."""
+    """Its corners after the whole quarter turns, and what is left; None where nothing is left, or the check takes no
+    bounds of it."""
     found = turns_left(corners, degrees) if len(corners) <= CORNERS else None
     return ("turned", *found) if found and turned_bounds(*found) else None
 
@@ -70,13 +72,15 @@ def headings(first: Spot, last: Spot) -> Tuple[Tuple[int, int, int], ...]:
 
 
 def lean(b: Spot, c: Spot, heading: Tuple[int, int, int]) -> Tuple[int, int, int]:
-    """How far a place (p, q), turned so about the origin, is on the left of the line from b to c, times n and the line's length: w + u p + v q."""
+    """How far a place (p, q), turned so about the origin, is on the left of the line from b to c, times n and the
+    line's length: w + u p + v q."""
     (x, y, n), ahead, aside = heading, c[0] - b[0], c[1] - b[1]
     return cross(b, c, ORIGIN) * n, ahead * y - aside * x, ahead * x + aside * y
 
 
 def goes_once(corners: Corners) -> bool:
-    """Round them edges change at most twice between up and down, and some edge's line has the first corner beside it."""
+    """Round them edges change at most twice between up and down, and some edge's line has the first corner beside
+    it."""
     ups = [b[1] > a[1] for a, b in edges(corners) if a[1] != b[1]]
     changes = sum(a != b for a, b in zip(ups, ups[1:]))
     return changes <= 2 and any(cross(corners[0], b, c) for b, c in edges(corners))
@@ -111,7 +115,8 @@ def stays_near(centre: Spot, first: Spot, last: Spot, spot: Spot, far: int) -> b
 
 
 def turned_disc_bounds(centre: Spot, radius: int, angle: int) -> Optional[Both]:
-    """The discs within and round one that is turned about the origin by less than a right angle; None where there is none round it."""
+    """The discs within and round one that is turned about the origin by less than a right angle; None where there is
+    none round it."""
     cone, (x, y, n) = cone_of(angle), meet(way_of(angle), way_of(angle))
     spot = round(Q(centre[0] * x - centre[1] * y, n)), round(Q(centre[0] * y + centre[1] * x, n))
     by = next((far for far in range(1, FARTHEST) if stays_near(centre, *cone, spot, far)), None)
@@ -144,7 +149,8 @@ def near(corners: Corners, way: Spot, by: int) -> List[Spot]:
 def first_of(
     near_by: Callable[[int], List[Spot]], is_within: Callable[[Corners], bool], is_round: Callable[[Corners], bool]
 ) -> Optional[Both]:
-    """The first contour within and the first round a figure, of those so much further out: as pieces; None where there is none round it."""
+    """The first contour within and the first round a figure, of those so much further out: as pieces; None where there
+    is none round it."""
     inner = next(
         (found for found in (list(near_by(-by)) for by in FURTHER) if area(found) > 0 and is_within(found)), None
     )
@@ -154,8 +160,8 @@ def first_of(
 
 @lru_cache(4096)
 def turned_bounds(corners: Corners, angle: int) -> Optional[Both]:
-    """The pieces within and round a convex figure that is turned about the origin by less than a right angle; None where it is not convex, or
-    there is none round it."""
+    """The pieces within and round a convex figure that is turned about the origin by less than a right angle; None
+    where it is not convex, or there is none round it."""
     cone, shape = cone_of(angle), bends(corners)
     if not is_convex(shape):
         return None

@@ -1,8 +1,8 @@
-"""Outlines of macros that are turned by no quarter turn and that `slants` does not take: within them an area, round them one with draws along its edges, as the crate
-`turned_outlines` takes them.
+"""Outlines of macros that are turned by no quarter turn and that `slants` does not take: within them an area, round
+them one with draws along its edges, as the crate `turned_outlines` takes them.
 
-The corners are turned and rounded as that crate does. At each turn of the cone of the angle all are at most the draws' radius from where they come
-to, and so is each edge. What is kept off the draws is tested.
+The corners are turned and rounded as that crate does. At each turn of the cone of the angle all are at most the draws'
+radius from where they come to, and so is each edge. What is kept off the draws is tested.
 """
 from fractions import Fraction as Q
 from functools import lru_cache
@@ -24,8 +24,8 @@ SCALE = 3 * ONE * ONE // 10**10  # squares of ways are divided by so much
 
 
 def placed_outline(corners: Sequence[Point], degrees: Q) -> Figure:
-    """An outline about the origin of a macro, turned: as `placed` has it without corners that stand twice; where `slants` does not take it and
-    it does not meet itself ("turned outline", whole corners, angle)."""
+    """An outline about the origin of a macro, turned: as `placed` has it without corners that stand twice; where
+    `slants` does not take it and it does not meet itself ("turned outline", whole corners, angle)."""
     found = placed("outline", once(corners), degrees)
     return found[0] == "outline" and outline_of(corners, degrees) or found
 

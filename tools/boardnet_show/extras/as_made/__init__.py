@@ -1,1 +1,2 @@
-"""The board as it will be made: what unplated holes and the board's edge take away from its copper, what that parts, and necks."""
+"""The board as it will be made: what unplated holes and the board's edge take away from its copper, what that parts,
+and necks."""

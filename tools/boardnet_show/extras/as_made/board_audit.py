@@ -1,7 +1,8 @@
 """Holes by the netlist, and copper that nothing names: what a yes on the netlist does not say.
 
-A record 317 asks for no hole: where its net is joined elsewhere, a hole that is missing is no finding of `check`. Here each such record
-is compared with the holes at its place, and each plated hole with the records. Floating copper has no test point and no hole.
+A record 317 asks for no hole: where its net is joined elsewhere, a hole that is missing is no finding of `check`. Here
+each such record is compared with the holes at its place, and each plated hole with the records. Floating copper has no
+test point and no hole.
 """
 from collections import defaultdict
 from typing import Any, Dict, Iterator, List, NamedTuple, Optional, Set, Tuple, Union

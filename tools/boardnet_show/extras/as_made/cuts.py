@@ -1,7 +1,8 @@
-"""What holes without plating and the board's edge part, or take from under test points, when the board is made: findings of two kinds.
+"""What holes without plating and the board's edge part, or take from under test points, when the board is made:
+findings of two kinds.
 
-The answer stays that on the files as they were designed; what the made board has less is told beside it. Joins and points of the design
-that are certain are looked at alone: what is undecided there is told already.
+The answer stays that on the files as they were designed; what the made board has less is told beside it. Joins and
+points of the design that are certain are looked at alone: what is undecided there is told already.
 """
 from typing import Dict, FrozenSet, Iterator, List, NamedTuple, Optional, Sequence, Set, Tuple
 
@@ -23,7 +24,8 @@ MOST_TRIED = 24
 
 
 class Group(NamedTuple):
-    """Test points of one name that the copper as designed joins, in parts of the made board, those without copper last and under -1."""
+    """Test points of one name that the copper as designed joins, in parts of the made board, those without copper last
+    and under -1."""
 
     name: int
     net: int
@@ -44,7 +46,8 @@ def is_whole(parts: Tuple[Tuple[int, ...], ...], report: Report) -> bool:
 
 
 def groups(designed: Report, low: Report, high: Report) -> Iterator[Group]:
-    """The points that the design joins and the made board does not: not even what it has at most, or not what it has at least."""
+    """The points that the design joins and the made board does not: not even what it has at most, or not what it has at
+    least."""
     for (name, net), points in sorted(joined(designed).items()):
         for report, is_certain in ((high, True), (low, False)):
             parts = parts_of(points, report)

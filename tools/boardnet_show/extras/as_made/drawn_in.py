@@ -1,8 +1,9 @@
-"""Copper with every shape drawn in by half a width, so that what is left joins only where a disc of that width goes through.
+"""Copper with every shape drawn in by half a width, so that what is left joins only where a disc of that width goes
+through.
 
-LOWER draws in each piece by itself: a draw and a flash by their radius, an area by what lies near its edges, but for edges at which
-areas abut. What a disc of the width can run through has all of that and maybe more. UPPER draws in what the pieces of a net make
-together on a layer.
+LOWER draws in each piece by itself: a draw and a flash by their radius, an area by what lies near its edges, but for
+edges at which areas abut. What a disc of the width can run through has all of that and maybe more. UPPER draws in what
+the pieces of a net make together on a layer.
 """
 from collections import defaultdict
 from typing import Dict, Iterable, Iterator, List, Sequence, Set, Tuple

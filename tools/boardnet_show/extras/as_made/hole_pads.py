@@ -1,4 +1,5 @@
-"""Plated holes that are larger than the pad they stand in. A barrel joins, and nothing is cut: it is told as what it is."""
+"""Plated holes that are larger than the pad they stand in. A barrel joins, and nothing is cut: it is told as what it
+is."""
 from typing import Iterator, List, NamedTuple, Tuple
 
 from boardnet_show.bounds.polarity import dark_and_clear

@@ -26,7 +26,8 @@ class Edge(NamedTuple):
 
 
 def edge_of(texts: Sequence[str], board: Board) -> Edge:
-    """The board's edge by its profile files; none where no file is one. One that leaves most test points outside is not this board's."""
+    """The board's edge by its profile files; none where no file is one. One that leaves most test points outside is not
+    this board's."""
     if not texts:
         return Edge(None)
     try:

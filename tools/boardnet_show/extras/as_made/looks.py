@@ -1,5 +1,5 @@
-"""Which looks at the board as it will be made are wanted: most boards have nothing that takes copper away, and loading them takes
-longer than a small board.
+"""Which looks at the board as it will be made are wanted: most boards have nothing that takes copper away, and loading
+them takes longer than a small board.
 """
 from typing import Any
 
@@ -14,7 +14,8 @@ from . import thin_joins
 
 
 def requested(program: Any, judged: Any, seen: Explained, asked: Any) -> Requested:
-    """What unplated holes and the board's edge take away from a judged board, or that this was left away; its necks, and its holes by the netlist."""
+    """What unplated holes and the board's edge take away from a judged board, or that this was left away; its necks,
+    and its holes by the netlist."""
     package, told = judged.package, Requested(kinds=[CUT, OUTSIDE])
     holes, profiles = list(unplated_holes.of_package(package)), profile_files.texts(package.around)
     if asked.no_cuts and (holes or profiles):

@@ -1,7 +1,7 @@
 """Judged boards once more with copper taken away: LOWER lies in the copper that is left, UPPER holds it.
 
-Pieces that nothing taken away comes near stay as they are. Of a board between two bounds LOWER is made of the lower one, and UPPER of
-the upper one.
+Pieces that nothing taken away comes near stay as they are. Of a board between two bounds LOWER is made of the lower
+one, and UPPER of the upper one.
 """
 from collections import defaultdict
 from itertools import chain

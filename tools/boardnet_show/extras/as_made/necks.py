@@ -1,7 +1,9 @@
-"""Necks: joins of a net that are narrower than a width, told where it is not certain that a disc of that width goes through.
+"""Necks: joins of a net that are narrower than a width, told where it is not certain that a disc of that width goes
+through.
 
-Where nothing is told, a disc of the width, less a nanometre, can go from each test point of a net to each other one within copper and
-barrels: the lower board with its shapes drawn in still joins them. It is certain where even the upper one does not.
+Where nothing is told, a disc of the width, less a nanometre, can go from each test point of a net to each other one
+within copper and barrels: the lower board with its shapes drawn in still joins them. It is certain where even the upper
+one does not.
 """
 from typing import Any, Dict, Iterator, List, NamedTuple, Sequence, Set
 

@@ -1,5 +1,5 @@
-"""What takes copper away when the board is made: holes, slots and routs without plating, and all that lies outside the board's edge.
-Plated barrels join, and take nothing away.
+"""What takes copper away when the board is made: holes, slots and routs without plating, and all that lies outside the
+board's edge. Plated barrels join, and take nothing away.
 """
 from typing import Iterator, NamedTuple, Optional, Sequence, Tuple
 
@@ -15,8 +15,8 @@ Box = Tuple[int, int, int, int]
 
 
 class Removal(NamedTuple):
-    """What takes copper away on every layer: a hole, None of the board's edge. `clear` has pieces that it takes away for certain, and pieces
-    round all that it may take away; `box` is round these, None where they are everywhere.
+    """What takes copper away on every layer: a hole, None of the board's edge. `clear` has pieces that it takes away
+    for certain, and pieces round all that it may take away; `box` is round these, None where they are everywhere.
     """
 
     hole: Optional[HoleAt]
@@ -28,7 +28,8 @@ class Removal(NamedTuple):
 
 
 def of_holes(holes: UnplatedHoles) -> Iterator[Removal]:
-    """Each hole as it takes copper away: half an odd diameter lies between two whole lengths, and capsules have half of it, rounded down."""
+    """Each hole as it takes copper away: half an odd diameter lies between two whole lengths, and capsules have half of
+    it, rounded down."""
     for piece, line in enumerate(holes.lines):
         a, b, radius = holes.shapes.capsule(piece)
         x, y = ((p + q) // 2 for p, q in zip(a, b))

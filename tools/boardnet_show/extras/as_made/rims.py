@@ -1,5 +1,6 @@
-"""What lies within half a width of a contour's edges, as few convex areas round it: one for each edge, and where an edge
-goes on almost straight both end at one line. An area for a draw has eight times as many corners, and overlaps its neighbours.
+"""What lies within half a width of a contour's edges, as few convex areas round it: one for each edge, and where an
+edge goes on almost straight both end at one line. An area for a draw has eight times as many corners, and overlaps its
+neighbours.
 """
 from collections import Counter
 from math import hypot

@@ -1,8 +1,8 @@
 """Joins of no width: test points that only copper joins which touches in single places or along lines.
 
-By our own rule such copper is joined; a fabricator may part it. So a board is looked at once more with its apertures a little smaller:
-a draw, a flash of a circle, a rectangle or an obround keeps what it overlaps, and loses what it only touches. Two contours that touch
-are looked at where necks are asked for.
+By our own rule such copper is joined; a fabricator may part it. So a board is looked at once more with its apertures a
+little smaller: a draw, a flash of a circle, a rectangle or an obround keeps what it overlaps, and loses what it only
+touches. Two contours that touch are looked at where necks are asked for.
 """
 import re
 from decimal import Decimal

@@ -1,7 +1,8 @@
 """Necks that somebody has signed for: they are at the waiver's places alone, and no narrower than it says.
 
-A board whose shapes are drawn in by the width that is asked for, and that has a disc at each of these places, joins the points: so all
-else of a way between them is wide enough. Drawn in by the width that was signed for it joins them without a disc.
+A board whose shapes are drawn in by the width that is asked for, and that has a disc at each of these places, joins the
+points: so all else of a way between them is wide enough. Drawn in by the width that was signed for it joins them
+without a disc.
 """
 from math import ceil, hypot
 from typing import Any, Dict, List, Optional, Sequence, Tuple
@@ -66,7 +67,8 @@ class Necks:
             return False
 
     def places(self, finding: Finding, within: int) -> Optional[List[Place]]:
-        """Where discs join the points of a finding again: where its parts come nearest, else along all that is too narrow."""
+        """Where discs join the points of a finding again: where its parts come nearest, else along all that is too
+        narrow."""
         found: List[Place] = []
         points, net = points_of(finding), finding.nets[0]
         while len(found) <= FEW_PLACES:

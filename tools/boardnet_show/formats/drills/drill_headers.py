@@ -133,7 +133,8 @@ def before_each(its: List[Line]) -> Iterator[Tuple[Line, Record, List[Line]]]:
 
 
 class Moved:
-    """Definitions of tools that go to the header, each with the comments right before it, which may say whether it is plated."""
+    """Definitions of tools that go to the header, each with the comments right before it, which may say whether it is
+    plated."""
 
     def __init__(self, sizes: Dict[int, bytes]) -> None:
         self.header: List[bytes] = []

@@ -1,5 +1,5 @@
-"""Altium's drill report, `.DRR`: of a drill file the sizes of the tools, how many holes each makes, and whether they are
-plated."""
+"""Altium's drill report, `.DRR`: of a drill file the sizes of the tools, how many holes each makes, and whether they
+are plated."""
 import re
 from fractions import Fraction
 from typing import Callable, Dict, Iterable, List, NamedTuple, Optional, Tuple

@@ -114,11 +114,14 @@ def reading(data: bytes) -> Optional[Tuple[str, bytes]]:
     if not word:
         return None
     if word == b"G75":
-        words = f"with arcs of several quadrants (G75), which it does not say: the radii of all {counted(len(its.found), 'arc')} fit"
+        words = (
+            "with arcs of several quadrants (G75), which it does not say: the radii of all"
+            f" {counted(len(its.found), 'arc')} fit"
+        )
     else:
         words = (
-            "with arcs of a single quadrant (G74), which it does not say: no offset is negative, and with G75 the radii of "
-            f"{count} of {counted(len(its.found), 'arc')} differ"
+            "with arcs of a single quadrant (G74), which it does not say: no offset is negative, and with G75 the"
+            f" radii of {count} of {counted(len(its.found), 'arc')} differ"
         )
     if its.spare:
         return words, data[: its.spare.start] + word + data[its.spare.end :]

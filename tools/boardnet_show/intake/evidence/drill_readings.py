@@ -42,8 +42,8 @@ class Reading(NamedTuple):
 
 
 class Fit(NamedTuple):
-    """A reading, how many of the holes lie on pads by it, and whether its writer would write all these numbers; `at` are
-    the places of the holes, and `hits` whether each is on a pad."""
+    """A reading, how many of the holes lie on pads by it, and whether its writer would write all these numbers; `at`
+    are the places of the holes, and `hits` whether each is on a pad."""
 
     reading: Reading
     on: int
@@ -56,8 +56,8 @@ class Fit(NamedTuple):
         return self.holes >= FEWEST and self.on * ENOUGH[1] >= ENOUGH[0] * self.holes
 
     def leaves(self, other: "Fit") -> bool:
-        """Whether another reading is no rival: far fewer holes fit it; where its writer would not write these numbers, of
-        those alone that lie elsewhere by it, which are enough to decide."""
+        """Whether another reading is no rival: far fewer holes fit it; where its writer would not write these numbers,
+        of those alone that lie elsewhere by it, which are enough to decide."""
         if other.on * AT_MOST[1] <= self.on * AT_MOST[0]:
             return True
         apart = [both for a, b, *both in zip(self.at, other.at, self.hits, other.hits) if a != b]

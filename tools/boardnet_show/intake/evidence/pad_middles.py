@@ -47,7 +47,8 @@ class Flashes(Machine):
 
 
 def of_file(data: bytes) -> Set[Spot]:
-    """Middles of the flashes of a copper file, in u; none without one format and unit. Copies of blocks are left out."""
+    """Middles of the flashes of a copper file, in u; none without one format and unit. Copies of blocks are left
+    out."""
     try:
         found = Flashes(data)
     except Refused:

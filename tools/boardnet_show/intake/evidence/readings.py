@@ -28,7 +28,8 @@ def is_clear(count: int, all_places: int, others: Sequence[int]) -> bool:
 
 
 def of_files(read: Callable[[str], bytes], copper: Sequence[str], netlist: str) -> Iterator[Reading]:
-    """The readings of a board's files, as they are mended; `read` gives a file's bytes, or nothing where there are none."""
+    """The readings of a board's files, as they are mended; `read` gives a file's bytes, or nothing where there are
+    none."""
     data = read(netlist)
     middles: List[Middles] = []
 

@@ -183,8 +183,8 @@ def rewrite(edits: Edits) -> None:
                 ending, name_before(data, region.end) + b"G01*\n" + b"".join(contour_of(part) for part in parts[1:])
             )
             what = (
-                f"begins the first of {len(contour.words)} edges of a contour, which is cut into {len(parts)} of the same copper: "
-                "the first stays in its place, the others stand at the file's end"
+                f"begins the first of {len(contour.words)} edges of a contour, which is cut into {len(parts)} of the"
+                " same copper: the first stays in its place, the others stand at the file's end"
             )
             edits.note(*region.word_place(contour.words[0]), CONTOUR, what)
 

@@ -1,13 +1,16 @@
-"""Mends: one file rewritten so that `check` takes it, and every piece of copper, every plated hole and every test point kept exactly.
+"""Mends: one file rewritten so that `check` takes it, and every piece of copper, every plated hole and every test point
+kept exactly.
 
-A mend says by words of the file itself what the file says; what is not certain is none. table.py has them all. A file without a mend
-keeps its bytes. Commands and lines keep their numbers: a word or a line that goes leaves an empty one behind.
+A mend says by words of the file itself what the file says; what is not certain is none. table.py has them all. A file
+without a mend keeps its bytes. Commands and lines keep their numbers: a word or a line that goes leaves an empty one
+behind.
 """
 from collections import namedtuple
 
 
 class Mend(namedtuple("Mend", "kind line text more what", defaults=(0, ""))):
-    """What was mended: the kind, as in table.py, the first line, what stands there, how many more of the kind, and what became of it."""
+    """What was mended: the kind, as in table.py, the first line, what stands there, how many more of the kind, and what
+    became of it."""
 
     __slots__ = ()
 

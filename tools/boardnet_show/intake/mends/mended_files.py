@@ -17,8 +17,9 @@ HEAD = 65_536
 
 
 def of_files(read, copper, drills, netlist, settled, told=lambda number, count: None):
-    """(name, data, mends, lines) of each file that is mended, in order, lines as `package.lines` has them; `read` gives a file's bytes, or nothing where there
-    are none, and `settled` of a drill file how its numbers are read, where that is said. `told` hears which file it is.
+    """(name, data, mends, lines) of each file that is mended, in order, lines as `package.lines` has them; `read` gives
+    a file's bytes, or nothing where there are none, and `settled` of a drill file how its numbers are read, where that
+    is said. `told` hears which file it is.
     """
 
     def drilled(name, data):

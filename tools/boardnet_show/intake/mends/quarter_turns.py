@@ -81,7 +81,8 @@ def rewrite(edits: Edits, left: List[Tuple[Macro, List[Aperture]]], names: Set[b
             macro.words[0][1],
             TURN,
             more
-            and f"has a rotation by its apertures' parameters: written by their values, {more} more commands stand before the next"
+            and "has a rotation by its apertures' parameters: written by their values, "
+            f"{more} more commands stand before the next"
             or "",
         )
 

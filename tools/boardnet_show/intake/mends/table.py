@@ -1,4 +1,5 @@
-"""The table of mends: what each sees, what it writes, and why nothing of the board changes. docs/using/mends.md has the same rows."""
+"""The table of mends: what each sees, what it writes, and why nothing of the board changes. docs/using/mends.md has the
+same rows."""
 from collections import namedtuple
 
 from .mend import Mended
@@ -50,9 +51,15 @@ DIGITS, FURTHER_MOVE, COMMENT_LINES, NO_AREA = "digits", "further move", "commen
 ROWS = (
     Row(
         PLATING,
-        "a drill file with unplated holes (`MixedPlating`, or no file function) where each tool says which it is: by "
-        "`; #@! TA.AperFunction,..` or `;TYPE=..` before it, in comments of Allegro or Fritzing, or in the .DRR beside it",
-        "the holes of plated tools alone; `Plated` for `MixedPlating`; a place that went on from a hole that goes gets both coordinates",
+        (
+            "a drill file with unplated holes (`MixedPlating`, or no file function) where each tool says which it is:"
+            " by `; #@! TA.AperFunction,..` or `;TYPE=..` before it, in comments of Allegro or Fritzing, or in the .DRR"
+            " beside it"
+        ),
+        (
+            "the holes of plated tools alone; `Plated` for `MixedPlating`; a place that went on from a hole that goes"
+            " gets both coordinates"
+        ),
         "an unplated hole joins nothing",
         "each tool says whether it is plated",
     ),
@@ -65,22 +72,30 @@ ROWS = (
     ),
     Row(
         FORM,
-        "`METRIC` or `INCH` with digits (`,000.000`, `,TZ,0000.00`), or in their place `M71` or `M72` in the header, where every number of the file has a point",
+        (
+            "`METRIC` or `INCH` with digits (`,000.000`, `,TZ,0000.00`), or in their place `M71` or `M72` in the"
+            " header, where every number of the file has a point"
+        ),
         "the unit alone",
         "a number with a point needs no word on its zeros",
         "says more than the unit, and every number has a point: the unit alone is kept",
     ),
     Row(
         NUMBERS,
-        "numbers without a point, where the file says their digits (`;FILE_FORMAT=2:5`, `FORMAT={3:3/`, `,000.000`) "
-        "and zeros (`LZ`, `TZ`, or all stand), or nc_param.txt or its .dri beside it does",
+        (
+            "numbers without a point, where the file says their digits (`;FILE_FORMAT=2:5`, `FORMAT={3:3/`, `,000.000`)"
+            " and zeros (`LZ`, `TZ`, or all stand), or nc_param.txt or its .dri beside it does"
+        ),
         "each number with its point",
         "no number contradicts them",
         "",
     ),
     Row(
         HEADERS,
-        "no `M48`, but tools in Allegro's comments or lines such as `T1C0.028F200S100`; a unit behind the tools, before any hole",
+        (
+            "no `M48`, but tools in Allegro's comments or lines such as `T1C0.028F200S100`; a unit behind the tools,"
+            " before any hole"
+        ),
         "a header of these; later lines count more",
         "the file says them",
         "",
@@ -102,8 +117,11 @@ ROWS = (
     Row(ENDS, "`M95` in the header", "`%`", "both end the header", "ends the header: written as `%`"),
     Row(
         MACHINE,
-        "feed, speed, retract, hits and depth of a tool (`F`, `S`, `B`, `H`, `Z`); lines of `F` and `S`; `ATC`, `BLKD`, `DETECT`, `OSTOP`, `SBK`, `SG`, `TCST` "
-        "with `,ON` or `,OFF`; `M47` with a message; `M00` before a tool or the end",
+        (
+            "feed, speed, retract, hits and depth of a tool (`F`, `S`, `B`, `H`, `Z`); lines of `F` and `S`; `ATC`,"
+            " `BLKD`, `DETECT`, `OSTOP`, `SBK`, `SG`, `TCST` with `,ON` or `,OFF`; `M47` with a message; `M00` before a"
+            " tool or the end"
+        ),
         "the tool's diameter alone; an empty line",
         "they say how the machine runs, and not where a hole is",
         "says how the machine runs: left out",
@@ -111,14 +129,20 @@ ROWS = (
     Row(LIFT, "`M17` with the tool down", "`M16`", "both lift the tool", "lifts the tool: written as `M16`"),
     Row(
         FORCE,
-        "`ICI,OFF`, `VER,1`, `G40`, `G93X0Y0`, `/`; `FMAT,2` in the body; `G05`, `R,H`, `R,C` in the header, `R,T` before its tools; `M17` with the tool up; `%` before `M48` or behind `M30`",
+        (
+            "`ICI,OFF`, `VER,1`, `G40`, `G93X0Y0`, `/`; `FMAT,2` in the body; `G05`, `R,H`, `R,C` in the header, `R,T`"
+            " before its tools; `M17` with the tool up; `%` before `M48` or behind `M30`"
+        ),
         "an empty line",
         "it is in force without it",
         "says what is in force anyway: left out",
     ),
     Row(
         IDENTITY,
-        "`OF`, `MI`, `IR` of 0 and `SF` of 1, however written (`OFA0.00000B0.00000`); `SRX1Y1` without steps; a hole of size 0 in an aperture",
+        (
+            "`OF`, `MI`, `IR` of 0 and `SF` of 1, however written (`OFA0.00000B0.00000`); `SRX1Y1` without steps; a"
+            " hole of size 0 in an aperture"
+        ),
         "the same as `check` takes it (`OFA0B0`)",
         "by its value it changes nothing",
         "changes nothing, by its value: written as `check` takes it",
@@ -175,7 +199,10 @@ ROWS = (
     Row(END, "`M00` as the last word", "`M02`", "both end the file", "ends the file: written as `M02`"),
     Row(
         UNUSED,
-        "an aperture outside the profile that no draw and no flash has, with its selections; a macro that no other aperture names",
+        (
+            "an aperture outside the profile that no draw and no flash has, with its selections; a macro that no other"
+            " aperture names"
+        ),
         "an attribute without a meaning; an empty comment",
         "it makes no copper",
         "is used by no draw and no flash: left out",
@@ -197,7 +224,7 @@ ROWS = (
     Row(
         CONTOUR,
         "a contour of over 100,000 edges, where no word takes copper away or repeats it",
-        "several, parted by chords; the first in its place, " "the others at the file's end, with its net name",
+        "several, parted by chords; the first in its place, the others at the file's end, with its net name",
         "a chord lies in the copper and meets no edge, and no part enters another",
         "",
     ),

@@ -1,5 +1,5 @@
-"""An answer in the words of the program and of the rules, in one line: what `-q`, JSON and a record have, and `--explain`
-tells. `verdicts` says the same for people."""
+"""An answer in the words of the program and of the rules, in one line: what `-q`, JSON and a record have, and
+`--explain` tells. `verdicts` says the same for people."""
 from typing import Iterable, List
 
 from boardnet_show.base.refusals import Refusal
@@ -56,7 +56,10 @@ def bare_line(answer: Answer) -> str:
         proved = ", proved" if answer.both.is_proved else ""
         return f"{WORDS[answer.status]}{conditions(answer)}, between two bounds{proved}{found_words(answer.both)}"
     if answer.counts:
-        return f"{counts_words(answer.counts, answer.ties is not None)}{conditions(answer)}; the report itself says: {answer.said}"
+        return (
+            f"{counts_words(answer.counts, answer.ties is not None)}{conditions(answer)}; the report itself says:"
+            f" {answer.said}"
+        )
     return (NOTHING if answer.status == UNJUDGED else "") + answer.said + conditions(answer)
 
 

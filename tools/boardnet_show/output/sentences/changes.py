@@ -19,10 +19,14 @@ from boardnet_show.fitting.placement import FORMS
 from boardnet_show.formats.units import UNIT_WORDS
 
 CODES = {
-    access_codes.HOLES: "the first layer of the hole at their place (through records, 317, whose hole does not reach the layer of their code; KiCad writes "
-    "such codes for buried vias)",
-    access_codes.BOTTOM: "the bottom, {last:02d} (surface records, 327, of layer 02, and no part's pad is on an inner layer; pcb-rnd writes 02 for "
-    "every bottom)",
+    access_codes.HOLES: (
+        "the first layer of the hole at their place (through records, 317, whose hole does not reach the layer of their"
+        " code; KiCad writes such codes for buried vias)"
+    ),
+    access_codes.BOTTOM: (
+        "the bottom, {last:02d} (surface records, 327, of layer 02, and no part's pad is on an inner layer; pcb-rnd"
+        " writes 02 for every bottom)"
+    ),
 }
 
 
@@ -78,7 +82,10 @@ def on_points(group: List[DigitsRead]) -> str:
 
 
 def codes_read(change: CodesRead) -> str:
-    return f"the access code{'s' if change.records > 1 else ''} of {counted(change.records, 'record')} read as {CODES[change.rule].format(last=change.last)}"
+    return (
+        f"the access code{'s' if change.records > 1 else ''} of {counted(change.records, 'record')} read as"
+        f" {CODES[change.rule].format(last=change.last)}"
+    )
 
 
 def words(change: Change) -> str:

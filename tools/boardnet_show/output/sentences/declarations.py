@@ -46,7 +46,10 @@ def waived_words(waived: Waived) -> str:
 
 
 def stale_words(waiver: Waiver) -> str:
-    return f"the waiver of the {waiver.kind} of {spoken(waiver.names)} is stale, since there is no such finding alone ({signed(waiver)})"
+    return (
+        f"the waiver of the {waiver.kind} of {spoken(waiver.names)} is stale, since there is no such finding alone"
+        f" ({signed(waiver)})"
+    )
 
 
 def notes(seen: Explained) -> List[str]:

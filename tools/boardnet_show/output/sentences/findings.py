@@ -99,15 +99,18 @@ def not_joined(fact: facts.NotJoined) -> str:
     away = "" if fact.away is None else f", {at_most(fact.away)} mm away" if fact.away else ", at the same place"
     here, there = map(extent, fact.pins)
     return (
-        f"{point_words(fact.here)} is not joined to {point_words(fact.there)}{away}; {net_name(fact.name)} is in {fact.parts} parts, "
-        f"here {here}, there {there}"
+        f"{point_words(fact.here)} is not joined to {point_words(fact.there)}{away}; {net_name(fact.name)} is in"
+        f" {fact.parts} parts, here {here}, there {there}"
     )
 
 
 def tie_not_made(fact: facts.TieNotMade) -> str:
     one, other = fact.names
     here, there = map(point_words, fact.nearest)
-    return f"{one} and {other} are declared to be tied ({fact.source}) and no copper joins them: {here} and {there} are nearest"
+    return (
+        f"{one} and {other} are declared to be tied ({fact.source}) and no copper joins them: {here} and {there} are"
+        " nearest"
+    )
 
 
 def names_meet(fact: facts.NamesMeet) -> str:
@@ -172,7 +175,10 @@ def apart_words(apart: Apart) -> str:
         return f"are {millimetres(apart.least or 0)} mm apart"
     if apart.may_be_joined:
         most = apart.most
-        return f"are joined, or {'apart, perhaps by nothing' if most is None else f'at most {millimetres(most)} mm apart'},"
+        return (
+            "are joined, or"
+            f" {'apart, perhaps by nothing' if most is None else f'at most {millimetres(most)} mm apart'},"
+        )
     rows = (("at least", apart.least), ("at most", apart.most))
     return f"are {' and '.join(f'{word} {millimetres(u)}' for word, u in rows if u is not None)} mm apart"
 

@@ -21,8 +21,9 @@ def change_words(hint: Hint) -> str:
     """What was changed, with the setting of the tool that would make it so."""
     if isinstance(hint.change, NowherePlaced):
         return (
-            f"no placement fits: of the units, mirrors, turns and origins with most votes the best leaves {hint.change.missing} of "
-            f"{hint.change.points} test points without copper; is the netlist of another board? Of the best"
+            "no placement fits: of the units, mirrors, turns and origins with most votes the best leaves"
+            f" {hint.change.missing} of {hint.change.points} test points without copper; is the netlist of another"
+            " board? Of the best"
         )
     return f"{'besides, ' if hint.is_besides else ''}with {changes.words(hint.change)}{hint.setting},"
 

@@ -1,5 +1,5 @@
-"""What is told of a board beside its answer and its findings, in words: what was made of its files first, and, where it is
-asked for, the answer in the words of the program and of the rules."""
+"""What is told of a board beside its answer and its findings, in words: what was made of its files first, and, where it
+is asked for, the answer in the words of the program and of the rules."""
 from typing import Any, Dict, Iterable, Iterator, List
 
 from boardnet_show.base import refusals as program_lines

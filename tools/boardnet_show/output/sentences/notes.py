@@ -25,8 +25,8 @@ EDGE = "the board's edge"
 def unnamed_joined(note: UnnamedJoined) -> str:
     more = f"; so are those of {counted(note.more, 'more net')}" if note.more else ""
     return (
-        f"records without net (N/C) are joined: {'; '.join(map(points_words, note.groups))}{more}. Each such pin should stand "
-        "alone; a pad and its via may be two records"
+        f"records without net (N/C) are joined: {'; '.join(map(points_words, note.groups))}{more}. Each such pin should"
+        " stand alone; a pad and its via may be two records"
     )
 
 
@@ -44,8 +44,8 @@ def harmless_holes(note: notes.HarmlessHoles) -> str:
 def thin_join(note: notes.ThinJoin) -> str:
     also = f", and of {counted(note.more, 'more net')}" if note.more else ""
     return (
-        f"a join of no width: {points_words(note.points)}, of {net_name(note.name)}{also}, are joined by copper that only touches in "
-        "single places or along lines; --necks 0 tells where"
+        f"a join of no width: {points_words(note.points)}, of {net_name(note.name)}{also}, are joined by copper that"
+        " only touches in single places or along lines; --necks 0 tells where"
     )
 
 
@@ -110,7 +110,10 @@ def larger_holes(note: notes.LargerHoles) -> str:
 
 def gap_rule(note: notes.GapRule) -> str:
     """What is counted, and what the program says beside it."""
-    rule = f"gaps: two nets on a layer whose copper is closer than {millimetres(note.under)} mm; exactly that is no gap here"
+    rule = (
+        f"gaps: two nets on a layer whose copper is closer than {millimetres(note.under)} mm; exactly that is no gap"
+        " here"
+    )
     if note.listed is None:
         return rule
     is_even = note.listed > note.counted and note.under % 10 == 0

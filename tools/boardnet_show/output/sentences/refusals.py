@@ -92,7 +92,10 @@ LINES = (
     (r"(.+): cannot be read", r"\1 is not there, or the system does not let it be read"),
     (
         r"(.+): not JSON",
-        r"\1 is not JSON: a comma or a quote is missing, or a byte order mark stands first; boardnet manifest writes it anew",
+        (
+            r"\1 is not JSON: a comma or a quote is missing, or a byte order mark stands first; boardnet manifest"
+            r" writes it anew"
+        ),
     ),
     (
         r"(.+): not a manifest",

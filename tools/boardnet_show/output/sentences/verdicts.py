@@ -1,5 +1,6 @@
-"""The answer as one line that a person reads aloud: PASS, FAIL or what it is, what counts, how sure that is, and what was
-made of the files first. The words of the program and of the rules stand with `--explain` and in JSON (`answers`)."""
+"""The answer as one line that a person reads aloud: PASS, FAIL or what it is, what counts, how sure that is, and what
+was made of the files first. The words of the program and of the rules stand with `--explain` and in JSON
+(`answers`)."""
 from typing import List, Sequence, Tuple
 
 from boardnet_show.base.statuses import UNDECIDED, UNJUDGED
@@ -37,8 +38,8 @@ NOT_KNOWN = (
 
 
 def word_of(answer: Answer, status: int) -> str:
-    """What became of a board, by its status with all that was asked for: INCOMPLETE where the netlist has an answer, and
-    something else that was asked for has none."""
+    """What became of a board, by its status with all that was asked for: INCOMPLETE where the netlist has an answer,
+    and something else that was asked for has none."""
     return INCOMPLETE if status == UNJUDGED and answer.status == 0 else WORDS.get(status, NOT_JUDGED)
 
 
