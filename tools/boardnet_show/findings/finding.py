@@ -1,7 +1,7 @@
 """A finding as a value, and what is known of where to look."""
 from typing import Any, Dict, List, NamedTuple, Optional, Sequence, Tuple
 
-from boardnet_show.base.facts import Fact, Lead, ShortName
+from boardnet_show.base.facts import Fact, Lead, NamesJoined, NamesMeet, ShortName
 from .nearest_copper import Gap
 
 OPEN, SHORT, MISSING, GAP, CUT, OUTSIDE, NECK = "open", "short", "missing", "gap", "cut", "outside", "neck"
@@ -52,7 +52,7 @@ class Finding(NamedTuple):
     def without_suggestion(self) -> "Finding":
         """The same with what is known alone: not where to look, where something else than the copper is the cause."""
         its = self._replace(clues=[clue for clue in self.clues if clue.why != SUGGESTED], gap=None)
-        if self.kind != SHORT or self.is_labelled:
+        if self.is_labelled or not isinstance(self.what, (NamesJoined, NamesMeet)):
             return its
         return its._replace(meets=[], sides={}, what=self.what._replace(where=None))
 
