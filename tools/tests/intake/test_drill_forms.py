@@ -701,6 +701,21 @@ class NearMisses(Case):
             b"\nT2C0.040C0.041F200S100\n", self.mended(name, drilled.replace("T2C0.040", "T2C0.040C0.041"))[0]
         )
 
+    def test_called_unplated_in_other_words(self):
+        """A comment that names a tool and calls it unplated, and a tool for drilling back, are none of plated holes."""
+        front = ("M48", "METRIC", "T1C0.4")
+        for word, is_unplated in (
+            ("; T2 is NPTH", True),
+            ("; non-plated: T02, T07", True),
+            ("; T1 PTH, T2 unplated", True),
+            ("; #@! TA.AperFunction,BackDrill", True),
+            ("; T2 is plated", False),
+            ("; NPTH holes are in another file", False),
+            ("; board XT2 has NPTH", False),
+        ):
+            its = text(*front, word, "T2C0.5", "%", "T1", "X0.0Y0.0", "T2", "X5.0Y5.0", "M30").encode()
+            self.assertEqual(drill_plating.unplated_hole(its) > 0, is_unplated, word)
+
     def test_plating_goes_with_a_tool(self):
         """What a comment says of a tool that the body defines goes to the header with it; where it says it of what stays, there is no header."""
         own, of_allegro = (

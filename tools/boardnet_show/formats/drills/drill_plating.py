@@ -13,7 +13,7 @@ from .drill_lines import BODY, Comment, Hit, Line, Pick, Repeat, Rout, Tool, lin
 # The one form of a file's function that `check` reads; the others are comments to it.
 EXACT = b"; #@! TF.FileFunction,"
 FUNCTION = re.compile(rb";[ \t]*#@![ \t]*TF\.FileFunction[ \t]*,(.*)", re.S)
-ATTRIBUTE = re.compile(rb";[ \t]*#@![ \t]*TA\.AperFunction[ \t]*,[ \t]*(Plated|NonPlated)\b")
+ATTRIBUTE = re.compile(rb";[ \t]*#@![ \t]*TA\.AperFunction[ \t]*,[ \t]*(Plated|NonPlated|BackDrill)\b")
 OTHER_ATTRIBUTE = re.compile(rb";[ \t]*#@![ \t]*(?:TA\.AperFunction\b|TD(?:\.AperFunction)?[ \t]*\Z)")
 KIND = rb"((?:NON|UN|NOT)[ _-]*PLATED|PLATED|NPTH|PTH)(?![A-Z0-9])"
 TYPE = re.compile(rb";[ \t]*TYPE[ \t]*=[ \t]*(?:" + KIND + rb")?.*", re.I | re.S)
@@ -24,6 +24,10 @@ STARTS = re.compile(rb";[ \t]*(?:THROUGH[ \t]*)?\(?" + KIND + rb"\)?\s+HOLES\s+S
 
 WHOLE_KIND = re.compile(KIND, re.I)
 ANY_FUNCTION = re.compile(rb"T[FA]\.(?:File|Aper)Function[ \t]*,([^*%\r\n]*)")
+
+# Any other comment that names a tool, and says of holes that they are not plated.
+UNPLATED = re.compile(rb"(?<![A-Z])(?:(?:NON|UN|NOT)[ _-]*PLATED|NPTH)(?![A-Z0-9])", re.I)
+NAMED = re.compile(rb"(?<![A-Z0-9])T([0-9]{1,4})(?![0-9])", re.I)
 
 # Plated, not plated, or not said.
 Kind = Optional[bool]
@@ -111,6 +115,11 @@ class Plating:
         self.own = attribute[1] == b"Plated" if attribute else None if OTHER_ATTRIBUTE.match(text) else self.own
         self.said |= set_of(self.lasting if kind else self.own if attribute else None)
         numbered = [is_plated(it) for it in (size and size[3], start and start[1]) if it]
+        free = () if kind or size or start or b"#@!" in text or not UNPLATED.search(text) else NAMED.findall(text)
+        for tool in free:
+            # Of several it is not known which is meant.
+            self.numbered.setdefault(int(tool), set()).update({False, len(free) > 1})
+            numbered.append(False)
         if not self.unplated_line and False in (self.own, self.lasting, *numbered):
             self.unplated_line = self.head.line(number)
 

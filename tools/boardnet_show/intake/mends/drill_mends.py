@@ -191,7 +191,7 @@ class Numbers:
         return scaled(text, INCH) if self.drill.is_inch and b"." in text else text
 
     def line(self, number: int, record: Record) -> None:
-        if isinstance(record, Repeat) and self.is_hole and record.times <= MOST_REPEATS:
+        if isinstance(record, Repeat) and self.is_hole and 0 < record.times <= MOST_REPEATS:
             self.repeat(number, record)
         elif places_of(record):
             # Where a hole was left out before it, the line has both coordinates already.
