@@ -197,6 +197,20 @@ class Names(unittest.TestCase):
                 why = netlist_mends.unclear(file_of([UNITS, *its]), 2)
                 self.assertEqual("are the same characters, written in two ways" in why, is_refused, (names, why))
 
+    def test_an_alias_without_its_line(self):
+        """A line that has it in other letters or digits may be its own: refused."""
+        for line, is_said in (
+            ("P  NNAME1  A", True),
+            ("P  NNAME1  NNAME1", True),
+            ("P  nname1  A", False),
+            ("P  NNAME01  A", False),
+            ("P  NNAME1  ", True),
+            ("C  NNAME1  A", True),
+            ("P  NNAME11  A", True),
+        ):
+            why = netlist_mends.unclear(file_of([UNITS, line, self.record("NNAME1"), self.record("B")]), 2)
+            self.assertEqual("no line says what NNAME1 stands for" in why, not is_said, line)
+
     def test_a_character_that_is_cut(self):
         """Columns that end within a character are no whole name: no alias, so that it stays refused."""
         for name, has_alias in (

@@ -13,6 +13,8 @@ from .table import ALIAS
 
 NO_NET = ipc356.NO_NET.encode()
 MOST_LAYERS = 99  # what the two digits of an access code hold
+# A line of an alias in any letters, with zeros before its number.
+LIKE_ALIAS = re.compile(rb"^P[ \t]*NNAME([0-9]{1,9})(?=[ \t])", re.M | re.I)
 # A character by its number.
 ESCAPE = re.compile(rb"\\[uU][0-9A-Fa-f]{4}")
 ESCAPED = re.compile(r"\\U(000[0-9A-Fa-f]{5}|0010[0-9A-Fa-f]{4})|\\u([0-9A-Fa-f]{4})")
@@ -82,6 +84,16 @@ def cut(data: bytes) -> str:
     return ""
 
 
+def without_line(data: bytes) -> str:
+    """Which name has a line of aliases in other letters or digits alone, so that it may stand for what that says; or
+    nothing."""
+    said = {it.alias for it in ipc356.alias_lines(data)}
+    alike = {int(number) for number in LIKE_ALIAS.findall(data)}
+    its = (name for name in ipc356.fields(data).names if ipc356.ALIAS.fullmatch(name) and name not in said)
+    found = next((name for name in its if int(name[len(b"NNAME") :]) in alike), None)
+    return f"no line says what {short(found)} stands for, and one says it of a name like that" if found else ""
+
+
 def characters(name: bytes) -> str:
     """A name in characters, be they written as such, by their numbers, or in parts."""
     import unicodedata  # few boards have such names
@@ -107,7 +119,8 @@ def in_two_codings(data: bytes) -> str:
 def unclear(data: bytes, layers: int = MOST_LAYERS) -> str:
     """Why it is not known which records are of one net, or nothing."""
     text = netlist_forms.mended(data, layers)[0]
-    return cut(text) or (renamed(text)[1] if b"NNAME" in text else "") or in_two_codings(text)
+    of_aliases = renamed(text)[1] or without_line(text) if b"NNAME" in text else ""
+    return cut(text) or of_aliases or in_two_codings(text)
 
 
 def mended(data: bytes, layers: int = MOST_LAYERS, last: int = 0) -> Tuple[bytes, List[Mend]]:
