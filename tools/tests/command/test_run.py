@@ -355,7 +355,8 @@ class Answers(made.Case):
         refused = self.board({**GOOD, "top.gbr": "%FSLAX46Y46*%\n"}, "refused")
         self.show(refused, "--junit", "r.xml")
         self.assertIn(
-            "NotEnded", minidom.parseString(self.read("r.xml")).getElementsByTagName("error")[0].getAttribute("message")
+            "the file ends too early: ",
+            minidom.parseString(self.read("r.xml")).getElementsByTagName("error")[0].getAttribute("message"),
         )
         self.show(refused, "--rdb", "r.lyrdb")
         self.assertIn(

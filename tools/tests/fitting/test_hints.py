@@ -165,7 +165,7 @@ class Hints(Case):
             self.assertEqual((status, [it.kind for it in found]), (1, ["no placement"]), words)
             self.assertRegex(
                 words[0],
-                r"^no placement fits: .* leaves \d+ of 36 test points without copper; .* Of the best the board fails: \d+ opens",
+                r"^no placement fits: .* leaves \d+ of 36 test points without copper; .* Of the best the board fails: \d+ ",
             )
 
     def test_a_program_that_fails(self):

@@ -111,7 +111,7 @@ class Labels(made.Case):
             self.assertIn("J1000001 pin GATE1 (top, 10.000, 5.000 mm) is not joined to R1 pin 2", out)
             status, out, board = self.told(joined, program=program)
             self.assertEqual((status, [it["kind"] for it in board["findings"]]), (1, ["short"]))
-            self.assertIn("GND and VCC are joined: ", out)
+            self.assertIn("GND and VCC are joined on bottom (bot.gbr) at 5.000, 0.000 mm: ", out)
 
     @unittest.skipUnless(made.built(), "the program is not built")
     def test_names_stay_apart(self):
