@@ -271,10 +271,7 @@ def verdict(shown: Shown) -> str:
 def audited(shown: Shown) -> str:
     """What the audit is of: the files, or copies in place of some."""
     copies = dict.fromkeys(it.file for it in shown.seen.mends)
-    words = [
-        *(f"{name} (mended)" for name in copies),
-        *(f"{name} (flattened)" for name in sorted(shown.board.package.flattened)),
-    ]
+    words = [*(f"{name} (mended)" for name in copies), *(f"{name} (flattened)" for name in shown.seen.flattened)]
     words += dict.fromkeys(f"{name} (as declared)" for it in shown.seen.declared for name in it.files)
     waived = (
         ", and what is waived as a finding" if any(it.finding.kind in OF_NETLIST for it in shown.seen.waived) else ""
