@@ -907,10 +907,8 @@ class Shown(made.Case):
                 {"m.json": made.manifest(drills=[("p.drl", 1, 1)]), "top.gbr": pads, "n.ipc": points, "p.drl": its}
             )
             status, out, _ = self.show("board", "--yes", program=program)
-            kind = "AfterEnd" if stop == "M30" else "BadLine"
-            self.assertEqual(
-                (status, f"p.drl: drill {15 if stop == 'M30' else 2} {kind}" in out), (3, True), (stop, out)
-            )
+            words = "behind" if stop == "M30" else "a line that is not read"
+            self.assertEqual((status, "p.drl, line " in out and words in out), (3, True), (stop, out))
 
     @staticmethod
     def track(k):
@@ -969,7 +967,7 @@ class Shown(made.Case):
         ):
             name = SAID["allegro repeats"][0]
             board = self.board({**files, name: files[name].replace(old, new)}, row)
-            status, out, _ = self.show(board, "--yes")
+            status, out, _ = self.show(board, "--yes", "--all")
             self.assertEqual((status, "nc_param.txt beside it says FORMAT 2.5" in out), (wanted, True), out)
 
     def zipped(self, name, files):
