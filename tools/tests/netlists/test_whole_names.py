@@ -1,5 +1,6 @@
 """Names that a netlist cuts and respells, told whole by the copper's own labels."""
 import json
+import os
 import re
 import unittest
 
@@ -162,6 +163,48 @@ class Told(made.Case):
         self.board({**self.files(**{"top.gbr": joined}), "ties.txt": f"{SHORT}=GND\n"})
         self.assertEqual(self.show("board")[0], 0)
         self.assertEqual(self.show("board", "--tie", f"{SHORT}=VCC")[0], 1)
+
+    def waived(self, name, *words):
+        """The status with a waiver of the open, by a name."""
+        signed = {"reason": "x", "author": "Ann", "date": "2026-12-01"}
+        waiver = {"kind": "open", "names": [name], "pins": [["U2-1"]], **signed}
+        self.write("board/boardnet.json", json.dumps({"boardnet": 1, "waivers": [waiver]}))
+        return self.show("board", *words)[0]
+
+    def test_waivers_take_either(self):
+        self.board(self.files())
+        self.assertEqual([self.waived(name) for name in (SHORT, LONG)], [0, 0])
+        self.assertEqual([self.waived(name) for name in ("gnd", "GND", LONG.upper(), SHORT[1:])], [1] * 4)
+        gap = self.TOP.replace("M02*", "\n".join([*draw(11, (0, 0), (5, 0), (8.3, 0)), "M02*"]))
+        self.board(self.files(**{"top.gbr": gap}))
+        signed = (
+            "--gaps",
+            "0.2",
+            "--waive",
+            "gap-0=x",
+            "--author",
+            "Ann",
+            "--write-declarations",
+            "board/boardnet.json",
+        )
+        self.assertEqual(self.show("board", *signed)[0], 0)
+        text = self.read("board/boardnet.json")
+        for name, status in ((LONG, 0), (SHORT, 0), ("VCC", 1)):
+            self.write("board/boardnet.json", text.replace(LONG, name))
+            self.assertEqual(self.show("board", "--gaps", "0.2")[0], status, name)
+
+    def test_a_short_name_of_two(self):
+        """A name that stands for two whole ones stands for neither: what names one of them is of no net."""
+        two = self.TOP.replace(f"%TO.P,U2,1*%\n%TO.N,{LONG}*%", f"%TO.P,U2,1*%\n%TO.N,{LONG.upper()}*%")
+        for program in self.over_both():
+            self.board(self.files(**{"top.gbr": two}))
+            self.assertEqual(self.show("board", program=program)[0], 1)
+        self.assertEqual([self.waived(name) for name in (LONG, LONG.upper(), SHORT)], [1, 1, 0])
+        os.remove(self.path("board/boardnet.json"))
+        joined = two.replace("M02*", "\n".join([*draw(11, (0, 0), (5, 0), (9, 0)), "M02*"]))
+        self.board(self.files(**{"top.gbr": joined}))
+        for name, status in ((LONG, 1), (LONG.upper(), 1), (SHORT, 0)):
+            self.assertEqual(self.show("board", "--tie", f"{name}=GND")[0], status, name)
 
     def test_a_tester_has_them(self):
         self.board(self.files(**{"top.gbr": self.TOP.replace("M02*", "\n".join([*draw(11, (0, 0), (5, 0)), "M02*"]))}))
