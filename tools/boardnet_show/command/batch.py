@@ -29,10 +29,17 @@ def kind_of(path: str) -> str:
 
 
 def has_board(folder: str) -> bool:
-    """Whether files of a board lie in a folder: a manifest, or copper."""
-    return os.path.isfile(os.path.join(folder, "m.json")) or any(
-        kind_of(os.path.join(folder, name)) == "gerber" for name in sorted(os.listdir(folder))
+    """Whether files of a board lie in a folder, or in one of its folders: a manifest, or copper."""
+    names = [os.path.join(folder, name) for name in sorted(os.listdir(folder))]
+    return has_files_of_board(names) or any(
+        has_files_of_board([os.path.join(name, each) for each in sorted(os.listdir(name))])
+        for name in names
+        if os.path.isdir(name) and os.access(name, os.R_OK | os.X_OK)
     )
+
+
+def has_files_of_board(names: Sequence[str]) -> bool:
+    return any(os.path.basename(name) == "m.json" for name in names) or any(kind_of(name) == "gerber" for name in names)
 
 
 def is_sorted(names: Sequence[str], copper: str) -> bool:

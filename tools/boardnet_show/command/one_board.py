@@ -1,4 +1,5 @@
 """One board, from its files to its findings: each step gives a value to the next."""
+import copy
 import os
 
 from boardnet_show.base.statuses import FAULT, REFUSED, UNDECIDED, BadCopper, Stop, fault_of
@@ -304,15 +305,20 @@ def keep(files, seen, folder):
 
 def show(path, asked, program, scratch):
     """What is told of one PATH, whatever becomes of it."""
-    shown = shown_once(path, asked, program, os.path.join(scratch, "first"), ())
-    if asked.take_hints and shown.hints:
-        from . import declared
+    if not asked.take_hints:
+        return shown_once(path, asked, program, os.path.join(scratch, "first"), ())
+    from . import declared
 
-        taken = declared.agreeing(shown.hints)
-        if taken:
-            return shown_once(path, asked, program, os.path.join(scratch, "taken"), taken)
-        return shown._replace(seen=shown.seen.noted(declared.NONE_TAKEN))
-    return shown
+    # Waivers on the command line name findings of the answer that is told, and files are kept of that one.
+    first = copy.copy(asked)
+    first.waive, first.keep = [], None
+    shown = shown_once(path, first, program, os.path.join(scratch, "first"), ())
+    taken = declared.agreeing(shown.hints) if shown.hints else ()
+    if taken or asked.waive or asked.keep:
+        has_hints = bool(shown.hints)
+        shown = shown_once(path, asked, program, os.path.join(scratch, "taken"), taken)
+        return shown if taken or not has_hints else shown._replace(seen=shown.seen.noted(declared.NONE_TAKEN))
+    return shown._replace(seen=shown.seen.noted(declared.NONE_TAKEN)) if shown.hints else shown
 
 
 def shown_once(path, asked, program, scratch, taken):

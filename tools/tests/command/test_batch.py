@@ -53,6 +53,14 @@ class Batch(made.Case):
             self.assertEqual(batch.boards_in(self.path(folder)), [], folder)
         self.assertEqual(batch.paths_of([self.path("one"), self.path("all")])[0], self.path("one"))
 
+    def test_folders_of_a_board(self):
+        """A board whose copper lies in a folder of its own is one of the batch too, and none is passed over."""
+        files = {name: data for name, data in GOOD.items() if name != "m.json"}
+        self.board({"top.gbr": files["top.gbr"]}, "all/sorted/copper")
+        self.board({"n.ipc": files["n.ipc"]}, "all/sorted")
+        self.assertIn(self.path("all/sorted"), batch.boards_in(self.path("all")))
+        self.assertEqual(batch.boards_in(self.path("all/sorted")), [])
+
     def test_quiet(self):
         """The verdict of each board stands before its hints and findings."""
         lines = self.show("all", "-q")[1].splitlines()

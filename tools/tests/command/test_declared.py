@@ -81,6 +81,16 @@ class Changes(Case):
                         )
                     os.remove(self.path(folder, "boardnet.json"))
 
+    def test_what_names_the_answer_that_is_told(self):
+        """Files are kept, and findings waived, of the answer by the hint that is taken, and not of the one before it."""
+        files = with_netlist(files_of(), placement.FORMS[0][1], (12345, -678))
+        self.put(files)
+        self.assertEqual(self.show("board", "--take-hints", "--keep", "kept")[0], 0)
+        self.assertEqual(self.show("kept")[0], 0)
+        # Before it nearly all is missing: no finding of these names is left behind it.
+        words = ("--take-hints", "--waive", "missing-0=x", "--author", "Ann")
+        self.assertEqual(self.show("board", *words)[0], 2)
+
     def test_no_hint_that_agrees(self):
         """A hint that leaves faults is not taken, and that is told."""
         files = with_netlist(files_of(), placement.FORMS[0][1], (12345, -678))

@@ -207,6 +207,20 @@ class Necks(Waived):
             *self.WORDS,
         )
 
+    def test_a_way_back(self):
+        """A further neck where the track comes back beside the place that was signed for is another one."""
+
+        def board(link):
+            copper = ["%ADD13C,0.5*%", *flash(10, (0, 0)), *draw(13, (0, 0), (9.5, 0)), *draw(11, (9, 0), (11, 0))]
+            copper += [*draw(13, (10.5, 0), (20, 0)), *draw(link, (20, 0), (20, 1)), *draw(13, (20, 1), (5, 1))]
+            points = netlist(record("A", "J1.1", 0, 0), record("A", "J1.2", 5, 1))
+            return {"m.json": manifest(), "top.gbr": gerber(*copper), "n.ipc": points}
+
+        words = ("--necks", "0.3")
+        self.assertEqual(self.waive(board(13), "neck-0", words=words)[0], 0)
+        self.assertEqual(self.after(board(13), *words)[:3], (0, 1, 0))
+        self.assertEqual(self.after(board(11), *words)[:3], (1, 0, 1))
+
     def test_whole_track(self):
         """A track that is too narrow all along."""
         board = lambda *more: {

@@ -1,13 +1,15 @@
 """Necks that somebody has signed for: they are at the waiver's places alone, and no narrower than it says.
 
-A board whose shapes are drawn in by the width that is asked for, and that has a disc at each of these places, joins the
-points: so all else of a way between them is wide enough. Drawn in by the width that was signed for it joins them
-without a disc.
+A board whose shapes are drawn in by the width that is asked for, but near these places by less than was signed for,
+joins the points: so a way between them is as wide as asked elsewhere. Drawn in by the width that was signed for it
+joins them too.
 """
 from math import ceil, hypot
 from typing import Any, Dict, List, Optional, Sequence, Tuple
 
 from boardnet_show.base.statuses import BadCopper, Stop
+from boardnet_show.bounds.polarity import dark_and_clear
+from boardnet_show.bounds.polarity.dark_and_clear import Object
 from boardnet_show.findings.board import Board
 from boardnet_show.findings.finding import Finding
 from boardnet_show.findings.waivers import MOST_WITHIN, Place, Waiver
@@ -22,6 +24,7 @@ from .necks import Copper, Places, half_of, judged_by_layers
 from .point_parts import parts_of
 
 MICROMETRE = 10_000
+MARGIN = 10 * MICROMETRE
 FEW_PLACES, MOST_PLACES = 8, 200
 Disc = Tuple[Place, int]
 
@@ -45,14 +48,29 @@ class Necks:
             }
         return self.drawn[net, width]
 
-    def judged(self, net: int, width: int, discs: Sequence[Disc] = ()) -> Judged:
-        solids = {layer: list(its) for layer, its in self.solids(net, width).items()}
-        for (x, y, layer), radius in discs:
-            solids.setdefault(layer, []).append(Capsule((x, y), (x, y), radius))
+    def near(self, net: int, width: int, discs: Sequence[Disc]) -> Dict[int, List[Piece]]:
+        """Of what is left by another width what lies within discs; by none of the copper as it is. It is wider by some
+        micrometres than what is left by that width, so that no join is of next to no width."""
+        if width > MARGIN:
+            return {
+                layer: within(solids, on(discs, layer)) for layer, solids in self.solids(net, width - MARGIN).items()
+            }
+        its, net_of = self.copper, self.copper.told.report.net_of
+        layers = drawn_in.by_layers(its.layers, (piece for piece, of in enumerate(net_of) if of == net))
+        # What only touches is parted where it is cut out: a small disc at the place joins it.
+        return {
+            layer: within([its.shapes.solid(piece) for piece in pieces], on(discs, layer))
+            + [Capsule(place[:2], place[:2], MARGIN) for place, _ in on(discs, layer)]
+            for layer, pieces in layers.items()
+        }
+
+    def judged(self, net: int, width: int, signed: int = 0, discs: Sequence[Disc] = ()) -> Judged:
+        near = self.near(net, signed, discs) if discs else {}
+        solids = {layer: [*its, *near.get(layer, ())] for layer, its in self.solids(net, width).items()}
         return judged_by_layers(self.program, self.copper, solids)
 
-    def is_joined(self, finding: Finding, width: int, discs: Sequence[Disc] = ()) -> bool:
-        drawn = self.judged(finding.nets[0], width, discs).report
+    def is_joined(self, finding: Finding, width: int, signed: int = 0, discs: Sequence[Disc] = ()) -> bool:
+        drawn = self.judged(finding.nets[0], width, signed, discs).report
         parts = parts_of(points_of(finding), drawn)
         return len(parts) == 1 and drawn.points[parts[0][0]][3] >= 0
 
@@ -60,19 +78,19 @@ class Necks:
         """Whether the necks of a finding are those of a waiver, whose names and pins it has."""
         try:
             discs = [(place, waiver.within) for place in waiver.places]
-            if not self.is_joined(finding, self.width, discs):
+            if waiver.width > self.width or not self.is_joined(finding, self.width, waiver.width, discs):
                 return False
-            return not waiver.width or waiver.width <= self.width and self.is_joined(finding, waiver.width)
+            return not waiver.width or self.is_joined(finding, waiver.width)
         except (Refused, BadCopper, Stop):
             return False
 
-    def places(self, finding: Finding, within: int) -> Optional[List[Place]]:
-        """Where discs join the points of a finding again: where its parts come nearest, else along all that is too
+    def places(self, finding: Finding, radius: int, signed: int) -> Optional[List[Place]]:
+        """Near which places a width joins the points again: where parts come nearest, else along all that is too
         narrow."""
         found: List[Place] = []
         points, net = points_of(finding), finding.nets[0]
         while len(found) <= FEW_PLACES:
-            drawn = self.judged(net, self.width, [(place, within) for place in found])
+            drawn = self.judged(net, self.width, signed, [(place, radius) for place in found])
             parts = parts_of(points, drawn.report)
             bare = frozenset(part[0] for part in parts if drawn.report.points[part[0]][3] < 0)
             if len(parts) == 1 and not bare:
@@ -82,9 +100,9 @@ class Necks:
             if place in found:
                 break
             found.append(place)
-        its = self.along(net, within)
-        fit = len(its) <= MOST_PLACES and self.is_joined(finding, self.width, [(place, within) for place in its])
-        return its if fit else None
+        its = self.along(net, radius)
+        discs = [(place, radius) for place in its]
+        return its if len(its) <= MOST_PLACES and self.is_joined(finding, self.width, signed, discs) else None
 
     def along(self, net: int, step: int) -> List[Place]:
         """Places in steps along the draws of a net that are too narrow."""
@@ -112,13 +130,30 @@ class Necks:
     def signed(self, finding: Finding, waiver: Waiver) -> Optional[Waiver]:
         """A waiver with what it says of a neck; None where that cannot be signed for."""
         try:
-            for within in (waiver.within, MOST_WITHIN):
-                places = self.places(finding, within)
+            width = self.widest(finding)
+            for radius in (waiver.within, MOST_WITHIN):
+                places = self.places(finding, radius, width)
                 if places:
-                    return waiver._replace(places=tuple(places), within=within, width=self.widest(finding))
+                    return waiver._replace(places=tuple(places), within=radius, width=width)
             return None
         except (Refused, BadCopper, Stop):
             return None
+
+
+def on(discs: Sequence[Disc], layer: int) -> List[Disc]:
+    return [it for it in discs if it[0][2] == layer]
+
+
+def within(solids: Sequence[Piece], discs: Sequence[Disc]) -> List[Piece]:
+    """What of solids lies within discs."""
+    round_them = [Capsule(place[:2], place[:2], radius) for place, radius in discs]
+    if not round_them or not solids:
+        return []
+    dark = Object(True, (list(solids),) * 2, 0)
+    beyond = [piece for piece, _ in dark_and_clear.cut([dark, Object(False, (round_them,) * 2, 0)], {0}, (1,))[2]]
+    if not beyond:
+        return list(solids)
+    return [piece for piece, _ in dark_and_clear.cut([dark, Object(False, (beyond,) * 2, 0)], {0}, (0,))[1]]
 
 
 def points_of(finding: Finding) -> List[int]:

@@ -53,7 +53,8 @@ def spoken_list(words: List[str]) -> str:
 def bare_line(answer: Answer) -> str:
     """The answer by what the program says, before what was made of the files first is told."""
     if answer.kind == BETWEEN and answer.both:
-        proved = ", proved" if answer.both.is_proved else ""
+        # What is waived is a finding to the program, which so does not say that the board agrees.
+        proved = ", proved" if answer.both.is_proved and not answer.waived else ""
         return f"{WORDS[answer.status]}{conditions(answer)}, between two bounds{proved}{found_words(answer.both)}"
     if answer.counts:
         return (
