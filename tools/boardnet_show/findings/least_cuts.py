@@ -5,6 +5,11 @@ A flow from the copper of one name to that of the others, one unit for each touc
 Fulkerson). Touches in which the ends of two pieces lie at one place look meant and count more.
 """
 from collections import deque
+from typing import Callable, Collection, Container, Dict, Iterable, List, Optional, Sequence, Set, Tuple
+
+# For each piece that a way came to the one before it, and how much flows along a touch.
+Before = Dict[int, Optional[int]]
+Flow = Dict[Tuple[int, int], int]
 
 # How much a touch counts that looks meant, and how many units a name's cut may have.
 MEANT, MOST_FLOW = 4, 64
@@ -15,10 +20,10 @@ MOST_STEPS = 6_000_000
 class Budget:
     """How many steps are left."""
 
-    def __init__(self, steps=MOST_STEPS):
+    def __init__(self, steps: int = MOST_STEPS) -> None:
         self.left = steps
 
-    def take(self, steps=1):
+    def take(self, steps: int = 1) -> bool:
         self.left -= steps
         return self.left >= 0
 
@@ -26,16 +31,19 @@ class Budget:
 class Graph:
     """Pieces of a net and how much each touch of two of them counts."""
 
-    def __init__(self, pieces):
-        self.near = {piece: {} for piece in pieces}
+    def __init__(self, pieces: Iterable[int]) -> None:
+        self.near: Dict[int, Dict[int, int]] = {piece: {} for piece in pieces}
 
-    def join(self, p, q, counts):
+    def join(self, p: int, q: int, counts: int) -> None:
         self.near[p][q] = self.near[q][p] = counts
 
 
-def path(graph, flow, starts, is_end, budget):
+def path(
+    graph: Graph, flow: Flow, starts: Iterable[int], is_end: Callable[[int], bool], budget: Budget
+) -> Tuple[Before, Optional[int]]:
     """A shortest way with room on it, as the pieces that lead back, and its end; or all that is reached, and None."""
-    before, queue = {piece: None for piece in starts}, deque(starts)
+    before: Before = {piece: None for piece in starts}
+    queue = deque(starts)
     while queue:
         piece = queue.popleft()
         for other, room in graph.near[piece].items():
@@ -50,12 +58,13 @@ def path(graph, flow, starts, is_end, budget):
     return before, None
 
 
-def push(graph, flow, before, end):
+def push(graph: Graph, flow: Flow, before: Before, end: int) -> int:
     """Sends what a way has room for along it, and says how much that is."""
     steps = []
-    while before[end] is not None:
-        steps.append((before[end], end))
-        end = before[end]
+    last = before[end]
+    while last is not None:
+        steps.append((last, end))
+        end, last = last, before[last]
     amount = min(graph.near[p][q] - flow.get((p, q), 0) for p, q in steps)
     for p, q in steps:
         flow[p, q] = flow.get((p, q), 0) + amount
@@ -63,10 +72,11 @@ def push(graph, flow, before, end):
     return amount
 
 
-def side_of(graph, starts, is_end, budget):
+def side_of(graph: Graph, starts: Sequence[int], is_end: Callable[[int], bool], budget: Budget) -> Optional[Set[int]]:
     """The least set of pieces round `starts` that as few touches as can be join to an end, or None where this was too
     much."""
-    flow, sent = {}, 0
+    flow: Flow = {}
+    sent = 0
     while True:
         before, end = path(graph, flow, starts, is_end, budget)
         if budget.left < 0 or sent > MOST_FLOW:
@@ -76,9 +86,10 @@ def side_of(graph, starts, is_end, budget):
         sent += push(graph, flow, before, end)
 
 
-def sides(graph, seeds, budget):
+def sides(graph: Graph, seeds: Dict[int, str], budget: Budget) -> Dict[int, str]:
     """Each piece's name, where a cut gives it one. `seeds` has the names of pieces that are known."""
-    by_name, found = {}, {}
+    by_name: Dict[str, List[int]] = {}
+    found: Dict[int, str] = {}
     for piece, name in seeds.items():
         by_name.setdefault(name, []).append(piece)
     for name, starts in by_name.items():
@@ -88,9 +99,10 @@ def sides(graph, seeds, budget):
     return found
 
 
-def components(graph, pieces):
+def components(graph: Graph, pieces: Collection[int]) -> List[List[int]]:
     """The connected parts of some pieces."""
-    left, found = set(pieces), []
+    left = set(pieces)
+    found: List[List[int]] = []
     for start in pieces:
         if start not in left:
             continue
@@ -106,16 +118,18 @@ def components(graph, pieces):
     return found
 
 
-def way(graph, starts, wanted, allowed):
+def way(graph: Graph, starts: Sequence[int], wanted: Container[int], allowed: Container[int]) -> List[int]:
     """A shortest chain from one of some pieces to one of the wanted, over allowed pieces; the first start alone where
     there is none."""
-    before, queue = dict.fromkeys(starts), deque(starts)
+    before: Before = dict.fromkeys(starts)
+    queue = deque(starts)
     while queue:
         piece = queue.popleft()
         if piece in wanted:
-            chain = [piece]
-            while before[chain[-1]] is not None:
-                chain.append(before[chain[-1]])
+            chain, last = [piece], before[piece]
+            while last is not None:
+                chain.append(last)
+                last = before[last]
             return chain[::-1]
         for other in graph.near[piece]:
             if other not in before and other in allowed:

@@ -10,6 +10,6 @@ class Refused(Exception):
 MOST_BYTES = 67_108_864
 
 
-def shown(name):
+def shown(name: str) -> str:
     """A name as it can be printed wherever."""
     return printable(name).encode("ascii", "backslashreplace").decode("ascii")

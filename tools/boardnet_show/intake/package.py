@@ -4,7 +4,7 @@ import errno
 import os
 import stat
 from itertools import chain, count
-from typing import Callable, List, NamedTuple, Optional, Sequence, Tuple
+from typing import Any, Callable, Iterable, List, NamedTuple, Optional, Sequence, Tuple
 
 from boardnet_show.base.statuses import FULL, NOT_UNDERSTOOD, REFUSED, UNCLEAR, UNREADABLE, UNWRITABLE, Stop
 from boardnet_show.formats import manifest
@@ -80,14 +80,14 @@ class Package:
         # Whole names by those that the netlist has in their place.
         self.whole = {}
 
-    def path(self, name):
+    def path(self, name: str) -> str:
         return os.path.join(self.folder, name)
 
-    def read(self, name):
+    def read(self, name: str) -> bytes:
         with open(self.path(name), "rb") as file:
             return file.read()
 
-    def put(self, name, data):
+    def put(self, name: str, data: bytes) -> None:
         """Replaces a file in the scratch folder; what a link leads to stays as it is."""
         if os.path.isabs(name):
             raise Stop(UNREADABLE, f"{name}: only files beside the manifest can be changed in a copy")
@@ -98,7 +98,7 @@ class Package:
         with open(path, "wb") as file:
             file.write(data)
 
-    def link(self, name, source):
+    def link(self, name: str, source: str) -> None:
         """Has a file under its name by a link, or not at all where there is none: then `check` says so."""
         path = self.path(name)
         if os.path.isabs(name) or os.path.lexists(path) or not os.path.exists(source):
@@ -107,7 +107,7 @@ class Package:
         os.symlink(os.path.abspath(source), path)
         self.came[name] = os.path.abspath(source)
 
-    def bytes_that_came(self, name):
+    def bytes_that_came(self, name: str) -> bytes:
         """A file as the user has it, nothing where it is not known."""
         path = (self.base or self).came.get(name)
         if not path:
@@ -115,12 +115,12 @@ class Package:
         with open(path, "rb") as file:
             return file.read()
 
-    def is_taken(self, name):
+    def is_taken(self, name: str) -> bool:
         """Whether a name is that of a file of the board, be it there or not."""
         its = self.manifest.names() if self.manifest else []
         return name in {os.path.normpath(each) for each in [self.name, TIES, DECLARATIONS, *its]}
 
-    def free_name(self, stem, ending):
+    def free_name(self, stem: str, ending: str) -> str:
         """A name of a file that the package does not have."""
         number, name = 0, stem + ending
         while self.is_taken(name) or os.path.lexists(self.path(name)):
@@ -128,7 +128,7 @@ class Package:
             name = f"{stem}{number}{ending}"
         return name
 
-    def report_name(self):
+    def report_name(self) -> str:
         """The name of the report in the folder, the same each time: no file of the board has it."""
         names = chain(["report.txt"], (f"report{number}.txt" for number in count(1)))
         return next(name for name in names if not self.is_taken(name))
@@ -163,7 +163,7 @@ class Package:
         real.put(self.name, self.manifest.json_text().encode())
         return real
 
-    def told_path(self, name):
+    def told_path(self, name: str) -> str:
         """A file as the caller would open it."""
         return os.path.join(self.home, name)
 
@@ -176,20 +176,20 @@ class Unconfirmed(Stop):
         self.package = package
 
 
-def inner(scratch, names):
+def inner(scratch: str, names: Sequence[str]) -> str:
     """A folder so deep in the scratch folder that names with `..` stay in it."""
     deep = max([name.split("/").count("..") for name in names], default=0)
     return os.path.join(scratch, *["in"] * deep, "board")
 
 
-def room(scratch, names):
+def room(scratch: str, names: Sequence[str]) -> str:
     """Such a folder, made."""
     folder = inner(scratch, names)
     os.makedirs(folder)
     return folder
 
 
-def beside(package, word):
+def beside(package: Package, word: str) -> str:
     """A folder for a changed copy of a package, in a folder of its own beside that of the package; it is not there
     yet."""
     number = 0
@@ -198,7 +198,7 @@ def beside(package, word):
     return inner(f"{package.folder}.{word}{number}", package.manifest.names())
 
 
-def need_plain(home, names, inside=None):
+def need_plain(home: str, names: Iterable[str], inside: Optional[str] = None) -> None:
     """Refuses names that lead elsewhere than to plain files of at most as many bytes as `check` takes; with a folder,
     than into it. Nothing is read before; what is not there is left to `check`."""
     for name in names:
@@ -272,7 +272,7 @@ def holds_folders_alone(path: str) -> bool:
     return bool(its) and all(its)
 
 
-def is_archive(path):
+def is_archive(path: str) -> bool:
     if not os.path.isfile(path):
         return False
     import zipfile  # most boards come in no archive, and loading takes long
@@ -281,7 +281,7 @@ def is_archive(path):
     return path.lower().endswith(".zip") or zipfile.is_zipfile(path)
 
 
-def unpacked(path, scratch):
+def unpacked(path: str, scratch: str) -> Tuple[str, Any]:
     """The folder of a zip archive's files, in the scratch folder, and the folders in it."""
     from . import archives
 

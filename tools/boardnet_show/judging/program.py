@@ -1,10 +1,12 @@
 """The program, run in the scratch folder: its status, its output, and its line."""
 import os
 import subprocess
-from typing import NamedTuple, Optional
+from typing import Any, NamedTuple, Optional
 
 from boardnet_show.base import refusals
+from boardnet_show.base.progress import Progress
 from boardnet_show.base.statuses import REFUSED, Stop
+from boardnet_show.intake.package import Package
 
 from . import building
 
@@ -28,7 +30,7 @@ class Answer(NamedTuple):
     refusal: Optional[refusals.Refusal] = None
 
 
-def found():
+def found() -> str:
     """The program's place; where BOARDNET names one, no other is run."""
     named = os.environ.get("BOARDNET")
     for path in (named,) if named else PLACES:
@@ -44,11 +46,13 @@ def found():
 class Program:
     """The program; where it is not built yet, `path` is None until its first command."""
 
-    def __init__(self, path, progress):
-        self.path, self.progress = path, progress
-        self.running = self.unbuilt = None
+    def __init__(self, path: Optional[str], progress: Progress) -> None:
+        self.path: Any = path
+        self.progress = progress
+        self.running: Any = None
+        self.unbuilt: Optional[Stop] = None
 
-    def built(self, package):
+    def built(self, package: Package) -> None:
         """Has the program built; that is tried once."""
         if self.unbuilt:
             raise self.unbuilt
@@ -60,7 +64,7 @@ class Program:
             self.unbuilt = stop
             raise
 
-    def run(self, package, *words):
+    def run(self, package: Package, *words: str) -> Answer:
         """Runs a command on a package's files."""
         if not self.path:
             self.built(package)
@@ -77,7 +81,7 @@ class Program:
         line = lines[0][len("boardnet: ") :] if lines else ""
         return Answer(status, out, line, refusals.of_line(line) if status == REFUSED else None)
 
-    def ended(self):
+    def ended(self) -> Any:
         """The output of the running command, and what it noted."""
         try:
             while True:
@@ -90,28 +94,28 @@ class Program:
             self.running.wait()
             raise
 
-    def check(self, package):
+    def check(self, package: Package) -> Answer:
         self.progress.begin("checking")
         return self.run(package, "check", package.name)
 
-    def audit(self, package, report):
+    def audit(self, package: Package, report: bytes) -> Answer:
         self.progress.begin("auditing the report")
         name = package.report_name()
         package.put(name, report)
         return self.run(package, "audit", package.name, name)
 
-    def between(self, package, lower, upper, counts):
+    def between(self, package: Package, lower: str, upper: str, counts: str) -> Answer:
         self.progress.begin("proving the bounds")
         return self.run(package, "between", package.name, lower, upper, counts)
 
-    def flatten(self, package, name):
+    def flatten(self, package: Package, name: str) -> Answer:
         self.progress.begin(f"flattening {name}")
         return self.run(package, "flatten", name)
 
-    def x2(self, package):
+    def x2(self, package: Package) -> Answer:
         self.progress.begin("reading the labels of the copper")
         return self.run(package, "x2", package.name)
 
-    def gaps(self, package, nanometres):
+    def gaps(self, package: Package, nanometres: int) -> Answer:
         self.progress.begin("looking for nets that are close")
         return self.run(package, "gaps", package.name, str(nanometres))

@@ -21,7 +21,7 @@ class Mended(namedtuple("Mended", "file line kind words")):
     __slots__ = ()
 
 
-def short(text, most=40):
+def short(text: bytes, most: int = 40) -> str:
     """Some of a word or a line, as it can be printed."""
-    text = " ".join(text.decode("latin-1").split()).encode("ascii", "backslashreplace").decode("ascii")
-    return text if len(text) <= most else text[: most - 3] + "..."
+    words = " ".join(text.decode("latin-1").split()).encode("ascii", "backslashreplace").decode("ascii")
+    return words if len(words) <= most else words[: most - 3] + "..."
