@@ -225,7 +225,13 @@ class TestInsets(unittest.TestCase):
         self.assertFalse(is_below(told, [(10, 10), (-100, 10), (-10, -100)]))
         self.assertFalse(is_below(told, [(-10, -10), (-100, -10), (-10, -100)]))
         self.assertFalse(rounded_contour(((0, 9), (4000, 0), ((0, 0), (4001, 0), True), (0, 9)), False, True).is_read)
-        self.assertFalse(rounded_contour(((0, 0), ((9000, 0), (0, 0), True)), False, True).is_read)
+        self.assertFalse(rounded_contour(((0, 0), (4000, 0), (0, 0)), False, True).is_read)
+
+    def test_few_edges_are_taken(self):
+        """A whole turn, two arcs, and an arc with a straight edge."""
+        half = ((9000, 0), (18000, 0), True)
+        for rest in ([((9000, 0), (0, 0), True)], [half, ((9000, 0), (0, 0), True)], [half, (0, 0)]):
+            self.assertTrue(self.tried([(0, 0), *rest]).is_read)
 
 
 if __name__ == "__main__":
