@@ -134,7 +134,9 @@ class Names(made.Case):
                 self.assertNotIn(status, (0, 1, 70), notes)
                 self.assertNotIn("a fault of `show`", notes)
         status, out, _ = self.show("")
-        self.assertEqual((status, out), (2, ": PATH is empty: it is a folder, a zip archive or a manifest\n"))
+        self.assertEqual(
+            (status, out), (2, "NOT JUDGED: PATH is empty: it is a folder, a zip archive or a manifest.\n")
+        )
         self.board(BOARD)
         self.assertEqual(self.show("board", "")[:1], (2,))
 

@@ -37,14 +37,23 @@ COPY = "Judged on a copy of p.drl, rewritten to say the same in simpler words."
 ANSWER = f"PASS board: copper and the netlist agree at all 4 test points. {SURE} {COPY}"
 
 
+def answer(program):
+    """The answer; the program reads the drill file as it came, and the stand-in cannot be asked."""
+    return ANSWER if program == made.STAND_IN else f"{ANSWER[:-1]}; it is proved of the files as they came."
+
+
+def line(program):
+    return "agrees, after 1 mend" + ("" if program == made.STAND_IN else ", proved of the files as they came")
+
+
 class Answers(made.Case):
     def test_agrees(self):
         for program in self.over_both():
             self.board(BOARD)
             status, out, _ = self.show("board", "--all", program=program)
-            self.assertEqual((status, out), (0, f"{ANSWER}\nmended: {TOLD}\n"))
+            self.assertEqual((status, out), (0, f"{answer(program)}\nmended: {TOLD}\n"))
             told = json.loads(self.show("board", "--json", "-", program=program)[1])["boards"][0]
-            self.assertEqual((told["line"], told["audit"]), ("agrees, after 1 mend", "audit true"))
+            self.assertEqual((told["line"], told["audit"]), (line(program), "audit true"))
             self.assertEqual(told["mends"], [{"file": "p.drl", "line": 3, "kind": "plating", "words": TOLD}])
         self.assertEqual(self.read("board/p.drl"), DRILL)
 
@@ -54,11 +63,11 @@ class Answers(made.Case):
         for program in self.over_both():
             _, out, _ = self.show("board", "--page", "p.html", "--record", "r.json", program=program)
             page = self.read("p.html")
-            self.assertIn(f'<p class="verdict">{ANSWER.replace(" board", "")}</p>', page)
+            self.assertIn(f'<p class="verdict">{answer(program).replace(" board", "")}</p>', page)
             self.assertIn(
                 "The report was audited: it is true of these files, with copies in place of p.drl (mended). ", page
             )
-            self.assertIn("<td>agrees, after 1 mend (status 0)</td>", page)
+            self.assertIn(f"<td>{line(program)} (status 0)</td>", page)
             self.assertIn(
                 "the record is of these files, and its report passes the audit on the copies that were judged",
                 self.show("board", "--verify", "r.json", program=program)[1],

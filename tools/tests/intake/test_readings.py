@@ -79,7 +79,7 @@ class Units(made.Case):
             (lines("", points(0.01)), "MissingUnits"),
         ]
         for text, kind in rows:
-            status, out, _ = self.told(text, COPPER, "--yes")
+            status, out, _ = self.told(text, COPPER, "--yes", "-q")
             self.assertEqual((status, kind in out), (3, True), out)
 
     def test_units_that_both_fit(self):
@@ -88,7 +88,7 @@ class Units(made.Case):
         text = lines("", [record("A", f"U{k}.1", x, y) for k, (x, y) in enumerate(at)])
         spots = {(it.x, it.y) for it in ipc356.places(text.encode())}
         both = {(x * unit / 10**7, y * unit / 10**7) for x, y in spots for unit in (10_000, 25_400)}
-        status, out, _ = self.told(text, gerber(*flash(11, *sorted(both))), "--yes")
+        status, out, _ = self.told(text, gerber(*flash(11, *sorted(both))), "--yes", "-q")
         self.assertEqual((status, "MissingUnits" in out), (3, True), out)
 
     def test_what_is_clear(self):
@@ -165,7 +165,7 @@ class Layers(made.Case):
 
     def test_a_code_of_the_bottom(self):
         self.board(self.files("16"))
-        status, out, _ = self.show("board")
+        status, out, _ = self.show("board", "--all")
         self.assertEqual(
             (status, out.splitlines()[1]),
             (0, "mended: n.ipc: line 4, `A16`, is no layer of this board: read as the last, 02"),
@@ -180,7 +180,7 @@ class Layers(made.Case):
             self.files("01", [via]),
         ):
             self.board(files)
-            status, out, _ = self.show("board", "--yes", program=common.program())
+            status, out, _ = self.show("board", "--yes", "-q", program=common.program())
             self.assertEqual((status, "BadAccess" in out), (3, True), out)
 
 
