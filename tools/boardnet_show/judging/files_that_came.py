@@ -12,6 +12,7 @@ from typing import Dict, List, NamedTuple, Sequence, Tuple
 from boardnet_show.base.statuses import REFUSED
 from boardnet_show.formats.manifest import Manifest
 from boardnet_show.formats.report import Report
+from boardnet_show.intake.mends.table import CONTOUR
 from boardnet_show.intake.package import Package, beside
 
 from .answers import AskedOn, OfFiles
@@ -66,7 +67,9 @@ def ask(program: Program, package: Package, sides: Sequence[Side], counts: str, 
     """What `between` answers on the files as they came. `declared` are those that a declaration changes, which stand as
     they are judged, as does each that it does not read otherwise."""
     its = package.rewritten()
-    own = [name for name in its if name not in declared]
+    # A contour over its limit is refused behind all words before it, in each of many files anew.
+    unread = {it.file for it in package.mends if it.kind == CONTOUR}
+    own = [name for name in its if name not in unread.union(declared)]
     while True:
         real = package.as_it_came(beside(package, "came"), own)
         words = [with_side(real, side) for side in sides]

@@ -8,6 +8,8 @@ from boardnet_show.base.progress import Progress
 from boardnet_show.base.refusals import of_line
 from boardnet_show.base.statuses import REFUSED, Stop
 from boardnet_show.formats.manifest import Manifest, of_text
+from boardnet_show.intake.mends.mend import Mended
+from boardnet_show.intake.mends.table import CONTOUR
 from boardnet_show.intake.package import Package
 from boardnet_show.judging import between_command, files_that_came, judged
 from boardnet_show.judging.answers import AskedOn, OfFiles
@@ -98,6 +100,13 @@ class Asked(made.Case):
         for line in ("n.ipc: netlist 5 BadName at line 2, byte 3", "judged.gbr: Gerber 12 Macro at command 3, byte 9"):
             its = self.told(Listening(drills, refused(line))).of_files
             self.assertEqual((its.is_proved, its.read, its.but_for, its.why), (False, ("top.gbr",), ("p.drl",), line))
+
+    def test_a_long_contour(self):
+        """A file with one is known to be refused, so that it is not read once more for that."""
+        self.package.mends = [Mended("top.gbr", 9, CONTOUR, "")]
+        program = Listening(self.agrees)
+        its = self.told(program).of_files
+        self.assertEqual((its.read, its.but_for, len(program.read)), (("p.drl",), ("top.gbr",), 1))
 
     def test_what_is_declared(self):
         """A file that a declaration changes is never said to be read as it came."""
